@@ -1,0 +1,27 @@
+-- The longest front of a text whose bytes are of one class.
+use Rattle.std.specs.Prelude.{ℕ, suc, ◌==◌, Bool, not, ◌&&◌, if◌then◌else◌, List, [], ◌∷◌, take, drop}
+use Rattle.text_grammar.specs.declared.class.Class.{Class}
+use Rattle.text_grammar.specs.declared.class.Class.TheVariants.{Blank, Digit, Letter, NameByte, Word, Unquoted}
+use Rattle.text_grammar.specs.Bytes.{is_blank, is_digit, is_letter, is_name_byte}
+
+-- whether a byte is of a class
+abbrev pub is_in : Class → ℕ → Bool
+is_in Blank b = is_blank b
+is_in Digit b = is_digit b
+is_in Letter b = is_letter b
+is_in NameByte b = is_name_byte b
+is_in Word b = not (is_blank b) && not (b == 34)
+is_in Unquoted b = not (b == 34)
+
+-- how many bytes at the front are of a class
+abbrev pub front_len : Class → List ℕ → ℕ
+front_len class [] = 0
+front_len class (b ∷ bs) = if is_in class b then suc (front_len class bs) else 0
+
+-- the bytes at the front that are of a class
+abbrev pub front_of : Class → List ℕ → List ℕ
+front_of class bytes = take (front_len class bytes) bytes
+
+-- what comes behind them
+abbrev pub behind_front : Class → List ℕ → List ℕ
+behind_front class bytes = drop (front_len class bytes) bytes

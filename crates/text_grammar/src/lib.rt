@@ -1,0 +1,11 @@
+//! What the parsers of commands, expressions and files share: classes of bytes, the fronts of a text that
+//! they make, and (in `specs/`) what it means that a text first breaks a grammar at a place.
+#![tactic(auto)]
+
+// the classes of bytes
+mod class;
+// the longest front of a text that is of one class
+mod front;
+
+pub use class::Class;
+pub use front::front_len;
