@@ -1,0 +1,12 @@
+pub mod OrderLemmas
+pub mod ZipLemmas
+pub mod SetLemmas
+pub mod LetterLemmas
+pub mod TupleLemmas
+pub mod TableLemmas
+pub mod PathLemmas
+pub mod DfaLemmas
+pub mod ShortlexLemmas
+pub mod WordLemmas
+pub mod WidthLemmas
+pub mod BuilderLemmas

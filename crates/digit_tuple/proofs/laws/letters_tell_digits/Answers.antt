@@ -1,0 +1,5 @@
+use Rattle.digit_tuple.proofs.LetterLemmas.{code_of-injective}
+use Rattle.digit_tuple.proofs.laws.letters_tell_digits.Goals as goal
+
+pub returns : goal.returns
+returns c = code_of-injective

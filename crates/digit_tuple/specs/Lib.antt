@@ -1,0 +1,11 @@
+pub mod Letters
+pub mod Sets
+pub mod Tuples
+pub mod Headers
+pub mod Automaton
+pub mod Rows
+pub mod Deterministic
+pub mod DfaRows
+pub mod Width
+pub mod Shortlex
+pub mod FirstWords

@@ -1,0 +1,16 @@
+-- How many kinds of words there are.
+use Rattle.std.specs.Prelude.{◌≡◌, ℕ, List, length}
+use Rattle.std.specs.List.{All, AllPairs, Any}
+use Rattle.digit_tuple.specs.Letters.{IsWord}
+
+-- k words over the alphabet of which no two are alike
+pub record HasApart (alike : List ℕ → List ℕ → Type 0) (letters k : ℕ) : Type 0 where
+  pub words : List (List ℕ)
+  pub count : length words ≡ k
+  pub over : All (IsWord letters) words
+  pub apart : AllPairs (λ w v. ¬ alike w v) words
+
+-- k words over the alphabet of which no two are alike, and to one of which each word over it is alike
+pub record HasWidth (alike : List ℕ → List ℕ → Type 0) (letters k : ℕ) : Type 0 where
+  pub some : HasApart alike letters k
+  pub whole : (w : List ℕ) → IsWord letters w → Any (alike w) some.words

@@ -1,0 +1,150 @@
+//! Deterministic automata.
+
+ghost use Rattle.std.specs.Prelude.{◌≡◌, ℕ, ◌<◌, ◌≤◌, length, IfOk, IfSome};
+ghost use Rattle.std.specs.List.{AllPairs, AllWithin};
+ghost use Rattle.digit_tuple.specs.Deterministic.{Automaton, State, IsTable, IsRow, IsByEarlier, target_by, step_of, accepting_of, accepts_of, edges_of, states_of, letters_of};
+ghost use Rattle.digit_tuple.specs.Letters.{product};
+ghost use Rattle.digit_tuple.specs.DfaRows.{states_in};
+
+use crate::alphabet::Alphabet;
+use crate::edges::Edge;
+use crate::faults::OutOfMemory;
+use std::alloc::Global;
+use std::marker::Model;
+
+/// A state: whether it accepts, and its edges.
+#[derive(Drop)]
+pub struct DfaState {
+    pub accepting: bool,
+    pub edges: Vec<Edge>,
+}
+
+/// A deterministic automaton, whose initial state is 0. There is a state, there are fewer than
+/// 2^32, and the edges of each are by letters of the alphabet, lead to states, and stand by letter,
+/// at most one by each. Where there is no edge by a letter, no word that goes on with it is accepted.
+#[derive(Drop)]
+pub struct Dfa {
+    tracks: Alphabet,
+    rows: Vec<DfaState>,
+}
+
+impl Model for Dfa {
+    ghost use Rattle.digit_tuple.specs.Deterministic.{Automaton, IsTable};
+    ghost use Rattle.digit_tuple.specs.Letters.{product};
+    ghost use Rattle.digit_tuple.specs.DfaRows.{states_in};
+
+    ghost Value = { Automaton };
+
+    ghost view = { λ d. record { sizes = d.tracks; states = states_in d.rows.items } };
+
+    ghost invariant = { λ d. IsTable (product d.tracks) (states_in d.rows.items) };
+}
+
+impl Dfa {
+    /// The automaton with these states.
+    pub fn from_states(
+        _alloc: Global,
+        alphabet: Alphabet,
+        states: Vec<DfaState>,
+    ) -> Result<Self, OutOfMemory>
+        requires { IsTable (product alphabet) (states_in states.items) }
+        ensures { IfOk result (λ dfa. dfa ≡ record { sizes = alphabet; states = states_in states.items }) }
+    {
+        Ok(Dfa {
+            tracks: alphabet,
+            rows: states,
+        })
+    }
+
+    /// How many states there are.
+    pub fn states(&self) -> u32
+        ensures value { result ≡ states_of self.now }
+        ensures table { IsTable (letters_of self.now) self.now.states }
+    {
+        self.rows.len() as u32
+    }
+
+    /// The alphabet of its letters.
+    pub fn alphabet(&self) -> &Alphabet
+        ensures sizes { result.now ≡ self.now.sizes }
+        ensures table { IsTable (letters_of self.now) self.now.states }
+    {
+        &self.tracks
+    }
+
+    /// Whether a state accepts.
+    pub fn accepting(&self, state: u32) -> bool
+        requires { state < states_of self.now }
+        ensures accepting { result ≡ accepting_of self.now state }
+        ensures table { IsTable (letters_of self.now) self.now.states }
+    {
+        self.rows[state as usize].accepting
+    }
+
+    /// The edges of a state, by letter.
+    pub fn edges(&self, state: u32) -> &[Edge]
+        requires { state < states_of self.now }
+        ensures edges { result.now ≡ edges_of self.now state }
+        ensures row { IsRow (letters_of self.now) (states_of self.now) result.now }
+        ensures table { IsTable (letters_of self.now) self.now.states }
+    {
+        &self.rows[state as usize].edges
+    }
+
+    /// Where a letter leads from a state, unless it leads nowhere.
+    pub fn step(&self, state: u32, letter: u32) -> Option<u32>
+        requires { state < states_of self.now }
+        ensures target { result ≡ step_of self.now state letter }
+        ensures in_range { IfSome result (λ next. next < states_of self.now) }
+    {
+        target_in(self.edges(state), letter)
+    }
+
+    /// Whether the automaton accepts the word.
+    pub fn accepts(&self, word: &[u32]) -> bool
+        ensures { result ≡ accepts_of self.now word.now }
+    {
+        let mut state = 0;
+        let _ = &self.rows;
+        for letter in word {
+            match self.step(state, *letter) {
+                Some(next) => state = next,
+                None => return false,
+            }
+        }
+        self.accepting(state)
+    }
+}
+
+// Where the edge by the letter leads.
+fn target_in(edges: &[Edge], letter: u32) -> Option<u32>
+    requires { AllPairs IsByEarlier edges.now }
+    ensures { result ≡ target_by edges.now letter }
+{
+    let place = place_in(edges, letter);
+    if place < edges.len() && edges[place].letter == letter {
+        Some(edges[place].target)
+    } else {
+        None
+    }
+}
+
+/// The place of the edge by the letter, or where it would stand.
+pub fn place_in(edges: &[Edge], letter: u32) -> usize
+    requires { AllPairs IsByEarlier edges.now }
+    ensures within { result ≤ length edges.now }
+    ensures before { AllWithin (λ edge. edge.letter < letter) edges.now 0 result }
+    ensures after { AllWithin (λ edge. letter ≤ edge.letter) edges.now result (length edges.now) }
+{
+    let mut low = 0;
+    let mut high = edges.len();
+    while low < high {
+        let middle = low + (high - low) / 2;
+        if edges[middle].letter < letter {
+            low = middle + 1;
+        } else {
+            high = middle;
+        }
+    }
+    low
+}
