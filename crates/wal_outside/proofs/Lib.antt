@@ -1,0 +1,4 @@
+-- Lemmas.
+pub mod SendingSteps
+pub mod SourceSteps
+pub mod ShelfSteps

@@ -1,0 +1,60 @@
+// Whole pieces for a sink.
+ghost use Rattle.std.specs.Prelude.{◌≡◌, ◌≤◌, [], ◌++◌, IsErrOf};
+ghost use Rattle.wal_outside.specs.Causes.{Rose};
+ghost use Rattle.wal_outside.specs.Sending.{Sends};
+
+use crate::sink::{Sink, WriteFault};
+
+/// Hands the whole piece to the sink, in as many calls as it takes. An empty piece makes no call.
+///
+/// # Errors
+/// `Failed` where a call failed or took nothing, and `Memory` where a call had none: the bytes that
+/// were appended are a front of the piece.
+pub fn send<K: Sink>(out: &mut K, piece: &[u8]) -> Result<(), WriteFault>
+    ensures sent { Sends (K.held out.old) (K.held out.new) piece.now result }
+    ensures empty { piece.now ≡ [] → (result ≡ Ok tt) × (out.new ≡ out.old) }
+    ensures later { K.faults out.old ≤ K.faults out.new }
+    ensures cause { IsErrOf result WriteFault.Failed → Rose (K.faults out.old) (K.faults out.new) }
+{
+    let mut at = 0;
+    'pieces: while at < piece.len() {
+        match out.write(&piece[at..]) {
+            Ok(0) => return Err(WriteFault::Failed),
+            Ok(taken) => at += taken,
+            Err(fault) => return Err(fault),
+        }
+    }
+    Ok(())
+}
+
+/// Hands over two pieces, one behind the other, as `send` does.
+///
+/// # Errors
+/// As `send`: what was appended is a front of the two.
+pub fn send_two<K: Sink>(out: &mut K, first: &[u8], second: &[u8]) -> Result<(), WriteFault>
+    ensures sent { Sends (K.held out.old) (K.held out.new) (first.now ++ second.now) result }
+    ensures later { K.faults out.old ≤ K.faults out.new }
+    ensures cause { IsErrOf result WriteFault.Failed → Rose (K.faults out.old) (K.faults out.new) }
+{
+    send(out, first)?;
+    send(out, second)
+}
+
+/// Hands over four pieces, one behind the other, as `send` does.
+///
+/// # Errors
+/// As `send`: what was appended is a front of the four.
+pub fn send_four<K: Sink>(
+    out: &mut K,
+    first: &[u8],
+    second: &[u8],
+    third: &[u8],
+    fourth: &[u8],
+) -> Result<(), WriteFault>
+    ensures sent { Sends (K.held out.old) (K.held out.new) ((first.now ++ second.now) ++ (third.now ++ fourth.now)) result }
+    ensures later { K.faults out.old ≤ K.faults out.new }
+    ensures cause { IsErrOf result WriteFault.Failed → Rose (K.faults out.old) (K.faults out.new) }
+{
+    send_two(out, first, second)?;
+    send_two(out, third, fourth)
+}
