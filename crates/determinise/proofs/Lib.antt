@@ -1,0 +1,4 @@
+pub mod MemberLemmas
+pub mod EdgeLemmas
+pub mod GroupLemmas
+pub mod SubsetLemmas

@@ -1,0 +1,37 @@
+use Rattle.std.proofs.Common.{◌≡◌, ◌+◌, ℕ, List, [], ◌∷◌, IfOk, IsTrue, ◌↔◌, sym, ◌∙◌, subst}
+use Rattle.std.proofs.lemmas.Result.{IfOk-weaker}
+use Rattle.digit_tuple.specs.Automaton.{Accepts, letters_of}
+use Rattle.digit_tuple.specs.Deterministic.{Automaton, accepts_of}
+use Rattle.digit_tuple.specs.Letters.{IsWord}
+use Rattle.digit_tuple.specs.Width.{HasWidth, HasApart}
+use Rattle.digit_tuple.proofs.WidthLemmas.{HasApart-same, HasWidth-same}
+use Rattle.explore.specs.Keys.{LeadAlike, key_accepts}
+use Rattle.determinise.specs.Subsets.{Alike, set_after, has_accepting}
+use Rattle.determinise.specs.SubsetLaws.{start_is_state_set}
+use Rattle.determinise.proofs.SubsetLemmas.{key_accepts-start, Alike-lead, LeadAlike-states}
+use Rattle.determinise.proofs.subset_construction.determinise.Goals as goal
+
+pub explore-requires-clause-source : goal.explore-requires-clause-source
+explore-requires-clause-source c = (c.alphabet.ensures.table, start_is_state_set c.args.n.now c.alphabet.ensures.table)
+
+pub returns-clause-language : goal.returns-clause-language
+returns-clause-language c =
+    let n = c.args.n.now in
+    IfOk-weaker c.explore.result _ _
+    (λ stepped same word over.
+    let one = key_accepts-start n c.alphabet.ensures.table word in
+    ((λ is. one.0 (sym (same word over) ∙ is)), (λ accepts. same word over ∙ one.1 accepts)))
+    c.explore.ensures.language
+
+pub returns-clause-width : goal.returns-clause-width
+returns-clause-width c =
+    let n = c.args.n.now in
+    IfOk-weaker c.explore.result _ _
+    (λ stepped width. HasWidth-same (LeadAlike (set_after n) (0 ∷ [])) (Alike n) (letters_of n) stepped.width
+    (λ w v over too same. Alike-lead n c.alphabet.ensures.table w v same) (LeadAlike-states n c.alphabet.ensures.table) width)
+    c.explore.ensures.width
+
+pub returns-clause-states : goal.returns-clause-states
+returns-clause-states c h =
+    let n = c.args.n.now in
+    HasApart-same (LeadAlike (set_after n) (0 ∷ [])) (Alike n) (letters_of n) (c.args.limit + 1) (LeadAlike-states n c.alphabet.ensures.table) (c.explore.ensures.states h)

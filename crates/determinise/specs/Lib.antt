@@ -1,0 +1,3 @@
+pub mod Subsets
+pub mod Groups
+pub mod SubsetLaws

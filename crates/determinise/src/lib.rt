@@ -1,0 +1,13 @@
+//! Deterministic automata made from nondeterministic ones, whose states are sets of states.
+#![tactic(auto)]
+
+/// Edges gathered by their letters.
+pub mod groups;
+
+/// The sets of states that words lead to, as a source of keys.
+pub mod subsets;
+
+/// The subset construction.
+pub mod subset_construction;
+#[cfg(test)]
+mod tests;
