@@ -1,0 +1,109 @@
+-- The automaton of an expression's letters accepts exactly the words that the expression matches.
+use Rattle.std.proofs.Common.{◌≡◌, ℕ, zero, suc, ◌+◌, List, [], ◌∷◌, length, inl, inr, refl, sym, ap, subst, arith, Option, Some}
+use Rattle.std.specs.Prelude.{slice_get, IsSomeAnd, IsTrue}
+use Rattle.std.specs.List.{AllZip}
+use Rattle.digit_tuple.specs.Automaton.{Branching, accepting_of, Path, Accepts}
+use Rattle.regex_build.specs.Expression.{Expression, letters_in, placed}
+use Rattle.regex_build.specs.Matches.{Matches}
+use Rattle.regex_build.specs.Positions.{IsWritten, IsPositionTable, PositionsAcceptMatches}
+use Rattle.digit_tuple.specs.Tuples.{IsLetterOf}
+use Rattle.digit_tuple.proofs.TupleLemmas.{one_tuple}
+use Rattle.regex_build.proofs.ListSteps.{zip-same, zip-through, zip-compose}
+use Rattle.regex_build.proofs.PlaceWords.{StandsAt, stands_once, IsWithin, place_within, places_of, word_of}
+use Rattle.regex_build.proofs.Merging.{IsChain, matches_from_chain, chain_from_matches}
+
+pub get_from_stands : {L : Type 0} (n : ℕ) (xs : List L) (place : ℕ) (x : L) → StandsAt n xs place x → (k : ℕ) × (place ≡ n + k) × (slice_get xs k ≡ Some x)
+get_from_stands n [] place x h = absurd h
+get_from_stands n (y ∷ ys) place x h =
+    elim h [
+      | inl p ↦ (0, (let e : place ≡ n = p.0 in omega arith), ap Some p.1)
+      | inr q ↦
+          let r = get_from_stands (n + 1) ys place x q in
+          (suc r.0, (let e : place ≡ n + 1 + r.0 = r.1 in omega arith), r.2)
+    ]
+
+-- a letter at a place is written as it is
+pub written_from_stands : {L : Type 0} (code : L → ℕ → Type 0) (xs : List L) (place : ℕ) (x : L) (a : ℕ) → StandsAt 1 xs place x → code x a → IsWritten code xs place a
+written_from_stands {L} code xs place x a h c =
+    let r = get_from_stands 1 xs place x h in
+    let e : suc r.0 ≡ place = let e1 : place ≡ 1 + r.0 = r.1 in omega arith in
+    let P : ℕ → Type 0 = λ p. IsWritten code xs p a in
+    let Q : Option L → Type 0 = λ o. IsSomeAnd o (λ y. code y a) in
+    subst P e (subst Q (sym r.2) c)
+
+-- a letter at a place, and how it is written
+pub record HasLetter {L : Type 0} (code : L → ℕ → Type 0) (n : ℕ) (xs : List L) (place a : ℕ) : Type 0 where
+  pub one : L
+  pub stands : StandsAt n xs place one
+  pub written : code one a
+
+pub letter_from_get : {L : Type 0} (code : L → ℕ → Type 0) (n : ℕ) (xs : List L) (k a : ℕ) → IsSomeAnd (slice_get xs k) (λ x. code x a) → HasLetter code n xs (n + k) a
+letter_from_get code n [] k a h = absurd h
+letter_from_get code n (y ∷ ys) zero a h = record { one = y; stands = inl ((omega arith), refl); written = h }
+letter_from_get code n (y ∷ ys) (suc k) a h =
+    let r = letter_from_get code (n + 1) ys k a h in
+    let e : n + 1 + k ≡ n + suc k = omega arith in
+    let P : ℕ → Type 0 = λ p. StandsAt (n + 1) ys p r.one in
+    record { one = r.one; stands = inr (subst P e r.stands); written = r.written }
+
+pub letter_from_written : {L : Type 0} (code : L → ℕ → Type 0) (xs : List L) (place a : ℕ) → IsWritten code xs place a → HasLetter code 1 xs place a
+letter_from_written code xs zero a h = absurd h
+letter_from_written code xs (suc k) a h =
+    let e : 1 + k ≡ suc k = omega arith in
+    let P : ℕ → Type 0 = λ p. HasLetter code 1 xs p a in
+    subst P e (letter_from_get code 1 xs k a h)
+
+-- a word over the places, as a way through the states
+pub chain_of_word : {L : Type 0} (e : Expression L) (places : List ℕ) → Matches (placed 1 e) places → IsChain (placed 1 e) 0 places
+chain_of_word e [] m = m
+chain_of_word e (zero ∷ places) m = let w : IsWithin 1 (1 + length (letters_in e)) 0 = place_within 1 e [] 0 places m in absurd (omega arith)
+chain_of_word e (suc i ∷ places) m = ((places, m), chain_from_matches e i [] places m)
+
+pub word_of_chain : {L : Type 0} (e : Expression L) (places : List ℕ) → IsChain (placed 1 e) 0 places → Matches (placed 1 e) places
+word_of_chain e [] c = c
+word_of_chain e (zero ∷ places) c = let w : IsWithin 1 (1 + length (letters_in e)) 0 = place_within 1 e [] 0 c.0.0 c.0.1 in absurd (omega arith)
+word_of_chain e (suc i ∷ places) c = matches_from_chain e i [] c.0.0 places c.0.1 c.1
+
+module _ {L : Type 0} (code : L → ℕ → Type 0) (e : Expression L) (n : Branching) (table : IsPositionTable code e n) where
+  -- the ways through the states, and the paths of the table
+  path_of_chain : (q : ℕ) (places word : List ℕ) → IsChain (placed 1 e) q places → AllZip (IsWritten code (letters_in e)) places word → (r : ℕ) × Path n q word r × IsTrue (accepting_of n r)
+  path_of_chain q [] [] c z = (q, refl, (table.accepts q).1 c)
+  path_of_chain q [] (a ∷ word) c z = absurd z
+  path_of_chain q (place ∷ places) [] c z = absurd z
+  path_of_chain q (place ∷ places) (a ∷ word) c z =
+      let rest = path_of_chain place places word c.1 z.1 in
+      (rest.0, (place, (table.leads q a place).1 (c.0, z.0), rest.1), rest.2)
+
+  chain_of_path : (q : ℕ) (word : List ℕ) (r : ℕ) → Path n q word r → IsTrue (accepting_of n r) → (places : List ℕ) × IsChain (placed 1 e) q places × AllZip (IsWritten code (letters_in e)) places word
+  chain_of_path q [] r p h = ([], (table.accepts q).0 (let P : ℕ → Type 0 = λ s. IsTrue (accepting_of n s) in subst P (sym p) h), tt)
+  chain_of_path q (a ∷ word) r p h =
+      let rest = chain_of_path p.0 word r p.2 h in
+      let step = (table.leads q a p.0).0 p.1 in
+      (p.0 ∷ rest.0, (step.0, rest.1), (step.1, rest.2))
+
+  pub accepts_from_matches : (word : List L) (letters : List ℕ) → AllZip code word letters → Matches e word → Accepts n letters
+  accepts_from_matches word letters z m =
+      let a = places_of 1 e word m in
+      path_of_chain 0 a.places letters (chain_of_word e a.places a.matched)
+      (zip-compose (StandsAt 1 (letters_in e)) code (IsWritten code (letters_in e)) (λ place x b h c. written_from_stands code (letters_in e) place x b h c) a.places word letters a.spelled z)
+
+  pub matches_from_accepts : ((x y : L) (a : ℕ) → code x a → code y a → x ≡ y) → (word : List L) (letters : List ℕ) → AllZip code word letters → Accepts n letters → Matches e word
+  matches_from_accepts once word letters z accepted =
+      let way = chain_of_path 0 letters accepted.0 accepted.1 accepted.2 in
+      let read = word_of 1 e way.0 (word_of_chain e way.0 way.1) in
+      let spelled : AllZip (StandsAt 1 (letters_in e)) way.0 word =
+      zip-through (IsWritten code (letters_in e)) code (StandsAt 1 (letters_in e)) stands way.0 letters word way.2 z in
+      let same : read.word ≡ word = zip-same (StandsAt 1 (letters_in e)) (λ place x y h k. stands_once 1 (letters_in e) place x y h k) way.0 read.word word read.spelled spelled in
+      let P : List L → Type 0 = λ w. Matches e w in
+      subst P same read.matched
+    where
+      stands : (place a : ℕ) (x : L) → IsWritten code (letters_in e) place a → code x a → StandsAt 1 (letters_in e) place x
+      stands place a x h c =
+          let r = letter_from_written code (letters_in e) place a h in
+          let P : L → Type 0 = λ y. StandsAt 1 (letters_in e) place y in
+          subst P (once r.one x a r.written c) r.stands
+
+-- the table of an expression's letters accepts its matches
+pub accepts_the_matches : PositionsAcceptMatches
+accepts_the_matches sets e n table tuples word codes =
+    (matches_from_accepts (IsLetterOf sets) e n table (λ x y a h k. one_tuple sets x y a h k) tuples word codes, accepts_from_matches (IsLetterOf sets) e n table tuples word codes)

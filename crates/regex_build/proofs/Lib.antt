@@ -1,0 +1,13 @@
+pub mod ListSteps
+pub mod PlaceWords
+pub mod Merging
+pub mod Accepting
+pub mod PostWords
+pub mod RowSteps
+pub mod OrderSteps
+pub mod TableSteps
+pub mod CodeSteps
+pub mod SameTable
+pub mod GrammarSteps
+pub mod ReadSteps
+pub mod OneParse

@@ -1,0 +1,10 @@
+pub mod Expression
+pub mod Posts
+pub mod Matches
+pub mod Positions
+pub mod Rows
+pub mod Codes
+pub mod Grammar
+pub mod Parsing
+pub mod Reading
+pub mod Patterns

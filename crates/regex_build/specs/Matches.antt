@@ -1,0 +1,15 @@
+-- Which words an expression matches.
+use Rattle.std.specs.Prelude.{◌≡◌, List, [], ◌∷◌, ◌++◌}
+use Rattle.std.specs.List.{AllByRecursion, flat_map}
+use Rattle.regex_build.specs.Expression.{Expression, empty, letter, follow, star}
+
+-- the pieces, one behind the other
+abbrev pub joined : {L : Type 0} → List (List L) → List L
+joined pieces = flat_map (λ piece. piece) pieces
+
+-- whether a word is one of those that the expression stands for
+abbrev pub Matches : {L : Type 0} → Expression L → List L → Type 0
+Matches empty w = w ≡ []
+Matches (letter x) w = w ≡ x ∷ []
+Matches {L} (follow e f) w = (u : List L) × (v : List L) × (w ≡ u ++ v) × Matches e u × Matches f v
+Matches {L} (star e) w = (pieces : List (List L)) × (w ≡ joined pieces) × AllByRecursion (Matches e) pieces

@@ -1,0 +1,59 @@
+//! The automaton of an expression's letters.
+
+ghost use Rattle.std.specs.Prelude.{◌≡◌, IfOk};
+ghost use Rattle.digit_tuple.specs.Letters.{IsAlphabet};
+ghost use Rattle.digit_tuple.specs.Sets.{sizes_of};
+ghost use Rattle.digit_tuple.specs.Tuples.{IsLetterOf};
+ghost use Rattle.regex_build.specs.Posts.{tree_of};
+ghost use Rattle.regex_build.specs.Positions.{IsPositionTable, AcceptsTheMatches, PositionsAcceptMatches, OnePositionTable};
+
+use crate::codes::coded;
+use crate::regex::Regex;
+use crate::rows::states_of;
+use digit_tuple::alphabet::Alphabet;
+use digit_tuple::faults::OutOfMemory;
+use digit_tuple::nfa::Nfa;
+use std::alloc::Global;
+
+/// The automaton of the expression's letters: state 0 is initial, and state i stands behind the
+/// i-th letter of the expression. From each state each letter that can come next leads to that
+/// letter's state. The edges of all states are made, so the automaton is as large as its table.
+///
+/// An expression of 2^32 - 1 letters or more has more states than their numbers can count. It is
+/// answered by out of memory.
+pub fn positions(alloc: Global, regex: &Regex) -> Result<Nfa, OutOfMemory>
+    requires { IsAlphabet (sizes_of regex.now.sets) }
+    ensures sizes { IfOk result (λ nfa. nfa.sizes ≡ sizes_of regex.now.sets) }
+    ensures table { IfOk result (IsPositionTable (IsLetterOf regex.now.sets) (tree_of regex.now.posts)) }
+    ensures language { IfOk result (AcceptsTheMatches regex.now.sets (tree_of regex.now.posts)) }
+{
+    let letters = regex.posts();
+    if letters.len() >= u32::MAX as usize {
+        return Err(OutOfMemory);
+    }
+    let alphabet = alphabet_of(alloc, regex)?;
+    let posts = coded(alloc, &alphabet, regex.sets(), letters)?;
+    let states = states_of(alloc, &posts)?;
+    Nfa::from_states(alloc, alphabet, states)
+}
+
+// The alphabet of the expression's sets, which are few enough and small enough.
+fn alphabet_of(alloc: Global, regex: &Regex) -> Result<Alphabet, OutOfMemory>
+    requires { IsAlphabet (sizes_of regex.now.sets) }
+    ensures { IfOk result (λ alphabet. alphabet ≡ sizes_of regex.now.sets) }
+{
+    match Alphabet::of_header(alloc, regex.header()) {
+        Ok(alphabet) => Ok(alphabet),
+        Err(_) => Err(OutOfMemory),
+    }
+}
+
+/// The table of an expression's letters accepts the words that the expression matches, and no others.
+pub fn positions_accept_the_matches()
+    ensures { PositionsAcceptMatches }
+{}
+
+/// An expression has one table of its letters.
+pub fn one_position_table()
+    ensures { OnePositionTable }
+{}
