@@ -1,0 +1,15 @@
+pub mod TupleSteps
+pub mod EdgeSteps
+pub mod Joins
+pub mod PrintedNumbers
+pub mod PrintedParts
+pub mod PrintedHeaders
+pub mod PrintedEntries
+pub mod PrintedStates
+pub mod PrintedListing
+pub mod ListedPaths
+pub mod ReadLines
+pub mod ReadNumbers
+pub mod ReadHeaders
+pub mod ReadDrafts
+pub mod ReadWords

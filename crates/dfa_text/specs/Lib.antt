@@ -1,0 +1,12 @@
+pub mod Numbers
+pub mod Lines
+pub mod Headers
+pub mod Entries
+pub mod Listed
+pub mod Reading
+pub mod Listing
+pub mod Meaning
+pub mod Views
+pub mod EntryViews
+pub mod DraftViews
+pub mod Stepping
