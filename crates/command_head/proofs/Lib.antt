@@ -1,0 +1,15 @@
+pub mod NumberSteps
+pub mod ReadingSteps
+pub mod FrontSteps
+pub mod NumberShape
+pub mod MemberSteps
+pub mod SetShape
+pub mod PartShape
+pub mod HeadShape
+pub mod OrderSteps
+pub mod Gathering
+pub mod ByteSteps
+pub mod ReadParts
+pub mod ReadHeads
+pub mod SpelledParts
+pub mod SpelledHeads

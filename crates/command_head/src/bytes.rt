@@ -1,0 +1,29 @@
+ghost use Rattle.std.specs.Prelude.{◌≡◌, ◌-◌, length};
+ghost use Rattle.command_head.specs.Numbers.{begins_with as begins_with_byte};
+ghost use Rattle.command_head.specs.Members.{behind_blanks as rest_behind_blanks};
+
+use text_grammar::{Class, front_len};
+
+/// The byte of a text of `whole` bytes at which its rest begins.
+pub(crate) fn place(whole: usize, rest: &[u8]) -> usize
+    ensures { result ≡ whole - length rest.now }
+{
+    whole.saturating_sub(rest.len())
+}
+
+/// Whether this byte stands first.
+pub(crate) fn begins_with(byte: u8, bytes: &[u8]) -> bool
+    ensures { result ≡ begins_with_byte byte bytes.now }
+{
+    match bytes {
+        [first, ..] => *first == byte,
+        [] => false,
+    }
+}
+
+/// The bytes behind the blanks at the front.
+pub(crate) fn behind_blanks(bytes: &[u8]) -> &[u8]
+    ensures { result.now ≡ rest_behind_blanks bytes.now }
+{
+    &bytes[front_len(Class::Blank, bytes)..]
+}
