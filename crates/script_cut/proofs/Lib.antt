@@ -1,0 +1,6 @@
+pub mod Parts
+pub mod CutSteps
+pub mod Counts
+pub mod FirstCut
+pub mod OneList
+pub mod SomeList
