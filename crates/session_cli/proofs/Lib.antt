@@ -1,0 +1,13 @@
+pub mod CommandSteps
+pub mod ScriptSteps
+pub mod ItemSteps
+pub mod RunSteps
+pub mod Standing
+pub mod LongerScript
+pub mod WholeSteps
+pub mod TrackSets
+pub mod MatchedWords
+pub mod RegexTexts
+pub mod PlanSteps
+pub mod OneOutcomes
+pub mod OneRuns

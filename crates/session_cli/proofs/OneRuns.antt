@@ -1,0 +1,184 @@
+-- Runs over one script end alike, unless the store, the sink or memory fails.
+use Rattle.std.proofs.Common.{◌≡◌, ℕ, ◌+◌, ◌-◌, ◌^◌, ◌<◌, ◌≤◌, min, ◌⊎◌, Bool, true, false, ◌||◌, if◌then◌else◌, List, [], ◌∷◌, length, Option, Some, Ok, Err, refl, sym, ap, ◌∙◌, subst, inl, inr, arith}
+use Rattle.std.specs.Option.{option_map}
+use Rattle.wal_outside.specs.Files.{Files, put}
+use Rattle.wal_outside.specs.Sending.{HasSent}
+use Rattle.wal_outside.specs.declared.sink.WriteFault.{WriteFault}
+use Rattle.wal_outside.specs.declared.sink.WriteFault.TheVariants as writes
+use Rattle.script_cut.specs.Cuts.{Item, start}
+use Rattle.script_cut.specs.declared.cutting.Ended.{Ended}
+use Rattle.script_cut.specs.declared.cutting.Ended.TheVariants.{Terminated, Unterminated, PastLimit}
+use Rattle.script_cut.proofs.OneList.{same_lists}
+use Rattle.session_cli.specs.declared.fault.Part.TheVariants as parts
+use Rattle.session_cli.specs.declared.fault.Fault.TheVariants as faults
+use Rattle.session_cli.specs.declared.status.Status.{Status}
+use Rattle.session_cli.specs.declared.status.Status.TheVariants as status
+use Rattle.session_cli.specs.Trees.{Ledger}
+use Rattle.session_cli.specs.Outcomes.{Answer, after, Outcome, OpenOutcome}
+use Rattle.session_cli.specs.Views.{SourceView, SinkView, StoreView, IsTold}
+use Rattle.session_cli.specs.Runs.{IsAnswer, IsAnswerOf, Changes, Run, first_ledger, of_fault, is_store_fault, is_memory_fault, is_refusal, some_of, status_by, status_of, printed}
+use Rattle.session_cli.specs.Whole.{StopsWith, RanThrough, HasRun}
+use Rattle.session_cli.specs.Laws.{IsClean, EndAlike, store_faults}
+use Rattle.session_cli.proofs.OneOutcomes.{one_text, one_answer}
+
+-- the count of store faults
+pub counted : (ledger last : Ledger) (old new : StoreView) (items : List Item) (answers : List Answer) → Run ledger old items answers last new → min (old.faults + store_faults answers) (2 ^ 64 - 1) ≤ new.faults
+counted ledger last old new [] [] run = let same : new.faults ≡ old.faults = ap (λ (s : StoreView). s.faults) run.1 in omega arith
+counted ledger last old new [] (answer ∷ answers) run = absurd run
+counted ledger last old new (item ∷ items) [] run = absurd run
+counted ledger last old new (item ∷ items) (answer ∷ answers) run =
+    more (of_fault is_store_fault answer) (store_faults answers) old.faults run.0.faults new.faults run.1.later run.1.cause (counted (after ledger answer) last run.0 new items answers run.2)
+  where
+    more : (v : Bool) (k a b c : ℕ) → a ≤ b → (v ≡ true → min (a + 1) (2 ^ 64 - 1) ≤ b) → min (b + k) (2 ^ 64 - 1) ≤ c → min (a + ((if v then 1 else 0) + k)) (2 ^ 64 - 1) ≤ c
+    more true k a b c later cause rest = omega (arith, cause refl)
+    more false k a b c later cause rest = omega arith
+
+-- an answer that is neither the store's nor memory's is the proper outcome
+proper : (ledger : Ledger) (text : List ℕ) (answer : Answer) → IsAnswer ledger text answer → of_fault is_store_fault answer ≡ false → of_fault is_memory_fault answer ≡ false → Outcome ledger text answer
+proper ledger text (Ok success) is store memory = is
+proper ledger text (Err (faults.Store folder name)) is store memory = cc
+proper ledger text (Err faults.Memory) is store memory = cc
+proper ledger text (Err faults.ScriptLimit) is store memory = absurd is
+proper ledger text (Err faults.Command) is store memory = is
+proper ledger text (Err (faults.Syntax part at)) is store memory = is
+proper ledger text (Err (faults.Number part at)) is store memory = is
+proper ledger text (Err (faults.Long limit)) is store memory = is
+
+-- how a text without terminator is refused
+open_is : (text : List ℕ) (answer : Answer) → OpenOutcome text answer → ((65536 < length text) × (answer ≡ Err (faults.Long 65536))) ⊎ ((length text ≤ 65536) × (answer ≡ Err (faults.Syntax parts.Command (length text))))
+open_is text (Err (faults.Long limit)) (is, long) = inl (long, ap (λ (n : ℕ). let a : Answer = Err (faults.Long n) in a) is)
+open_is text (Err (faults.Syntax parts.Command at)) (short, is) = inr (short, ap (λ (n : ℕ). let a : Answer = Err (faults.Syntax parts.Command n) in a) is)
+open_is text (Err (faults.Syntax parts.Regex at)) is = absurd is
+open_is text (Err (faults.Number part at)) is = absurd is
+open_is text (Err (faults.Store folder name)) is = absurd is
+open_is text (Err faults.Command) is = absurd is
+open_is text (Err faults.Memory) is = absurd is
+open_is text (Err faults.ScriptLimit) is = absurd is
+open_is text (Ok success) is = absurd is
+
+same_open : (text : List ℕ) (answer other : Answer) → OpenOutcome text answer → OpenOutcome text other → answer ≡ other
+same_open text answer other a b = by_cases (open_is text answer a) (open_is text other b)
+  where
+    by_cases : ((65536 < length text) × (answer ≡ Err (faults.Long 65536))) ⊎ ((length text ≤ 65536) × (answer ≡ Err (faults.Syntax parts.Command (length text))))
+        → ((65536 < length text) × (other ≡ Err (faults.Long 65536))) ⊎ ((length text ≤ 65536) × (other ≡ Err (faults.Syntax parts.Command (length text)))) → answer ≡ other
+    by_cases (inl (long, is)) (inl (long', is')) = is ∙ sym is'
+    by_cases (inl (long, is)) (inr (short, is')) = absurd (omega arith)
+    by_cases (inr (short, is)) (inl (long, is')) = absurd (omega arith)
+    by_cases (inr (short, is)) (inr (short', is')) = is ∙ sym is'
+
+-- an item has one answer that is neither the store's nor memory's
+same_item : (ended : Ended) (ledger : Ledger) (text : List ℕ) (answer other : Answer) → IsAnswerOf ended ledger text answer → IsAnswerOf ended ledger text other
+    → of_fault is_store_fault answer ≡ false → of_fault is_memory_fault answer ≡ false → of_fault is_store_fault other ≡ false → of_fault is_memory_fault other ≡ false → answer ≡ other
+same_item Terminated ledger text answer other a b s m s' m' = one_answer ledger text answer other (proper ledger text answer a s m) (proper ledger text other b s' m')
+same_item Unterminated ledger text answer other a b s m s' m' = same_open text answer other a b
+same_item PastLimit ledger text answer other a b s m s' m' = a ∙ sym b
+
+-- one answer changes the same files in one way
+same_changes : (answer : Answer) (old old' new new' : Option Files) → old ≡ old' → Changes old answer new → Changes old' answer new' → new ≡ new'
+same_changes (Ok success) old old' new new' same (stored, has, is) (stored', has', is') =
+    let texts : stored ≡ stored' = one_text success.entry stored stored' has has' in
+    let middle : option_map (λ files. put files success.folder success.name stored) old ≡ option_map (λ files. put files success.folder success.name stored') old' = λ i. option_map (λ files. put files success.folder success.name (texts i)) (same i) in
+    is ∙ (middle ∙ sym is')
+same_changes (Err fault) old old' new new' same is is' = is ∙ (same ∙ sym is')
+
+none_first : (v w : Bool) → (v || w) ≡ false → v ≡ false
+none_first true w is = cc
+none_first false w is = refl
+
+none_later : (v w : Bool) → (v || w) ≡ false → w ≡ false
+none_later true w is = cc
+none_later false w is = is
+
+-- no answer is the store's or memory's
+record AreProper (answers : List Answer) : Type 0 where
+  store : some_of (of_fault is_store_fault) answers ≡ false
+  memory : some_of (of_fault is_memory_fault) answers ≡ false
+
+proper_rest : (answer : Answer) (answers : List Answer) → AreProper (answer ∷ answers) → AreProper answers
+proper_rest answer answers are = record {
+  store = none_later (of_fault is_store_fault answer) (some_of (of_fault is_store_fault) answers) are.store;
+  memory = none_later (of_fault is_memory_fault answer) (some_of (of_fault is_memory_fault) answers) are.memory;
+}
+
+record SameEnd (answers others : List Answer) (new new' : StoreView) : Type 0 where
+  answers_are : answers ≡ others
+  files : new.files ≡ new'.files
+
+same_answers : (items : List Item) (answers others : List Answer) (ledger last last' : Ledger) (old old' new new' : StoreView) → old.files ≡ old'.files → Run ledger old items answers last new → Run ledger old' items others last' new'
+    → AreProper answers → AreProper others → SameEnd answers others new new'
+same_answers [] [] [] ledger last last' old old' new new' same run run' are are' = record {
+  answers_are = refl;
+  files = ap (λ (s : StoreView). s.files) run.1 ∙ (same ∙ sym (ap (λ (s : StoreView). s.files) run'.1));
+}
+same_answers [] [] (b ∷ others) ledger last last' old old' new new' same run run' are are' = absurd run'
+same_answers [] (a ∷ answers) others ledger last last' old old' new new' same run run' are are' = absurd run
+same_answers (item ∷ items) [] others ledger last last' old old' new new' same run run' are are' = absurd run
+same_answers (item ∷ items) (a ∷ answers) [] ledger last last' old old' new new' same run run' are are' = absurd run'
+same_answers (item ∷ items) (a ∷ answers) (b ∷ others) ledger last last' old old' new new' same run run' are are' =
+    let first : a ≡ b = same_item item.ended ledger item.text a b run.1.answered run'.1.answered
+    (none_first (of_fault is_store_fault a) (some_of (of_fault is_store_fault) answers) are.store) (none_first (of_fault is_memory_fault a) (some_of (of_fault is_memory_fault) answers) are.memory)
+    (none_first (of_fault is_store_fault b) (some_of (of_fault is_store_fault) others) are'.store) (none_first (of_fault is_memory_fault b) (some_of (of_fault is_memory_fault) others) are'.memory) in
+    let P : Answer → Type 0 = λ x. Changes old'.files x run'.0.files in
+    let mids : run.0.files ≡ run'.0.files = same_changes a old.files old'.files run.0.files run'.0.files same run.1.files (subst P (sym first) run'.1.files) in
+    let Q : Answer → Type 0 = λ x. Run (after ledger x) run'.0 items others last' new' in
+    let rest : SameEnd answers others new new' = same_answers items answers others (after ledger a) last last' run.0 run'.0 new new' mids run.2 (subst Q (sym first) run'.2) (proper_rest a answers are) (proper_rest b others are') in
+    record { answers_are = λ i. first i ∷ rest.answers_are i; files = rest.files }
+
+clean_store : (refused store memory : Bool) → IsClean (status_by refused store memory) → (store ≡ false) × (memory ≡ false)
+clean_store refused store true (inl is) = cc
+clean_store refused store true (inr is) = cc
+clean_store refused true false (inl is) = cc
+clean_store refused true false (inr is) = cc
+clean_store refused false false clean = (refl, refl)
+
+clean_answers : (answers : List Answer) (state : Status) → state ≡ status_of answers → IsClean state → AreProper answers
+clean_answers answers state is clean =
+    let P : Status → Type 0 = λ s. IsClean s in
+    let both : (some_of (of_fault is_store_fault) answers ≡ false) × (some_of (of_fault is_memory_fault) answers ≡ false) = clean_store (some_of is_refusal answers) (some_of (of_fault is_store_fault) answers) (some_of (of_fault is_memory_fault) answers) (subst P is clean) in
+    record { store = both.0; memory = both.1 }
+
+through_alike : (script : List ℕ) (old new old' new' : StoreView) (held now held' now' : SinkView) (state state' : Status) → RanThrough script old new held now state → RanThrough script old' new' held' now' state'
+    → old.files ≡ old'.files → IsClean state → IsClean state' → EndAlike new new' held now held' now' state state'
+through_alike script old new old' new' held now held' now' state state' a b same clean clean' =
+    let items : a.items ≡ b.items = same_lists (start script) a.items b.items (record { last = a.last; cut = a.cut; end = a.end }) (record { last = b.last; cut = b.cut; end = b.end }) in
+    let P : List Item → Type 0 = λ is. Run (first_ledger old'.files) old' is b.answers b.ledger new' in
+    let Q : Option Files → Type 0 = λ files. Run (first_ledger files) old' a.items b.answers b.ledger new' in
+    let run : Run (first_ledger old.files) old' a.items b.answers b.ledger new' = subst Q (sym same) (subst P (sym items) b.run) in
+    let ends : SameEnd a.answers b.answers new new' = same_answers a.items a.answers b.answers (first_ledger old.files) a.ledger b.ledger old old' new new' same a.run run (clean_answers a.answers state a.state_is clean) (clean_answers b.answers state' b.state_is clean') in
+    let texts : printed b.items b.answers ≡ printed a.items a.answers = λ i. printed (sym items i) (sym ends.answers_are i) in
+    record {
+      status = a.state_is ∙ (ap (λ (xs : List Answer). status_of xs) ends.answers_are ∙ sym b.state_is);
+      files = ends.files;
+      text = printed a.items a.answers;
+      printed = a.sent;
+      printed' = let R : List ℕ → Type 0 = λ text. HasSent held'.held now'.held text in subst R texts b.sent;
+    }
+
+-- the sink does not stop a clean run
+not_stopped : (stop : WriteFault) (held now : SinkView) (state : Status) → StopsWith stop held now state → IsClean state → ⊥
+not_stopped writes.Failed held now state (is, rose) (inl done) = cc
+not_stopped writes.Failed held now state (is, rose) (inr refused) = cc
+not_stopped writes.Memory held now state is (inl done) = cc
+not_stopped writes.Memory held now state is (inr refused) = cc
+
+not_nothing : (P : Type 0) (state : Status) → ((state ≡ status.Outside) × P) ⊎ (state ≡ status.Memory) → IsClean state → ⊥
+not_nothing P state (inl (is, rose)) (inl done) = cc
+not_nothing P state (inl (is, rose)) (inr refused) = cc
+not_nothing P state (inr is) (inl done) = cc
+not_nothing P state (inr is) (inr refused) = cc
+
+clean_through : (script : List ℕ) (from to : SourceView) (old new : StoreView) (held now : SinkView) (state : Status) → HasRun from to old new held now state → from.left ≡ Some script → IsClean state → RanThrough script old new held now state
+clean_through script from to old new held now state (inl (read, told, inl ran)) is clean =
+    let P : Option (List ℕ) → Type 0 = λ left. IsTold left read in
+    let same : read ≡ script = subst P is told in
+    let Q : List ℕ → Type 0 = λ s. RanThrough s old new held now state in subst Q same ran
+clean_through script from to old new held now state (inl (read, told, inr ran)) is clean = absurd (not_stopped ran.fault held now state ran.state_is clean)
+clean_through script from to old new held now state (inr nothing) is clean = absurd (not_nothing _ state nothing.state_is clean)
+
+-- runs over one script, from the same files, that end clean end alike
+pub runs_alike : (script : List ℕ) (from to from' to' : SourceView) (old new old' new' : StoreView) (held now held' now' : SinkView) (state state' : Status)
+    → HasRun from to old new held now state → HasRun from' to' old' new' held' now' state'
+    → from.left ≡ Some script → from'.left ≡ Some script → old.files ≡ old'.files → IsClean state → IsClean state'
+    → EndAlike new new' held now held' now' state state'
+runs_alike script from to from' to' old new old' new' held now held' now' state state' ran ran' is is' same clean clean' =
+    through_alike script old new old' new' held now held' now' state state' (clean_through script from to old new held now state ran is clean) (clean_through script from' to' old' new' held' now' state' ran' is' clean') same clean clean'

@@ -1,0 +1,64 @@
+-- A run that grows by one item.
+use Rattle.std.proofs.Common.{◌≡◌, ℕ, Bool, true, false, ◌||◌, if◌then◌else◌, List, [], ◌∷◌, ◌++◌, Option, None, Some, Ok, Err, refl, sym, ap, subst, append_assoc, append-nil}
+use Rattle.std.specs.Option.{option_map}
+use Rattle.wal_outside.specs.Files.{Files, same_file}
+use Rattle.script_cut.specs.Cuts.{Item, Place, Next, CutsTo}
+use Rattle.session_cli.specs.Trees.{Entry, Bytes, Ledger}
+use Rattle.session_cli.specs.Texts.{HasText, HasTextAt}
+use Rattle.session_cli.specs.Outcomes.{Answer, after}
+use Rattle.session_cli.specs.Views.{StoreView}
+use Rattle.session_cli.specs.Runs.{Changes, Answers, Run, first_ledger, StoresTold, line_of, printed, some_of}
+
+-- bytes are stored as they are
+text_of_bytes : (there : Option (List ℕ)) → HasTextAt (option_map (λ bytes. Bytes bytes) there) there
+text_of_bytes None = tt
+text_of_bytes (Some text) = refl
+
+-- at first the files are those of the ledger
+pub stores_first : (files : Option Files) → StoresTold (first_ledger files) files
+stores_first None = tt
+stores_first (Some files) = λ folder name. text_of_bytes (files folder name)
+
+one_entered : (v : Bool) (entry : Entry) (stored : List ℕ) (there : Option Entry) (text : Option (List ℕ)) → HasText entry stored → HasTextAt there text → HasTextAt (if v then Some entry else there) (if v then Some stored else text)
+one_entered true entry stored there text new old = new
+one_entered false entry stored there text new old = old
+
+-- and stay so with each answer
+pub stores_after : (ledger : Ledger) (answer : Answer) (old new : Option Files) → StoresTold ledger old → Changes old answer new → StoresTold (after ledger answer) new
+stores_after ledger (Ok success) None new stores (stored, has, is) = let P : Option Files → Type 0 = λ files. StoresTold (after ledger (Ok success)) files in subst P (sym is) tt
+stores_after ledger (Ok success) (Some files) new stores (stored, has, is) =
+    let P : Option Files → Type 0 = λ told. StoresTold (after ledger (Ok success)) told in
+    subst P (sym is) (λ folder name. one_entered (same_file success.folder success.name folder name) success.entry stored (ledger folder name) (files folder name) has (stores folder name))
+stores_after ledger (Err fault) old new stores is = let P : Option Files → Type 0 = λ files. StoresTold ledger files in subst P (sym is) stores
+
+-- one item more
+pub run_more : (items : List Item) (answers : List Answer) (ledger last : Ledger) (old mid : StoreView) (item : Item) (answer : Answer) (new : StoreView) → Run ledger old items answers last mid → Answers last mid item answer new → Run ledger old (items ++ item ∷ []) (answers ++ answer ∷ []) (after last answer) new
+run_more [] [] ledger last old mid item answer new run step =
+    let P : Ledger → Type 0 = λ l. Answers l mid item answer new in
+    let Q : StoreView → Type 0 = λ s. Answers ledger s item answer new in
+    (new, subst Q run.1 (subst P run.0 step), (ap (λ (l : Ledger). after l answer) run.0, refl))
+run_more [] (a ∷ answers) ledger last old mid item answer new run step = absurd run
+run_more (i ∷ items) [] ledger last old mid item answer new run step = absurd run
+run_more (i ∷ items) (a ∷ answers) ledger last old mid item answer new run step = (run.0, run.1, run_more items answers (after ledger a) last run.0 mid item answer new run.2 step)
+
+pub cuts_more : (items : List Item) (old mid : Place) (item : Item) (new : Place) → CutsTo old items mid → Next mid item new → CutsTo old (items ++ item ∷ []) new
+cuts_more [] old mid item new cut next = let P : Place → Type 0 = λ place. Next place item new in (new, subst P cut next, refl)
+cuts_more (i ∷ items) old mid item new cut next = (cut.0, cut.1, cuts_more items cut.0 mid item new cut.2 next)
+
+pub printed_more : (items : List Item) (answers : List Answer) (ledger last : Ledger) (old mid : StoreView) (item : Item) (answer : Answer) → Run ledger old items answers last mid → printed (items ++ item ∷ []) (answers ++ answer ∷ []) ≡ printed items answers ++ line_of item answer
+printed_more [] [] ledger last old mid item answer run = append-nil (line_of item answer)
+printed_more [] (a ∷ answers) ledger last old mid item answer run = absurd run
+printed_more (i ∷ items) [] ledger last old mid item answer run = absurd run
+printed_more (i ∷ items) (a ∷ answers) ledger last old mid item answer run = rw append_assoc (ap (λ (l : List ℕ). line_of i a ++ l) (printed_more items answers (after ledger a) last run.0 mid item answer run.2))
+
+pub some_of-append : (p : Answer → Bool) (answers : List Answer) (answer : Answer) → some_of p (answers ++ answer ∷ []) ≡ (some_of p answers || p answer)
+some_of-append p [] answer = or_false (p answer)
+  where
+    or_false : (v : Bool) → (v || false) ≡ v
+    or_false true = refl
+    or_false false = refl
+some_of-append p (a ∷ answers) answer = more (p a) (some_of p (answers ++ answer ∷ [])) (some_of p answers) (p answer) (some_of-append p answers answer)
+  where
+    more : (u v w x : Bool) → v ≡ (w || x) → (u || v) ≡ ((u || w) || x)
+    more true v w x e = refl
+    more false v w x e = e

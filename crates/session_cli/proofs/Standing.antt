@@ -1,0 +1,217 @@
+-- Where a run stands between two items, and how it goes on and ends.
+use Rattle.std.proofs.Common.{◌≡◌, ℕ, ◌≤◌, Bool, true, false, ◌||◌, List, [], ◌∷◌, ◌++◌, Option, Result, Ok, Err, IsErrOf, refl, sym, ap, subst, inl, inr, arith}
+use Rattle.wal_outside.specs.Causes.{Rose}
+use Rattle.wal_outside.specs.Sending.{HasSent}
+use Rattle.wal_outside.specs.declared.sink.WriteFault.{WriteFault}
+use Rattle.wal_outside.specs.declared.sink.WriteFault.TheVariants as writes
+use Rattle.wal_outside.proofs.SendingSteps.{none_sent, sends_then}
+use Rattle.script_cut.specs.Cuts.{Item, Place, Next, start, CutsTo, IsAtEnd}
+use Rattle.script_cut.specs.declared.cutting.Ended.{Ended}
+use Rattle.script_cut.specs.declared.cutting.Ended.TheVariants.{Terminated, Unterminated, PastLimit}
+use Rattle.session_cli.specs.declared.fault.Fault.{Fault}
+use Rattle.session_cli.specs.declared.fault.Fault.TheVariants as faults
+use Rattle.session_cli.specs.declared.tally.Tally.{Tally}
+use Rattle.session_cli.specs.declared.status.Status.{Status}
+use Rattle.session_cli.specs.Trees.{Ledger}
+use Rattle.session_cli.specs.Lines.{fault_line}
+use Rattle.session_cli.specs.Outcomes.{Success, Answer, after, OpenOutcome}
+use Rattle.session_cli.specs.Views.{StoreView, SinkView}
+use Rattle.session_cli.specs.Runs.{Answers, Run, of_fault, is_refusal, is_store_fault, is_memory_fault, some_of, first_ledger, StoresTold, line_of, printed}
+use Rattle.session_cli.specs.Whole.{StopsWith, RanThrough, RanToStop}
+use Rattle.session_cli.specs.Commands.{Gives, Commands}
+use Rattle.session_cli.specs.Tallies.{AddsFault, AddsResult, Counts, tally_status}
+use Rattle.session_cli.specs.Handing.{result_line, HasAnswered, stop_status}
+use Rattle.session_cli.specs.Ending.{Ran, Finishes}
+use Rattle.session_cli.proofs.RunSteps.{stores_first, stores_after, run_more, cuts_more, printed_more, some_of-append}
+
+-- what was answered and printed so far
+pub record Stands (script : List ℕ) (old now : StoreView) (held told : Option (List ℕ)) (place : Place) (tally : Tally) : Type 0 where
+  pub items : List Item
+  pub answers : List Answer
+  pub ledger : Ledger
+  pub cut : CutsTo (start script) items place
+  pub run : Run (first_ledger old.files) old items answers ledger now
+  pub stores : StoresTold ledger now.files
+  pub sent : HasSent held told (printed items answers)
+  pub counts : Counts tally answers
+
+-- a count that rose in a part of a call rose in the call
+pub stops_later : (stop : WriteFault) (held told now : SinkView) (state : Status) → held.faults ≤ told.faults → StopsWith stop told now state → StopsWith stop held now state
+stops_later writes.Failed held told now state later (is, rose) = (is, omega arith)
+stops_later writes.Memory held told now state later is = is
+
+-- how a sink stops a run
+pub stop_is : (stop : WriteFault) (held told now : SinkView) (state : Status) → state ≡ stop_status stop → held.faults ≤ told.faults → (IsErrOf {T = Unit {0}} (Err stop) writes.Failed → Rose told.faults now.faults) → StopsWith stop held now state
+stop_is writes.Failed held told now state is later cause = stops_later writes.Failed held told now state later (is, cause refl)
+stop_is writes.Memory held told now state is later cause = is
+
+-- before the first item
+pub begins : (script : List ℕ) (old : StoreView) (held : Option (List ℕ)) → Stands script old old held held (start script) (record { refused = false; store = false; memory = false })
+begins script old held = record {
+  items = [];
+  answers = [];
+  ledger = first_ledger old.files;
+  cut = refl;
+  run = (refl, refl);
+  stores = stores_first old.files;
+  sent = none_sent held;
+  counts = record { refused = refl; store = refl; memory = refl };
+}
+
+-- the same line
+line_same : (text : List ℕ) (line : ℕ) (ended : Ended) (result : Result (Unit {0}) Fault) (answer : Answer) → Gives result answer → result_line line result ≡ line_of (record { text = text; line = line; ended = ended }) answer
+line_same text line ended (Ok x) (Ok success) gives = sym gives
+line_same text line ended (Ok x) (Err fault) gives = absurd gives
+line_same text line ended (Err fault) (Ok success) gives = absurd gives
+line_same text line ended (Err fault) (Err refusal) gives = ap (λ (f : Fault). fault_line line f) gives
+
+or_false : (v : Bool) → v ≡ (v || false)
+or_false true = refl
+or_false false = refl
+
+or_true : (v : Bool) → true ≡ (v || true)
+or_true true = refl
+or_true false = refl
+
+counts_fault : (tally after : Tally) (answers : List Answer) (fault : Fault) → Counts tally answers → AddsFault tally fault after → Counts after (answers ++ Err fault ∷ [])
+counts_fault tally after answers fault counts adds = record {
+  refused = rw (adds.refused, some_of-append is_refusal answers (Err fault)) (or_true (some_of is_refusal answers));
+  store = rw (adds.store, counts.store, some_of-append (of_fault is_store_fault) answers (Err fault)) refl;
+  memory = rw (adds.memory, counts.memory, some_of-append (of_fault is_memory_fault) answers (Err fault)) refl;
+}
+
+counts_ok : (tally : Tally) (answers : List Answer) (success : Success) → Counts tally answers → Counts tally (answers ++ Ok success ∷ [])
+counts_ok tally answers success counts = record {
+  refused = rw (counts.refused, some_of-append is_refusal answers (Ok success)) (or_false (some_of is_refusal answers));
+  store = rw (counts.store, some_of-append (of_fault is_store_fault) answers (Ok success)) (or_false (some_of (of_fault is_store_fault) answers));
+  memory = rw (counts.memory, some_of-append (of_fault is_memory_fault) answers (Ok success)) (or_false (some_of (of_fault is_memory_fault) answers));
+}
+
+counts_more : (tally after : Tally) (answers : List Answer) (result : Result (Unit {0}) Fault) (answer : Answer) → Gives result answer → Counts tally answers → AddsResult tally result after → Counts after (answers ++ answer ∷ [])
+counts_more tally after answers (Ok x) (Ok success) gives counts adds = let P : Tally → Type 0 = λ t. Counts t (answers ++ Ok success ∷ []) in subst P (sym adds) (counts_ok tally answers success counts)
+counts_more tally after answers (Ok x) (Err fault) gives counts adds = absurd gives
+counts_more tally after answers (Err fault) (Ok success) gives counts adds = absurd gives
+counts_more tally after answers (Err fault) (Err refusal) gives counts adds = let P : Fault → Type 0 = λ f. Counts after (answers ++ Err f ∷ []) in subst P gives (counts_fault tally after answers fault counts adds)
+
+-- one command's step
+step_of : (ledger : Ledger) (old new : StoreView) (text : List ℕ) (line : ℕ) (result : Result (Unit {0}) Fault) → (c : Commands ledger old text result new) → Answers ledger old (record { text = text; line = line; ended = Terminated }) c.answer new
+step_of ledger old new text line result c = record {
+  answered = c.answered;
+  files = c.stored.files;
+  later = c.stored.later;
+  cause = c.stored.cause;
+  failed = c.stored.failed;
+}
+
+-- a command was answered and its line handed over
+pub goes_on : (script : List ℕ) (old mid new : StoreView) (held told now : Option (List ℕ)) (place next : Place) (tally counted : Tally) (text : List ℕ) (line : ℕ)
+    → Stands script old mid held told place tally → Next place (record { text = text; line = line; ended = Terminated }) next
+    → ((ledger : Ledger) → StoresTold ledger mid.files → HasAnswered ledger mid text line told tally (Ok tt) new now counted)
+    → Stands script old new held now next counted
+goes_on script old mid new held told now place next tally counted text line stands cut answered =
+    let a : HasAnswered stands.ledger mid text line told tally (Ok tt) new now counted = answered stands.ledger stands.stores in
+    let c : Commands stands.ledger mid text a.result new = a.commands in
+    let item : Item = record { text = text; line = line; ended = Terminated } in
+    let line_is : result_line line a.result ≡ line_of item c.answer = line_same text line Terminated a.result c.answer c.gives in
+    record {
+      items = stands.items ++ item ∷ [];
+      answers = stands.answers ++ c.answer ∷ [];
+      ledger = after stands.ledger c.answer;
+      cut = cuts_more stands.items (start script) place item next stands.cut cut;
+      run = run_more stands.items stands.answers (first_ledger old.files) stands.ledger old mid item c.answer new stands.run (step_of stands.ledger mid new text line a.result c);
+      stores = stores_after stands.ledger c.answer mid.files new.files stands.stores c.stored.files;
+      sent = rw (printed_more stands.items stands.answers (first_ledger old.files) stands.ledger old mid item c.answer stands.run)
+          (sends_then {T = Unit {0}} held told now (printed stands.items stands.answers) (line_of item c.answer) (Ok tt) stands.sent (rw line_is at a.sends));
+      counts = counts_more tally counted stands.answers a.result c.answer c.gives stands.counts a.adds;
+    }
+
+-- a command was answered, and the sink stopped in its line
+pub stops : (script : List ℕ) (old mid new : StoreView) (held now : SinkView) (told : Option (List ℕ)) (place next : Place) (tally counted : Tally) (text : List ℕ) (line : ℕ) (fault : WriteFault) (state : Status)
+    → Stands script old mid held.held told place tally → Next place (record { text = text; line = line; ended = Terminated }) next
+    → ((ledger : Ledger) → StoresTold ledger mid.files → HasAnswered ledger mid text line told tally (Err fault) new now.held counted)
+    → StopsWith fault held now state → RanToStop script old new held now state
+stops script old mid new held now told place next tally counted text line fault state stands cut answered state_is =
+    let a : HasAnswered stands.ledger mid text line told tally (Err fault) new now.held counted = answered stands.ledger stands.stores in
+    let c : Commands stands.ledger mid text a.result new = a.commands in
+    let item : Item = record { text = text; line = line; ended = Terminated } in
+    record {
+      items = stands.items;
+      answers = stands.answers;
+      item = item;
+      answer = c.answer;
+      last = next;
+      cut = cuts_more stands.items (start script) place item next stands.cut cut;
+      ledger = after stands.ledger c.answer;
+      run = run_more stands.items stands.answers (first_ledger old.files) stands.ledger old mid item c.answer new stands.run (step_of stands.ledger mid new text line a.result c);
+      stores = stores_after stands.ledger c.answer mid.files new.files stands.stores c.stored.files;
+      mid = told;
+      sent = stands.sent;
+      fault = fault;
+      stopped = rw (line_same text line Terminated a.result c.answer c.gives) at a.sends;
+      state_is = state_is;
+    }
+
+-- nothing but gaps is left
+pub ends_there : (script : List ℕ) (old now : StoreView) (held told : SinkView) (place : Place) (tally : Tally) (state : Status) → Stands script old now held.held told.held place tally → IsAtEnd place → state ≡ tally_status tally → RanThrough script old now held told state
+ends_there script old now held told place tally state stands end state_is = record {
+  items = stands.items;
+  answers = stands.answers;
+  last = place;
+  cut = stands.cut;
+  end = end;
+  ledger = stands.ledger;
+  run = stands.run;
+  stores = stands.stores;
+  sent = stands.sent;
+  state_is = rw (state_is, stands.counts.refused, stands.counts.store, stands.counts.memory) refl;
+}
+
+-- a text without terminator is refused, and the store stays
+pub open_step : (ledger : Ledger) (store : StoreView) (text : List ℕ) (line : ℕ) (fault : Fault) → OpenOutcome text (Err fault) → Answers ledger store (record { text = text; line = line; ended = Unterminated }) (Err fault) store
+open_step ledger store text line faults.Command outcome = absurd outcome
+open_step ledger store text line (faults.Syntax part at) outcome = record { answered = outcome; files = refl; later = omega arith; cause = λ is. cc; failed = refl }
+open_step ledger store text line (faults.Number part at) outcome = record { answered = outcome; files = refl; later = omega arith; cause = λ is. cc; failed = refl }
+open_step ledger store text line (faults.Long limit) outcome = record { answered = outcome; files = refl; later = omega arith; cause = λ is. cc; failed = refl }
+open_step ledger store text line (faults.Store folder name) outcome = absurd outcome
+open_step ledger store text line faults.Memory outcome = absurd outcome
+open_step ledger store text line faults.ScriptLimit outcome = absurd outcome
+
+-- past the limit nothing is done
+pub limit_step : (ledger : Ledger) (store : StoreView) (line : ℕ) → Answers ledger store (record { text = []; line = line; ended = PastLimit }) (Err faults.ScriptLimit) store
+limit_step ledger store line = record { answered = refl; files = refl; later = omega arith; cause = λ is. cc; failed = refl }
+
+-- the last item is a refusal that leaves the store
+pub finishes : (script : List ℕ) (old mid : StoreView) (held told now : SinkView) (place last : Place) (tally : Tally) (item : Item) (fault : Fault) (state : Status)
+    → Stands script old mid held.held told.held place tally → Next place item last → IsAtEnd last → held.faults ≤ told.faults
+    → ((ledger : Ledger) → Answers ledger mid item (Err fault) mid)
+    → Finishes told item.line fault tally now state → Ran script old mid held now state
+finishes script old mid held told now place last tally item fault state stands cut end later step (inl whole) = inl (record {
+  items = stands.items ++ item ∷ [];
+  answers = stands.answers ++ Err fault ∷ [];
+  last = last;
+  cut = cuts_more stands.items (start script) place item last stands.cut cut;
+  end = end;
+  ledger = stands.ledger;
+  run = run_more stands.items stands.answers (first_ledger old.files) stands.ledger old mid item (Err fault) mid stands.run (step stands.ledger);
+  stores = stands.stores;
+  sent = rw (printed_more stands.items stands.answers (first_ledger old.files) stands.ledger old mid item (Err fault) stands.run)
+      (sends_then {T = Unit {0}} held.held told.held now.held (printed stands.items stands.answers) (fault_line item.line fault) (Ok tt) stands.sent whole.sent);
+  state_is = let counts : Counts whole.counted (stands.answers ++ Err fault ∷ []) = counts_fault tally whole.counted stands.answers fault stands.counts whole.adds in
+      rw (whole.state_is, counts.refused, counts.store, counts.memory) refl;
+})
+finishes script old mid held told now place last tally item fault state stands cut end later step (inr part) = inr (record {
+  items = stands.items;
+  answers = stands.answers;
+  item = item;
+  answer = Err fault;
+  last = last;
+  cut = cuts_more stands.items (start script) place item last stands.cut cut;
+  ledger = stands.ledger;
+  run = run_more stands.items stands.answers (first_ledger old.files) stands.ledger old mid item (Err fault) mid stands.run (step stands.ledger);
+  stores = stands.stores;
+  mid = told.held;
+  sent = stands.sent;
+  fault = part.stop;
+  stopped = part.stopped;
+  state_is = stops_later part.stop held told now state later part.state_is;
+})

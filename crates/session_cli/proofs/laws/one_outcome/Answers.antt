@@ -1,0 +1,8 @@
+use Rattle.session_cli.proofs.OneOutcomes.{one_text, one_answer}
+use Rattle.session_cli.proofs.laws.one_outcome.Goals as goal
+
+pub returns-clause-text : goal.returns-clause-text
+returns-clause-text c = one_text
+
+pub returns-clause-outcome : goal.returns-clause-outcome
+returns-clause-outcome c = one_answer

@@ -1,0 +1,37 @@
+-- What is handed over of a result.
+use Rattle.std.specs.Prelude.{ℕ, List, [], Option, Result, Ok, Err}
+use Rattle.wal_outside.specs.Sending.{Sends}
+use Rattle.wal_outside.specs.declared.sink.WriteFault.{WriteFault}
+use Rattle.wal_outside.specs.declared.sink.WriteFault.TheVariants as writes
+use Rattle.session_cli.specs.declared.fault.Fault.{Fault}
+use Rattle.session_cli.specs.declared.status.Status.{Status}
+use Rattle.session_cli.specs.declared.status.Status.TheVariants as status
+use Rattle.session_cli.specs.Lines.{fault_line}
+use Rattle.session_cli.specs.declared.tally.Tally.{Tally}
+use Rattle.session_cli.specs.Trees.{Ledger}
+use Rattle.session_cli.specs.Outcomes.{OpenOutcome}
+use Rattle.session_cli.specs.Views.{StoreView}
+use Rattle.session_cli.specs.Commands.{Commands}
+use Rattle.session_cli.specs.Tallies.{AddsResult}
+
+-- the line of a refusal, and nothing of an accepted command
+abbrev pub result_line : ℕ → Result (Unit {0}) Fault → List ℕ
+result_line line (Ok _) = []
+result_line line (Err fault) = fault_line line fault
+
+-- a command was answered, its answer counted, and its line handed over, or a front of that where the sink stopped
+pub record HasAnswered (ledger : Ledger) (old : StoreView) (text : List ℕ) (line : ℕ) (told : Option (List ℕ)) (tally : Tally) (sent : Result (Unit {0}) WriteFault)
+    (new : StoreView) (now : Option (List ℕ)) (counted : Tally) : Type 0 where
+  pub result : Result (Unit {0}) Fault
+  pub commands : Commands ledger old text result new
+  pub sends : Sends told now (result_line line result) sent
+  pub adds : AddsResult tally result counted
+
+-- the fault of a text without terminator
+abbrev pub IsOpenFault : List ℕ → Fault → Type 0
+IsOpenFault text fault = OpenOutcome text (Err fault)
+
+-- how a run ends that a sink stopped
+abbrev pub stop_status : WriteFault → Status
+stop_status writes.Failed = status.Outside
+stop_status writes.Memory = status.Memory

@@ -1,0 +1,50 @@
+-- What holds of all runs.
+use Rattle.std.specs.Prelude.{◌≡◌, ◌⊎◌, ℕ, ◌+◌, ◌-◌, ◌^◌, ◌≤◌, min, if◌then◌else◌, List, [], ◌∷◌, Some}
+use Rattle.wal_outside.specs.Sending.{HasSent}
+use Rattle.script_cut.specs.Cuts.{Item}
+use Rattle.session_cli.specs.declared.status.Status.{Status}
+use Rattle.session_cli.specs.declared.status.Status.TheVariants as status
+use Rattle.session_cli.specs.Trees.{Entry, Ledger}
+use Rattle.session_cli.specs.Texts.{HasText}
+use Rattle.session_cli.specs.Outcomes.{Answer, Outcome}
+use Rattle.session_cli.specs.Views.{SourceView, SinkView, StoreView}
+use Rattle.session_cli.specs.Runs.{Run, of_fault, is_store_fault}
+use Rattle.session_cli.specs.Whole.{HasRun}
+
+-- an entry has at most one text
+abbrev pub OneText : Type 0
+OneText = (entry : Entry) (text other : List ℕ) → HasText entry text → HasText entry other → text ≡ other
+
+-- a command has at most one proper outcome
+abbrev pub OneOutcome : Type 0
+OneOutcome = (ledger : Ledger) (text : List ℕ) (answer other : Answer) → Outcome ledger text answer → Outcome ledger text other → answer ≡ other
+
+-- the run was through, and neither the store nor memory refused a command
+abbrev pub IsClean : Status → Type 0
+IsClean state = (state ≡ status.Done) ⊎ (state ≡ status.Refused)
+
+-- two runs end alike: with the same status, the same files, and the same text printed
+pub record EndAlike (new new' : StoreView) (held now held' now' : SinkView) (state state' : Status) : Type 0 where
+  pub status : state ≡ state'
+  pub files : new.files ≡ new'.files
+  pub text : List ℕ
+  pub printed : HasSent held.held now.held text
+  pub printed' : HasSent held'.held now'.held text
+
+-- Where the status is Done or Refused, what was printed, the files and the status are a function of the script and of the files at the
+-- beginning: how the bytes of the script came does not change them.
+abbrev pub OneRun : Type 0
+OneRun = (script : List ℕ) (from to from' to' : SourceView) (old new old' new' : StoreView) (held now held' now' : SinkView) (state state' : Status)
+    → HasRun from to old new held now state → HasRun from' to' old' new' held' now' state'
+    → from.left ≡ Some script → from'.left ≡ Some script → old.files ≡ old'.files → IsClean state → IsClean state'
+    → EndAlike new new' held now held' now' state state'
+
+-- how many of the answers are store faults
+abbrev pub store_faults : List Answer → ℕ
+store_faults [] = 0
+store_faults (answer ∷ answers) = (if of_fault is_store_fault answer then 1 else 0) + store_faults answers
+
+-- at most as many answers are store faults as the store's count rose, unless that stands at its last value
+abbrev pub StoreFaultsCounted : Type 0
+StoreFaultsCounted = (ledger last : Ledger) (old new : StoreView) (items : List Item) (answers : List Answer) → Run ledger old items answers last new
+    → min (old.faults + store_faults answers) (2 ^ 64 - 1) ≤ new.faults

@@ -1,0 +1,118 @@
+-- A run: how each item of a script is answered, and what that makes of the ledger and the store.
+use Rattle.std.specs.Prelude.{◌≡◌, ℕ, ◌≤◌, Bool, true, false, ◌||◌, if◌then◌else◌, List, [], ◌∷◌, ◌++◌, Option, None, Some, Ok, Err, ⊤, IsTrue}
+use Rattle.std.specs.Option.{option_map}
+use Rattle.wal_outside.specs.Causes.{Rose}
+use Rattle.wal_outside.specs.Files.{Files, put}
+use Rattle.wal_outside.specs.Places.{Place}
+use Rattle.script_cut.specs.Cuts.{Item}
+use Rattle.script_cut.specs.declared.cutting.Ended.{Ended}
+use Rattle.script_cut.specs.declared.cutting.Ended.TheVariants.{Terminated, Unterminated, PastLimit}
+use Rattle.session_cli.specs.declared.fault.Fault.{Fault}
+use Rattle.session_cli.specs.declared.fault.Fault.TheVariants as faults
+use Rattle.session_cli.specs.declared.status.Status.{Status}
+use Rattle.session_cli.specs.declared.status.Status.TheVariants as status
+use Rattle.session_cli.specs.Trees.{Ledger, ledger_of}
+use Rattle.session_cli.specs.Texts.{HasText, Stores}
+use Rattle.session_cli.specs.Outcomes.{Success, Answer, after, Outcome, OpenOutcome}
+use Rattle.session_cli.specs.Views.{StoreView}
+use Rattle.session_cli.specs.Lines.{fault_line}
+
+-- A command's answer is its proper outcome. Or the write of what it makes failed; or memory ran out.
+abbrev pub IsAnswer : Ledger → List ℕ → Answer → Type 0
+IsAnswer ledger text (Err (faults.Store folder name)) = (success : Success) × Outcome ledger text (Ok success) × (folder ≡ success.folder) × (name ≡ success.name)
+IsAnswer ledger text (Err faults.Memory) = ⊤
+IsAnswer ledger text (Err faults.ScriptLimit) = ⊥
+IsAnswer ledger text (Err faults.Command) = Outcome ledger text (Err faults.Command)
+IsAnswer ledger text (Err (faults.Syntax part at)) = Outcome ledger text (Err (faults.Syntax part at))
+IsAnswer ledger text (Err (faults.Number part at)) = Outcome ledger text (Err (faults.Number part at))
+IsAnswer ledger text (Err (faults.Long limit)) = Outcome ledger text (Err (faults.Long limit))
+IsAnswer ledger text (Ok success) = Outcome ledger text (Ok success)
+
+-- the answer of an item, by how it ended
+abbrev pub IsAnswerOf : Ended → Ledger → List ℕ → Answer → Type 0
+IsAnswerOf Terminated ledger text answer = IsAnswer ledger text answer
+IsAnswerOf Unterminated ledger text answer = OpenOutcome text answer
+IsAnswerOf PastLimit ledger text answer = answer ≡ Err faults.ScriptLimit
+
+-- an accepted command changes the file of its entry to that entry's text, and a refused one none
+abbrev pub Changes : Option Files → Answer → Option Files → Type 0
+Changes old (Ok success) new = (stored : List ℕ) × HasText success.entry stored × (new ≡ option_map (λ files. put files success.folder success.name stored) old)
+Changes old (Err fault) new = new ≡ old
+
+abbrev pub is_store_fault : Fault → Bool
+is_store_fault (faults.Store folder name) = true
+is_store_fault faults.Command = false
+is_store_fault (faults.Syntax part at) = false
+is_store_fault (faults.Number part at) = false
+is_store_fault (faults.Long limit) = false
+is_store_fault faults.Memory = false
+is_store_fault faults.ScriptLimit = false
+
+abbrev pub is_memory_fault : Fault → Bool
+is_memory_fault faults.Memory = true
+is_memory_fault _ = false
+
+abbrev pub of_fault : (Fault → Bool) → Answer → Bool
+of_fault p (Ok success) = false
+of_fault p (Err fault) = p fault
+
+abbrev pub is_refusal : Answer → Bool
+is_refusal answer = of_fault (λ fault. true) answer
+
+-- the file of the last call that failed: a store fault's, from then on
+abbrev pub failed_after : Option (Option Place) → Answer → Option (Option Place)
+failed_after old (Err (faults.Store folder name)) = option_map (λ _. Some (folder, name)) old
+failed_after old (Err faults.Command) = old
+failed_after old (Err (faults.Syntax part at)) = old
+failed_after old (Err (faults.Number part at)) = old
+failed_after old (Err (faults.Long limit)) = old
+failed_after old (Err faults.Memory) = old
+failed_after old (Err faults.ScriptLimit) = old
+failed_after old (Ok success) = old
+
+-- One item: it has this answer, and the store was so and is so now. A store fault comes only where the store's count of faults rose.
+pub record Answers (ledger : Ledger) (old : StoreView) (item : Item) (answer : Answer) (new : StoreView) : Type 0 where
+  pub answered : IsAnswerOf item.ended ledger item.text answer
+  pub files : Changes old.files answer new.files
+  pub later : old.faults ≤ new.faults
+  pub cause : IsTrue (of_fault is_store_fault answer) → Rose old.faults new.faults
+  pub failed : new.failed ≡ failed_after old.failed answer
+
+-- the items one after another, from a ledger and a store to those at the end
+abbrev pub Run : Ledger → StoreView → List Item → List Answer → Ledger → StoreView → Type 0
+Run ledger old [] [] last new = (last ≡ ledger) × (new ≡ old)
+Run ledger old (item ∷ items) (answer ∷ answers) last new = (mid : StoreView) × Answers ledger old item answer mid × Run (after ledger answer) mid items answers last new
+Run ledger old [] (answer ∷ answers) last new = ⊥
+Run ledger old (item ∷ items) [] last new = ⊥
+
+-- the ledger at the beginning: the store's files, where these are told
+abbrev pub first_ledger : Option Files → Ledger
+first_ledger None = λ folder name. None
+first_ledger (Some files) = ledger_of files
+
+-- the files, where they are told, are the ledger's texts
+abbrev pub StoresTold : Ledger → Option Files → Type 0
+StoresTold ledger None = ⊤
+StoresTold ledger (Some files) = Stores ledger files
+
+-- what is printed of an item
+abbrev pub line_of : Item → Answer → List ℕ
+line_of item (Ok success) = success.shown
+line_of item (Err fault) = fault_line item.line fault
+
+abbrev pub printed : List Item → List Answer → List ℕ
+printed [] answers = []
+printed (item ∷ items) [] = []
+printed (item ∷ items) (answer ∷ answers) = line_of item answer ++ printed items answers
+
+-- whether an answer of a kind is among them
+abbrev pub some_of : (Answer → Bool) → List Answer → Bool
+some_of p [] = false
+some_of p (answer ∷ answers) = p answer || some_of p answers
+
+-- want of memory counts before a store that failed, and that before another refusal
+abbrev pub status_by : Bool → Bool → Bool → Status
+status_by refused store memory = if memory then status.Memory else if store then status.Outside else if refused then status.Refused else status.Done
+
+abbrev pub status_of : List Answer → Status
+status_of answers = status_by (some_of is_refusal answers) (some_of (of_fault is_store_fault) answers) (some_of (of_fault is_memory_fault) answers)

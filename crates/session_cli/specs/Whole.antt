@@ -1,0 +1,68 @@
+-- The whole call: from the words and the script to the status.
+use Rattle.std.specs.Prelude.{◌≡◌, ◌⊎◌, ℕ, List, [], ◌∷◌, ◌++◌, Option, codes, Err}
+use Rattle.wal_outside.specs.Causes.{Rose}
+use Rattle.wal_outside.specs.Sending.{Sends, HasSent}
+use Rattle.wal_outside.specs.declared.sink.WriteFault.{WriteFault}
+use Rattle.wal_outside.specs.declared.sink.WriteFault.TheVariants as writes
+use Rattle.script_cut.specs.Cuts.{Item, Place, start, CutsTo, IsAtEnd}
+use Rattle.session_cli.specs.declared.status.Status.{Status}
+use Rattle.session_cli.specs.declared.status.Status.TheVariants as status
+use Rattle.session_cli.specs.Trees.{Ledger}
+use Rattle.session_cli.specs.Outcomes.{Answer}
+use Rattle.session_cli.specs.Views.{SourceView, SinkView, StoreView, IsTold}
+use Rattle.session_cli.specs.Runs.{Run, first_ledger, StoresTold, line_of, printed, status_of}
+
+-- a sink that failed, and one that had no memory
+abbrev pub StopsWith : WriteFault → SinkView → SinkView → Status → Type 0
+StopsWith writes.Failed old new state = (state ≡ status.Outside) × Rose old.faults new.faults
+StopsWith writes.Memory old new state = state ≡ status.Memory
+
+-- All items were answered and all lines printed.
+pub record RanThrough (script : List ℕ) (old new : StoreView) (held now : SinkView) (state : Status) : Type 0 where
+  pub items : List Item
+  pub answers : List Answer
+  pub last : Place
+  pub cut : CutsTo (start script) items last
+  pub end : IsAtEnd last
+  pub ledger : Ledger
+  pub run : Run (first_ledger old.files) old items answers ledger new
+  pub stores : StoresTold ledger new.files
+  pub sent : HasSent held.held now.held (printed items answers)
+  pub state_is : state ≡ status_of answers
+
+-- The sink stopped the run in the line of its last answer: the lines before were printed whole, and some front of that one.
+pub record RanToStop (script : List ℕ) (old new : StoreView) (held now : SinkView) (state : Status) : Type 0 where
+  pub items : List Item
+  pub answers : List Answer
+  pub item : Item
+  pub answer : Answer
+  pub last : Place
+  pub cut : CutsTo (start script) (items ++ item ∷ []) last
+  pub ledger : Ledger
+  pub run : Run (first_ledger old.files) old (items ++ item ∷ []) (answers ++ answer ∷ []) ledger new
+  pub stores : StoresTold ledger new.files
+  pub mid : Option (List ℕ)
+  pub sent : HasSent held.held mid (printed items answers)
+  pub fault : WriteFault
+  pub stopped : Sends {T = Unit {0}} mid now.held (line_of item answer) (Err fault)
+  pub state_is : StopsWith fault held now state
+
+-- No command was answered and nothing printed: the source failed, or there was no memory for the script.
+pub record RanNothing (from to : SourceView) (old new : StoreView) (held now : SinkView) (state : Status) : Type 0 where
+  pub state_is : ((state ≡ status.Outside) × Rose from.faults to.faults) ⊎ (state ≡ status.Memory)
+  pub store_stays : new ≡ old
+  pub sink_stays : now ≡ held
+
+-- A run over a script: all of what the source had left, where that is told.
+abbrev pub HasRun : SourceView → SourceView → StoreView → StoreView → SinkView → SinkView → Status → Type 0
+HasRun from to old new held now state =
+    ((script : List ℕ) × IsTold from.left script × (RanThrough script old new held now state ⊎ RanToStop script old new held now state))
+    ⊎ RanNothing from to old new held now state
+
+abbrev pub usage_line : List ℕ
+usage_line = codes "usage: walnut [--states N] [--stop] [--make SEED]\n"
+
+-- The usage line was printed, or a front of it where the sink stopped it. The store stays.
+pub record ShowsUsage (old new : StoreView) (held now : SinkView) (state : Status) : Type 0 where
+  pub store_stays : new ≡ old
+  pub shown : (HasSent held.held now.held usage_line × (state ≡ status.Usage)) ⊎ ((fault : WriteFault) × Sends {T = Unit {0}} held.held now.held usage_line (Err fault) × StopsWith fault held now state)

@@ -1,0 +1,19 @@
+//! Laws of the definitions, each a call that does nothing.
+ghost use Rattle.session_cli.specs.Laws.{OneText, OneOutcome, OneRun, StoreFaultsCounted};
+
+/// An entry of the ledger has at most one text, and a command at most one proper outcome.
+pub fn one_outcome()
+    ensures text { OneText }
+    ensures outcome { OneOutcome }
+{}
+
+/// Where a run ends with `Done` or `Refused`, what it printed, the store's files and the status are a function of the
+/// script and of the files at the beginning.
+pub fn one_run()
+    ensures { OneRun }
+{}
+
+/// At most as many commands are refused by the store as its count of faults rose, unless that stands at its last value.
+pub fn store_faults_counted()
+    ensures { StoreFaultsCounted }
+{}

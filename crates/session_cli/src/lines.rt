@@ -1,0 +1,95 @@
+ghost use Rattle.std.specs.Prelude.{◌≡◌, ◌≤◌, ◌++◌, IsErrOf, codes, decimal};
+ghost use Rattle.wal_outside.specs.Folders.{folder_text};
+ghost use Rattle.wal_outside.specs.Causes.{Rose};
+ghost use Rattle.wal_outside.specs.Sending.{Sends};
+ghost use Rattle.session_cli.specs.Lines.{part_name as part_text, detail, fault_line};
+
+use crate::fault::{Fault, Part};
+use digit_tuple::name::Name;
+use itoa::Buffer;
+use wal_outside::{Folder, Sink, WriteFault, send, send_four, send_two};
+
+impl Part {
+    /// The part's name in a line.
+    pub(crate) fn name(self) -> &'static str
+        ensures { result.now ≡ part_text self }
+    {
+        match self {
+            Part::Command => "command",
+            Part::Regex => "regex",
+        }
+    }
+}
+
+/// Hands over the line of a command that begins on `line` and is refused by `fault`. It takes no memory.
+///
+/// # Errors
+/// As `send`: what was appended is a front of the line.
+pub(crate) fn send_fault<K: Sink>(out: &mut K, line: u64, fault: &Fault) -> Result<(), WriteFault>
+    ensures sent { Sends (K.held out.old) (K.held out.new) (fault_line line fault.now) result }
+    ensures later { K.faults out.old ≤ K.faults out.new }
+    ensures cause { IsErrOf result WriteFault.Failed → Rose (K.faults out.old) (K.faults out.new) }
+{
+    let mut buffer = Buffer::new();
+    send_two(out, b"error ", buffer.format(line).as_bytes())?;
+    send_detail(out, fault)?;
+    send(out, b"\n")
+}
+
+/// Hands over the number, name and kept values of a fault.
+fn send_detail<K: Sink>(out: &mut K, fault: &Fault) -> Result<(), WriteFault>
+    ensures sent { Sends (K.held out.old) (K.held out.new) (detail fault.now) result }
+    ensures later { K.faults out.old ≤ K.faults out.new }
+    ensures cause { IsErrOf result WriteFault.Failed → Rose (K.faults out.old) (K.faults out.new) }
+{
+    match fault {
+        Fault::Command => send(out, b": F01 Command"),
+        Fault::Syntax(part, at) => send_place(out, b": F02 Syntax in ", *part, *at),
+        Fault::Number(part, at) => send_place(out, b": F04 Number in ", *part, *at),
+        Fault::Long(limit) => send_limit(out, *limit),
+        Fault::Store(folder, name) => send_file(out, *folder, name),
+        Fault::Memory => send(out, b": F27 Memory"),
+        Fault::ScriptLimit => send(out, b": F28 ScriptLimit"),
+    }
+}
+
+/// Hands over a fault's number and name, its part, and the byte in that.
+fn send_place<K: Sink>(out: &mut K, name: &[u8], part: Part, at: usize) -> Result<(), WriteFault>
+    ensures sent { Sends (K.held out.old) (K.held out.new) ((name.now ++ part_text part) ++ (codes " at " ++ decimal at)) result }
+    ensures later { K.faults out.old ≤ K.faults out.new }
+    ensures cause { IsErrOf result WriteFault.Failed → Rose (K.faults out.old) (K.faults out.new) }
+{
+    let mut buffer = Buffer::new();
+    send_four(
+        out,
+        name,
+        part.name().as_bytes(),
+        b" at ",
+        buffer.format(at).as_bytes(),
+    )
+}
+
+/// Hands over the fault of a length and its limit.
+fn send_limit<K: Sink>(out: &mut K, limit: usize) -> Result<(), WriteFault>
+    ensures sent { Sends (K.held out.old) (K.held out.new) (codes ": F07 Long " ++ decimal limit) result }
+    ensures later { K.faults out.old ≤ K.faults out.new }
+    ensures cause { IsErrOf result WriteFault.Failed → Rose (K.faults out.old) (K.faults out.new) }
+{
+    let mut buffer = Buffer::new();
+    send_two(out, b": F07 Long ", buffer.format(limit).as_bytes())
+}
+
+/// Hands over the fault of a store and its file.
+fn send_file<K: Sink>(out: &mut K, folder: Folder, name: &Name) -> Result<(), WriteFault>
+    ensures sent { Sends (K.held out.old) (K.held out.new) ((codes ": F26 Store " ++ folder_text folder) ++ (codes "/" ++ name.now)) result }
+    ensures later { K.faults out.old ≤ K.faults out.new }
+    ensures cause { IsErrOf result WriteFault.Failed → Rose (K.faults out.old) (K.faults out.new) }
+{
+    send_four(
+        out,
+        b": F26 Store ",
+        folder.name().as_bytes(),
+        b"/",
+        name.as_bytes(),
+    )
+}

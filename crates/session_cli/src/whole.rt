@@ -1,0 +1,57 @@
+ghost use Rattle.std.specs.Prelude.{◌≡◌, ◌≤◌, ◌<◌, ◌⊎◌, length};
+ghost use Rattle.wal_outside.specs.Causes.{Rose};
+ghost use Rattle.session_cli.specs.Views.{SourceView, SinkView, StoreView};
+ghost use Rattle.session_cli.specs.Whole.{HasRun, ShowsUsage};
+
+use crate::answering::stop_status;
+use crate::running::answer_all;
+use crate::script::{ReadFault, read_script};
+use crate::status::Status;
+use std::alloc::Global;
+use wal_outside::{Sink, Source, Store, send};
+
+/// Runs a script: reads it, answers its commands in order, and prints the lines of the refused ones. `words` are those of
+/// the command line, the program's name first.
+///
+/// The status is the first of these that applies: `Usage` where a word follows the first, and then the usage line is
+/// printed; `Outside` where source or sink failed; `Memory`; `Outside` where the store failed; `Refused`; `Done`. A source
+/// that fails answers no command, a sink that fails or has no memory ends the run. The store keeps what was stored until
+/// then.
+pub fn run<S: Source, K: Sink, T: Store>(
+    alloc: Global,
+    words: &[String],
+    script: &mut S,
+    out: &mut K,
+    store: &mut T,
+) -> Status
+    ensures words { 1 < length words.now → ShowsUsage
+        (record { files = T.files store.old; faults = T.faults store.old; failed = T.failed store.old })
+        (record { files = T.files store.new; faults = T.faults store.new; failed = T.failed store.new })
+        (record { held = K.held out.old; faults = K.faults out.old })
+        (record { held = K.held out.new; faults = K.faults out.new }) result }
+    ensures usage { result ≡ Status.Usage → 1 < length words.now }
+    ensures run { length words.now ≤ 1 → HasRun
+        (record { left = S.left script.old; faults = S.faults script.old })
+        (record { left = S.left script.new; faults = S.faults script.new })
+        (record { files = T.files store.old; faults = T.faults store.old; failed = T.failed store.old })
+        (record { files = T.files store.new; faults = T.faults store.new; failed = T.failed store.new })
+        (record { held = K.held out.old; faults = K.faults out.old })
+        (record { held = K.held out.new; faults = K.faults out.new }) result }
+    ensures outside { result ≡ Status.Outside → Rose (S.faults script.old) (S.faults script.new)
+        ⊎ (Rose (K.faults out.old) (K.faults out.new) ⊎ Rose (T.faults store.old) (T.faults store.new)) }
+{
+    if words.len() > 1 {
+        return match send(out, USAGE) {
+            Ok(()) => Status::Usage,
+            Err(fault) => stop_status(fault),
+        };
+    }
+    match read_script(alloc, script) {
+        Ok(bytes) => answer_all(alloc, &bytes, out, store),
+        Err(ReadFault::Failed) => Status::Outside,
+        Err(ReadFault::Memory) => Status::Memory,
+    }
+}
+
+/// What the program takes on its command line.
+const USAGE: &[u8] = b"usage: walnut [--states N] [--stop] [--make SEED]\n";

@@ -1,0 +1,84 @@
+//! The limits, at their number and one more.
+
+use crate::whole::{Left, SURE, run_script};
+use session_cli::Status;
+use std::alloc::{AllocError, Global};
+use std::test::Fail;
+
+const COMMAND_LIMIT: usize = 65_536;
+
+const SCRIPT_LIMIT: usize = 16_777_216;
+
+const HEAD: &[u8] = b"reg p {0} \"0";
+
+/// A `reg` whose text has so many bytes, filled with blanks inside its quotes, and its terminator.
+fn command_of(alloc: Global, length: usize) -> Result<Vec<u8>, AllocError> {
+    let mut text = Vec::from_slice(alloc, HEAD)?;
+    let blanks = length.saturating_sub(HEAD.len() + 1);
+    for _ in 0..blanks {
+        text.push(b' ')?;
+    }
+    text.extend_from_slice(b"\";")?;
+    Ok(text)
+}
+
+fn run_command_of(alloc: Global, length: usize) -> Result<Left, AllocError> {
+    let script = command_of(alloc, length)?;
+    run_script(alloc, &script, &SURE)
+}
+
+#[test]
+fn a_command_has_at_most_65536_bytes(rt: HostRuntime) -> Result<(), Fail> {
+    let most = run_command_of(rt.alloc(), COMMAND_LIMIT)?;
+    assert_eq!(rt; most.status, Status::Done);
+    assert_eq!(rt; most.store.len(), 1);
+    let more = run_command_of(rt.alloc(), COMMAND_LIMIT + 1)?;
+    assert_eq!(rt; more.status, Status::Refused);
+    assert_eq!(rt; more.out.held(), b"error 1: F07 Long 65536\n".as_slice());
+    assert_eq!(rt; more.store.len(), 0);
+    Ok(())
+}
+
+/// A script of so many bytes: a command, line ends, and at the end a command without arguments.
+fn script_of(alloc: Global, length: usize) -> Result<Vec<u8>, AllocError> {
+    let mut script = Vec::with_capacity(alloc, length)?;
+    script.extend_from_slice(b"reg p {0} \"0\";\n")?;
+    for _ in script.len()..length.saturating_sub(2) {
+        script.push(b' ')?;
+    }
+    script.extend_from_slice(b"x;")?;
+    Ok(script)
+}
+
+fn run_script_of(alloc: Global, length: usize) -> Result<Left, AllocError> {
+    let script = script_of(alloc, length)?;
+    run_script(alloc, &script, &SURE)
+}
+
+#[test]
+fn a_script_has_at_most_16777216_bytes(rt: HostRuntime) -> Result<(), Fail> {
+    let most = run_script_of(rt.alloc(), SCRIPT_LIMIT)?;
+    assert_eq!(rt; most.out.held(), b"error 2: F01 Command\n".as_slice());
+    assert_eq!(rt; most.status, Status::Refused);
+    let more = run_script_of(rt.alloc(), SCRIPT_LIMIT + 1)?;
+    assert_eq!(rt; more.out.held(), b"error 2: F28 ScriptLimit\n".as_slice());
+    assert_eq!(rt; more.status, Status::Refused);
+    assert_eq!(rt; more.store.len(), 1);
+    Ok(())
+}
+
+// Three thousand letters that may all be left out lead to more edges than a stored text may list.
+#[test]
+fn a_stored_text_has_at_most_16777216_bytes(rt: HostRuntime) -> Result<(), Fail> {
+    let alloc = rt.alloc();
+    let mut script = Vec::from_slice(alloc, b"reg p {0} \"")?;
+    for _ in 0..3_000 {
+        script.extend_from_slice(b"0*")?;
+    }
+    script.extend_from_slice(b"\";")?;
+    let left = run_script(alloc, &script, &SURE)?;
+    assert_eq!(rt; left.out.held(), b"error 1: F07 Long 16777216\n".as_slice());
+    assert_eq!(rt; left.status, Status::Refused);
+    assert_eq!(rt; left.store.len(), 0);
+    Ok(())
+}
