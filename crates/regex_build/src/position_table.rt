@@ -1,6 +1,7 @@
 //! The automaton of an expression's letters.
 
 ghost use Rattle.std.specs.Prelude.{◌≡◌, IfOk};
+ghost use Rattle.digit_tuple.specs.Automaton.{IsBranchTable, letters_of};
 ghost use Rattle.digit_tuple.specs.Letters.{IsAlphabet};
 ghost use Rattle.digit_tuple.specs.Sets.{sizes_of};
 ghost use Rattle.digit_tuple.specs.Tuples.{IsLetterOf};
@@ -24,6 +25,7 @@ use std::alloc::Global;
 pub fn positions(alloc: Global, regex: &Regex) -> Result<Nfa, OutOfMemory>
     requires { IsAlphabet (sizes_of regex.now.sets) }
     ensures sizes { IfOk result (λ nfa. nfa.sizes ≡ sizes_of regex.now.sets) }
+    ensures rows { IfOk result (λ nfa. IsBranchTable (letters_of nfa) nfa.states) }
     ensures table { IfOk result (IsPositionTable (IsLetterOf regex.now.sets) (tree_of regex.now.posts)) }
     ensures language { IfOk result (AcceptsTheMatches regex.now.sets (tree_of regex.now.posts)) }
 {

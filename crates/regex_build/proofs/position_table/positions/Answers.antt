@@ -3,7 +3,7 @@ use Rattle.std.proofs.Common.{◌≡◌, ℕ, ◌<◌, List, length, sym, subst,
 use Rattle.std.specs.Prelude.{All}
 use Rattle.std.specs.List.{AllZip}
 use Rattle.std.proofs.lemmas.Result.{IfOk-weaker}
-use Rattle.digit_tuple.specs.Automaton.{Branching}
+use Rattle.digit_tuple.specs.Automaton.{Branching, IsBranchTable, letters_of}
 use Rattle.digit_tuple.specs.Letters.{product}
 use Rattle.digit_tuple.specs.Rows.{branches_in}
 use Rattle.digit_tuple.specs.Tuples.{IsLetterOf}
@@ -29,6 +29,19 @@ from_states-requires c =
     let P : List (Post ℕ) → Type 0 = λ xs. All (λ post. post.letter < product c.in_ok-alphabet.alphabet) xs in
     branch_table_of_posts (product c.in_ok-alphabet.alphabet) c.deref.result.now c.in_ok-states.states.items
     (subst P (sym {A = List (Post ℕ)} c.deref.ensures.value) c.in_ok-posts.ensures.in_range) (omega arith) c.in_ok-states.ensures.count c.in_ok-states.ensures.states
+
+pub returns-clause-rows : goal.returns-clause-rows
+returns-clause-rows c =
+    let n : length c.posts-letters.result.now ≡ length c.in_ok-posts.posts.items = length_zip (IsCoded c.sets.result.now) c.posts-letters.result.now c.in_ok-posts.posts.items c.in_ok-posts.ensures.letters in
+    let d : length c.deref.result.now ≡ length c.in_ok-posts.posts.items = ap length c.deref.ensures.value in
+    let P : List (Post ℕ) → Type 0 = λ xs. All (λ post. post.letter < product c.in_ok-alphabet.alphabet) xs in
+    let made : Branching = record { sizes = c.in_ok-alphabet.alphabet; states = branches_in c.in_ok-states.states.items } in
+    let Q : Branching → Type 0 = λ nfa. nfa ≡ made in
+    let R : Branching → Type 0 = λ nfa. IsBranchTable (letters_of nfa) nfa.states in
+    let rows : R made =
+      branch_table_of_posts (product c.in_ok-alphabet.alphabet) c.deref.result.now c.in_ok-states.states.items
+        (subst P (sym {A = List (Post ℕ)} c.deref.ensures.value) c.in_ok-posts.ensures.in_range) (omega arith) c.in_ok-states.ensures.count c.in_ok-states.ensures.states in
+    IfOk-weaker c.from_states.result Q R (λ nfa e. subst R (sym {A = Branching} e) rows) c.from_states.ensures
 
 pub returns-clause-table : goal.returns-clause-table
 returns-clause-table c =
