@@ -1,11 +1,11 @@
 -- Edges gathered by their letters.
-use Rattle.std.proofs.Common.{◌≡◌, ◌≢◌, ◌==◌, ℕ, zero, suc, ◌+◌, ◌-◌, ◌<◌, ◌≤◌, Bool, true, false, cond, if◌then◌else◌, List, [], ◌∷◌, ◌++◌, map, filter, take, drop, length, get_or, Option, None, Some, ◌⊎◌, inl, inr, refl, sym, ap, ◌∙◌, subst, true≢false, eq-eqb, append-nil, arith}
+use Rattle.std.proofs.Common.{◌≡◌, ◌≢◌, ◌==◌, ℕ, suc, ◌+◌, ◌-◌, ◌<◌, ◌≤◌, Bool, true, false, cond, if◌then◌else◌, List, [], ◌∷◌, ◌++◌, map, filter, take, drop, length, get_or, None, Some, ◌⊎◌, inl, inr, refl, sym, ap, ◌∙◌, subst, eq-eqb, append-nil, arith}
 use Rattle.std.specs.List.{All, AllPairs, AllWithin, Contains}
 use Rattle.std.proofs.Math.Seq.{take-add}
 use Rattle.std.proofs.lemmas.Bool.{ne_eqb}
 use Rattle.std.proofs.lemmas.Bool.Decides.{eqb_tells}
-use Rattle.std.proofs.lemmas.List.{map-append, length-map, length-take-le, length-drop, get_or-take, get_or-drop, length_push}
-use Rattle.std.proofs.lemmas.List.Elements.{filter-append, All-push, All-weaker, Contains-append_left, Contains-append_right, All-contains}
+use Rattle.std.proofs.lemmas.List.{map-append, length-map, length-take-le, length-drop, get_or-take, get_or-drop}
+use Rattle.std.proofs.lemmas.List.Elements.{filter-append, All-push, Contains-append_left, Contains-append_right, All-contains}
 use Rattle.std.proofs.lemmas.List.{get_or_default}
 use Rattle.std.proofs.lemmas.Bool.{cases_lt}
 use Rattle.digit_tuple.specs.Automaton.{IsBefore}

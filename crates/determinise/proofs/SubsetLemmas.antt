@@ -1,11 +1,11 @@
 -- Sets of states that words lead to.
-use Rattle.std.proofs.Common.{◌≡◌, ◌≢◌, ◌==◌, ◌&&◌, ℕ, zero, suc, ◌+◌, ◌<◌, ◌≤◌, Bool, true, false, cond, List, [], ◌∷◌, ◌++◌, map, filter, length, get_or, Option, None, Some, MatchOption, IsTrue, ◌↔◌, ◌⊎◌, inl, inr, refl, sym, ap, ◌∙◌, subst, true≢false, eq-eqb, arith}
+use Rattle.std.proofs.Common.{◌≡◌, ◌==◌, ◌&&◌, ℕ, ◌<◌, Bool, true, false, List, [], ◌∷◌, map, filter, length, get_or, Option, None, Some, MatchOption, IsTrue, ◌↔◌, ◌⊎◌, inl, inr, refl, sym, ap, ◌∙◌, subst, true≢false, eq-eqb, arith}
 use Rattle.std.specs.Bool.{⊤}
 use Rattle.std.specs.List.{All, AllPairs, Contains, list_any, range_with_len}
 use Rattle.std.specs.Option.{option_and_then, option_map_or}
 use Rattle.std.proofs.lemmas.Bool.{eqb-true}
 use Rattle.std.proofs.lemmas.List.{get_or-map, length-map}
-use Rattle.std.proofs.lemmas.List.Elements.{filter_passes, All-contains}
+use Rattle.std.proofs.lemmas.List.Elements.{filter_passes}
 use Rattle.std.proofs.lemmas.List.Kept.{AllPairs-filter}
 use Rattle.std.proofs.lemmas.List.FromFn.{length-range_with_len, get_or-range_with_len}
 use Rattle.digit_tuple.specs.declared.edges.Edge.{Edge}
@@ -151,19 +151,25 @@ module _ (n : Branching) (table : IsBranchTable (letters_of n) n.states) where
     (λ path. (key_run-start w q).0 (subst (λ o. Contains (set_of o) q) (sym same) ((key_run-start v q).1 path))),
   )
 
-  pub LeadAlike-states : (w v : List ℕ) → IsWord (letters_of n) w → IsWord (letters_of n) v → Alike n w v → LeadAlike (set_after n) (0 ∷ []) w v
-  LeadAlike-states w v over too alike = by (key_run (set_after n) (0 ∷ []) w) (key_run (set_after n) (0 ∷ []) v) (is_set w over) (is_set v too) (key_run-start w) (key_run-start v)
+  -- no two sets have the same states
+  pub same_set : (o r : Option (List ℕ)) → MatchOption o ⊤ (IsStateSet n) → MatchOption r ⊤ (IsStateSet n) → ((q : ℕ) → Contains (set_of o) q ↔ Contains (set_of r) q) → o ≡ r
+  same_set o r one two iff = by o r one two iff
     where
-      is_set : (u : List ℕ) → IsWord (letters_of n) u → MatchOption (key_run (set_after n) (0 ∷ []) u) ⊤ (IsStateSet n)
-      is_set u inside = key_run-keeps (IsStateSet n) (letters_of n) (set_after n) (λ key a holds small. after_is_state_set n key a) u (0 ∷ []) inside (start_is_state_set n table)
-
       member : (set : List ℕ) → 0 < length set → (q : ℕ) × Contains set q
       member [] some = absurd (omega arith)
       member (q ∷ qs) some = (q, Contains-head q qs)
 
-      by : (o r : Option (List ℕ)) → MatchOption o ⊤ (IsStateSet n) → MatchOption r ⊤ (IsStateSet n) → ((q : ℕ) → Contains (set_of o) q ↔ Path n 0 w q) → ((q : ℕ) → Contains (set_of r) q ↔ Path n 0 v q) → o ≡ r
-      by None None one two iff fit = refl
-      by None (Some t) one two iff fit = let q = member t two.some in absurd (Contains-none q.0 ((iff q.0).1 ((alike q.0).1 ((fit q.0).0 q.1))))
-      by (Some s) None one two iff fit = let q = member s one.some in absurd (Contains-none q.0 ((fit q.0).1 ((alike q.0).0 ((iff q.0).0 q.1))))
-      by (Some s) (Some t) one two iff fit = ap Some (same_ascending s t one.ascending two.ascending
-          (λ q there. (fit q).1 ((alike q).0 ((iff q).0 there))) (λ q there. (iff q).1 ((alike q).1 ((fit q).0 there))))
+      by : (o r : Option (List ℕ)) → MatchOption o ⊤ (IsStateSet n) → MatchOption r ⊤ (IsStateSet n) → ((q : ℕ) → Contains (set_of o) q ↔ Contains (set_of r) q) → o ≡ r
+      by None None one two iff = refl
+      by None (Some t) one two iff = let q = member t two.some in absurd (Contains-none q.0 ((iff q.0).1 q.1))
+      by (Some s) None one two iff = let q = member s one.some in absurd (Contains-none q.0 ((iff q.0).0 q.1))
+      by (Some s) (Some t) one two iff = ap Some (same_ascending s t one.ascending two.ascending (λ q there. (iff q).0 there) (λ q there. (iff q).1 there))
+
+  -- words lead from a set of states to sets of states
+  pub key_run-set : (first : List ℕ) → IsStateSet n first → (w : List ℕ) → IsWord (letters_of n) w → MatchOption (key_run (set_after n) first w) ⊤ (IsStateSet n)
+  key_run-set first is w over = key_run-keeps (IsStateSet n) (letters_of n) (set_after n) (λ key a holds small. after_is_state_set n key a) w first over is
+
+  pub LeadAlike-states : (w v : List ℕ) → IsWord (letters_of n) w → IsWord (letters_of n) v → Alike n w v → LeadAlike (set_after n) (0 ∷ []) w v
+  LeadAlike-states w v over too alike =
+      same_set (key_run (set_after n) (0 ∷ []) w) (key_run (set_after n) (0 ∷ []) v) (key_run-set (0 ∷ []) (start_is_state_set n table) w over) (key_run-set (0 ∷ []) (start_is_state_set n table) v too)
+      (λ q. ((λ there. (key_run-start v q).1 ((alike q).0 ((key_run-start w q).0 there))), (λ there. (key_run-start w q).1 ((alike q).1 ((key_run-start v q).0 there)))))

@@ -1,5 +1,5 @@
 -- Edges gathered by their letters.
-use Rattle.std.specs.Prelude.{◌≡◌, ◌==◌, ℕ, ◌<◌, List, map, filter}
+use Rattle.std.specs.Prelude.{◌≡◌, ◌==◌, ℕ, List, map, filter}
 use Rattle.std.specs.List.{All, AllPairs, Contains}
 use Rattle.digit_tuple.specs.declared.edges.Edge.{Edge}
 use Rattle.explore.specs.Keys.{Step, key_by, IsByEarlier}

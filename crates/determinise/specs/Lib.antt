@@ -1,3 +1,5 @@
 pub mod Subsets
 pub mod Groups
 pub mod SubsetLaws
+pub mod Trimmed
+pub mod Reversed

@@ -9,5 +9,13 @@ pub mod subsets;
 
 /// The subset construction.
 pub mod subset_construction;
+/// Automata without the states that no word leads to.
+pub mod trimmed;
+
+/// Automata with their edges turned.
+pub mod reversed;
+
+/// The reversal of a deterministic automaton.
+pub mod reversal;
 #[cfg(test)]
 mod tests;

@@ -2,6 +2,7 @@
 
 ghost use Rattle.std.specs.Prelude.{◌≡◌};
 
+use crate::reversal::reverse;
 use crate::subset_construction::determinise;
 use digit_tuple::alphabet::Alphabet;
 use digit_tuple::edges::{Edge, NfaState};
@@ -92,5 +93,34 @@ fn the_empty_set_counts_and_is_not_listed(rt: HostRuntime) -> Result<(), Fail> {
     assert_eq!(rt; stepped.result.states(), 1);
     assert_eq!(rt; stepped.result.step(0, 0), None);
     assert!(rt; determinise(rt.alloc(), &nfa, 1).is_err());
+    Ok(())
+}
+
+#[test]
+fn third_letter_from_the_start_has_five_residuals(rt: HostRuntime) -> Result<(), Fail> {
+    let nfa = third_from_the_end(rt.alloc())?;
+    let stepped = determinise(rt.alloc(), &nfa, 8).map_err(|_| "few sets")?;
+    let reversed = reverse(rt.alloc(), &stepped.result, 5).map_err(|_| "few residuals")?;
+    assert_eq!(rt; reversed.width, 5);
+    assert_eq!(rt; reversed.result.states(), 4);
+    assert!(rt; reversed.result.accepts(&[1, 0, 1, 0]));
+    assert!(rt; !reversed.result.accepts(&[0, 1, 0, 1]));
+    assert!(rt; reverse(rt.alloc(), &stepped.result, 4).is_err());
+    Ok(())
+}
+
+#[test]
+fn nothing_reversed_has_one_residual(rt: HostRuntime) -> Result<(), Fail> {
+    let mut states = Vec::new(rt.alloc());
+    states.push(NfaState {
+        accepting: false,
+        edges: Vec::new(rt.alloc()),
+    })?;
+    let nfa = automaton(rt.alloc(), states)?;
+    let stepped = determinise(rt.alloc(), &nfa, 2).map_err(|_| "few sets")?;
+    let reversed = reverse(rt.alloc(), &stepped.result, 1).map_err(|_| "one residual")?;
+    assert_eq!(rt; reversed.width, 1);
+    assert_eq!(rt; reversed.result.states(), 1);
+    assert!(rt; reverse(rt.alloc(), &stepped.result, 0).is_err());
     Ok(())
 }

@@ -1,12 +1,9 @@
-use Rattle.std.proofs.Common.{◌≡◌, ◌+◌, ℕ, List, [], ◌∷◌, IfOk, IsTrue, ◌↔◌, sym, ◌∙◌, subst}
+use Rattle.std.proofs.Common.{◌+◌, [], ◌∷◌, sym, ◌∙◌}
 use Rattle.std.proofs.lemmas.Result.{IfOk-weaker}
-use Rattle.digit_tuple.specs.Automaton.{Accepts, letters_of}
-use Rattle.digit_tuple.specs.Deterministic.{Automaton, accepts_of}
-use Rattle.digit_tuple.specs.Letters.{IsWord}
-use Rattle.digit_tuple.specs.Width.{HasWidth, HasApart}
+use Rattle.digit_tuple.specs.Automaton.{letters_of}
 use Rattle.digit_tuple.proofs.WidthLemmas.{HasApart-same, HasWidth-same}
-use Rattle.explore.specs.Keys.{LeadAlike, key_accepts}
-use Rattle.determinise.specs.Subsets.{Alike, set_after, has_accepting}
+use Rattle.explore.specs.Keys.{LeadAlike}
+use Rattle.determinise.specs.Subsets.{Alike, set_after}
 use Rattle.determinise.specs.SubsetLaws.{start_is_state_set}
 use Rattle.determinise.proofs.SubsetLemmas.{key_accepts-start, Alike-lead, LeadAlike-states}
 use Rattle.determinise.proofs.subset_construction.determinise.Goals as goal

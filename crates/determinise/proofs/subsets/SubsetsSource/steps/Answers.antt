@@ -1,4 +1,4 @@
-use Rattle.std.proofs.Common.{List, IfOk, sym, subst}
+use Rattle.std.proofs.Common.{List, subst}
 use Rattle.std.proofs.lemmas.Result.{IfOk-weaker}
 use Rattle.digit_tuple.specs.Automaton.{letters_of}
 use Rattle.digit_tuple.specs.declared.edges.Edge.{Edge}

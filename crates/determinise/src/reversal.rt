@@ -1,0 +1,81 @@
+//! The reversal of a deterministic automaton.
+
+ghost use Rattle.std.specs.Prelude.{◌≡◌, ◌≢◌, ℕ, ◌+◌, ◌≤◌, ◌++◌, ◌∷◌, [], List, reverse, IfOk, false, take};
+ghost use Rattle.std.specs.Result.{IsErrOf};
+ghost use Rattle.digit_tuple.specs.Deterministic.{IsTable, accepts_of, states_of, letters_of};
+ghost use Rattle.digit_tuple.specs.FirstWords.{IsNumberedByFirsts};
+ghost use Rattle.digit_tuple.specs.Letters.{product, IsWord};
+ghost use Rattle.digit_tuple.specs.Width.{HasApart, HasWidth};
+ghost use Rattle.determinise.specs.Reversed.{AreAccepting, SameReversedResidual, bare_automaton};
+
+use crate::reversed::reversed;
+use crate::subsets::Subsets;
+use crate::trimmed::trimmed;
+use digit_tuple::alphabet::Alphabet;
+use digit_tuple::dfa::Dfa;
+use digit_tuple::dfa_builder::DfaBuilder;
+use digit_tuple::faults::{OpFault, OutOfMemory};
+use digit_tuple::stepped::Stepped;
+use explore::exploration::explore;
+use std::alloc::Global;
+
+/// A deterministic automaton that accepts the reversed words. The width is the number of residuals
+/// of its language, the empty one among them where it occurs: two words are alike after which the
+/// same words are accepted. No state is listed for the empty residual, unless nothing is accepted.
+/// `States` comes exactly where the width passes the limit, and `Letters` never.
+pub fn reverse(alloc: Global, d: &Dfa, limit: u32) -> Result<Stepped<Dfa>, OpFault>
+    ensures sizes { IfOk result (λ stepped. stepped.result.sizes ≡ d.now.sizes) }
+    ensures table { IfOk result (λ stepped. IsTable (letters_of stepped.result) stepped.result.states) }
+    ensures language { IfOk result (λ stepped. (word : List ℕ) → IsWord (letters_of d.now) word
+        → accepts_of stepped.result word ≡ accepts_of d.now (reverse word)) }
+    ensures width { IfOk result (λ stepped. HasWidth (SameReversedResidual d.now) (letters_of d.now) stepped.width) }
+    ensures size { IfOk result (λ stepped. states_of stepped.result ≤ stepped.width) }
+    ensures within { IfOk result (λ stepped. stepped.width ≤ limit) }
+    ensures states { IsErrOf result OpFault.States → HasApart (SameReversedResidual d.now) (letters_of d.now) (limit + 1) }
+    ensures letters { ¬ IsErrOf result OpFault.Letters }
+{
+    let reachable = trimmed(alloc, d)?;
+    let alphabet = d.alphabet().copy(alloc)?;
+    let first = accepting_states(alloc, &reachable)?;
+    if first.is_empty() {
+        return nothing(alloc, alphabet, limit);
+    }
+    let nfa = reversed(alloc, &reachable)?;
+    let subsets = Subsets {
+        nfa: &nfa,
+        first: &first,
+    };
+    explore(alloc, &subsets, alphabet, limit)
+}
+
+// The states that accept, in order.
+fn accepting_states(alloc: Global, d: &Dfa) -> Result<Vec<u32>, OutOfMemory>
+    ensures { IfOk result (λ set. AreAccepting d.now set.items) }
+{
+    let mut set = Vec::new(alloc);
+    for state in 0..d.states() {
+        if d.accepting(state) {
+            set.push(state)?;
+        }
+    }
+    Ok(set)
+}
+
+// The automaton that accepts nothing.
+fn nothing(alloc: Global, alphabet: Alphabet, limit: u32) -> Result<Stepped<Dfa>, OpFault>
+    ensures result_is { IfOk result (λ stepped. stepped.result ≡ bare_automaton alphabet) }
+    ensures width { IfOk result (λ stepped. stepped.width ≡ 1) }
+    ensures within { IfOk result (λ stepped. 1 ≤ limit) }
+    ensures states { IsErrOf result OpFault.States → limit ≡ 0 }
+    ensures letters { ¬ IsErrOf result OpFault.Letters }
+{
+    if limit == 0 {
+        return Err(OpFault::States);
+    }
+    let mut builder = DfaBuilder::new(alloc, alphabet)?;
+    builder.add_state(false)?;
+    Ok(Stepped {
+        result: builder.finish()?,
+        width: 1,
+    })
+}
