@@ -39,8 +39,8 @@ returns-clause-rows c =
     let Q : Branching → Type 0 = λ nfa. nfa ≡ made in
     let R : Branching → Type 0 = λ nfa. IsBranchTable (letters_of nfa) nfa.states in
     let rows : R made =
-      branch_table_of_posts (product c.in_ok-alphabet.alphabet) c.deref.result.now c.in_ok-states.states.items
-        (subst P (sym {A = List (Post ℕ)} c.deref.ensures.value) c.in_ok-posts.ensures.in_range) (omega arith) c.in_ok-states.ensures.count c.in_ok-states.ensures.states in
+    branch_table_of_posts (product c.in_ok-alphabet.alphabet) c.deref.result.now c.in_ok-states.states.items
+    (subst P (sym {A = List (Post ℕ)} c.deref.ensures.value) c.in_ok-posts.ensures.in_range) (omega arith) c.in_ok-states.ensures.count c.in_ok-states.ensures.states in
     IfOk-weaker c.from_states.result Q R (λ nfa e. subst R (sym {A = Branching} e) rows) c.from_states.ensures
 
 pub returns-clause-table : goal.returns-clause-table
