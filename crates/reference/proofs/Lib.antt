@@ -1,0 +1,4 @@
+pub mod Cuts
+pub mod WalkSteps
+pub mod WordSteps
+pub mod ScriptSteps

@@ -1,0 +1,4 @@
+pub mod Words
+pub mod Walks
+pub mod Scripts
+pub mod Readings

@@ -1,0 +1,207 @@
+//! Parsing, automata and cuts, held against the slow programs on small inputs.
+
+use crate::cutting::items_of;
+use crate::matching::matches;
+use crate::spelling::spells;
+use crate::tuples::tuples_of;
+use crate::walking::accepts;
+use crate::words::all_words;
+use digit_tuple::alphabet::Alphabet;
+use digit_tuple::header::Header;
+use digit_tuple::letter_set::LetterSet;
+use digit_tuple::sets::Sets;
+use regex_build::parsing::parse;
+use regex_build::position_table::positions;
+use regex_build::post::Post;
+use regex_build::regex::Regex;
+use script_cut::{Cut, Ended, SCRIPT_LIMIT, next_cut};
+use std::alloc::Global;
+use std::process::Abort;
+use std::test::Fail;
+
+// One track, whose digits are 0 and 1.
+fn two_digits(alloc: Global) -> Result<Header, Fail> {
+    let mut sets = Sets::new(alloc);
+    sets.push(LetterSet::try_new([0, 1].to_vec(alloc)?).ok_or("ascending")?)?;
+    Ok(Header::Sets(sets))
+}
+
+// Asserts that the automaton of an expression accepts just the words of fewer than five letters that
+// match it, and how many these are.
+fn accepts_the_matches(
+    rt: &impl Abort,
+    alloc: Global,
+    text: &str,
+    count: usize,
+) -> Result<(), Fail> {
+    let regex = parse(alloc, text.as_bytes(), &two_digits(alloc)?)?;
+    let alphabet = Alphabet::of_header(alloc, regex.header())?;
+    let nfa = positions(alloc, &regex)?;
+    let mut matching = 0;
+    for length in 0..5 {
+        for word in &all_words(alloc, alphabet.letters(), length)? {
+            let tuples = tuples_of(alloc, &alphabet, regex.sets(), word.letters())?;
+            let is_match = matches(regex.posts(), &tuples);
+            assert_eq!(rt; accepts(&nfa, word.letters()), is_match, "{text}");
+            if is_match {
+                matching = usize::saturating_add(matching, 1);
+            }
+        }
+    }
+    assert_eq!(rt; matching, count, "{text}");
+    Ok(())
+}
+
+#[test]
+fn automata_accept_the_matches(rt: HostRuntime) -> Result<(), Fail> {
+    let table = [
+        ("0", 1),
+        ("01", 1),
+        ("1*", 5),
+        ("0*1", 4),
+        ("10*", 4),
+        ("0**", 5),
+        ("0*0*", 5),
+        ("0*1*", 15),
+        ("1*01*", 10),
+        ("0*10*1*", 20),
+    ];
+    for (text, count) in table {
+        accepts_the_matches(&rt, rt.alloc(), text, count)?;
+    }
+    Ok(())
+}
+
+// The text that a word of four letters stands for.
+fn text_of(alloc: Global, word: &[u32]) -> Result<Vec<u8>, Fail> {
+    let mut text = Vec::new(alloc);
+    for letter in word {
+        text.push(match *letter {
+            0 => b'0',
+            1 => b'1',
+            2 => b'*',
+            _ => b' ',
+        })?;
+    }
+    Ok(text)
+}
+
+// The digits and stars of an expression over one track.
+fn digits_of(alloc: Global, regex: &Regex) -> Result<Vec<Post<u8>>, Fail> {
+    let mut digits = Vec::new(alloc);
+    for post in regex.posts() {
+        if let [digit] = post.letter.members() {
+            digits.push(Post {
+                letter: u8::try_from(*digit).unwrap_or(10),
+                stars: post.stars,
+            })?;
+        }
+    }
+    Ok(digits)
+}
+
+// Whether the text spells one of the expressions.
+fn spells_one(alloc: Global, text: &[u8], expressions: &[Vec<Post<u8>>]) -> Result<bool, Fail> {
+    for digits in expressions {
+        if spells(alloc, text, digits)? {
+            return Ok(true);
+        }
+    }
+    Ok(false)
+}
+
+#[test]
+fn what_is_parsed_is_spelled(rt: HostRuntime) -> Result<(), Fail> {
+    let alloc = rt.alloc();
+    let header = two_digits(alloc)?;
+    let mut expressions = Vec::new(alloc);
+    let mut refused = Vec::new(alloc);
+    for length in 0..5 {
+        for word in &all_words(alloc, 4, length)? {
+            let text = text_of(alloc, word.letters())?;
+            match parse(alloc, &text, &header) {
+                Ok(regex) => {
+                    let digits = digits_of(alloc, &regex)?;
+                    assert!(rt; spells(alloc, &text, &digits)?);
+                    expressions.push(digits)?;
+                }
+                Err(_) => refused.push(text)?,
+            }
+        }
+    }
+    assert_eq!(rt; expressions.len(), 224);
+    for text in &refused {
+        assert!(rt; !spells_one(alloc, text, &expressions)?);
+    }
+    Ok(())
+}
+
+// What is cut off next, if so many bytes and lines can be counted.
+fn next(left: &[u8], room: usize, line: u64) -> Option<Cut<'_>> {
+    if left.len() > u32::MAX as usize || line > u64::from(u32::MAX) {
+        return None;
+    }
+    Some(next_cut(left, room, line))
+}
+
+// Asserts that the items of a script are cut off it one after another.
+fn cut_as_listed(rt: &impl Abort, alloc: Global, script: &[u8], count: usize) -> Result<(), Fail> {
+    let items = items_of(alloc, script)?;
+    let mut left = script;
+    let mut room = SCRIPT_LIMIT;
+    let mut line = 1;
+    for item in &items {
+        match next(left, room, line).ok_or("too long")? {
+            Cut::Command(text, begin, behind, room_behind, line_behind) => {
+                assert_eq!(rt; item.ended(), Ended::Terminated);
+                assert_eq!(rt; (item.text(), item.line()), (text, begin));
+                left = behind;
+                room = room_behind;
+                line = line_behind;
+            }
+            Cut::Open(text, begin) => {
+                assert_eq!(rt; item.ended(), Ended::Unterminated);
+                assert_eq!(rt; (item.text(), item.line()), (text, begin));
+                left = b"";
+            }
+            Cut::PastLimit(begin) => {
+                assert_eq!(rt; item.ended(), Ended::PastLimit);
+                assert_eq!(rt; item.line(), begin);
+                left = b"";
+            }
+            Cut::End => assert!(rt; false),
+        }
+    }
+    assert!(rt; matches!(next(left, room, line), Some(Cut::End)));
+    assert_eq!(rt; items.len(), count);
+    Ok(())
+}
+
+#[test]
+fn scripts_are_cut_as_listed(rt: HostRuntime) -> Result<(), Fail> {
+    let table = [
+        ("", 0),
+        (" ;\n;", 0),
+        ("a", 1),
+        ("a;", 1),
+        (" a ;b", 2),
+        ("a\n;\n b;\n\nc ", 3),
+        ("\"a;b\";c;", 2),
+        ("\"a;", 1),
+        (";;a;;b\"\n;\n\";", 2),
+        ("a\"b\"c;d\"", 2),
+    ];
+    for (script, count) in table {
+        cut_as_listed(&rt, rt.alloc(), script.as_bytes(), count)?;
+    }
+    Ok(())
+}
+
+#[test]
+fn a_script_is_cut_at_its_limit(rt: HostRuntime) -> Result<(), Fail> {
+    let mut script = Vec::from_elem(rt.alloc(), b'\n', SCRIPT_LIMIT - 1)?;
+    script.push(b';')?;
+    cut_as_listed(&rt, rt.alloc(), &script, 0)?;
+    script.push(b' ')?;
+    cut_as_listed(&rt, rt.alloc(), &script, 1)
+}
