@@ -1,0 +1,15 @@
+pub mod Complete
+pub mod Sound
+pub mod Completions
+pub mod Same
+pub mod Ends
+pub mod Law
+pub mod ViewSteps
+pub mod MakingSteps
+pub mod Words
+pub mod SpotSteps
+pub mod NextSteps
+pub mod Numbers
+pub mod Depths
+pub mod AdvanceSteps
+pub mod ParseSteps

@@ -1,0 +1,308 @@
+-- A state of derivations spells what it has read.
+use Rattle.std.proofs.Common.{◌≡◌, refl, sym, ◌∙◌, ap, ℕ, suc, Bool, true, false, List, [], ◌∷◌, Option, None, Some}
+use Rattle.formula_parse.specs.Tokens.{Name, Relation, Quantifier, Connective, Sign, Letter, Token, Placed, here, value_of, name, number, system, called, mark, call_sign, negation, quantifier, comma, opening, closing, bracket, unbracket, letter_sign, sign, minus, times, relation, connective, implies, iff, other, end}
+use Rattle.formula_parse.specs.Trees.{Names, no_names, names}
+use Rattle.formula_parse.specs.Derivations.{Factor, variable, numeral, in_parens, Factors, no_factors, factors, Addends, no_addends, addends, Term, term, Terms, no_terms, terms, Index, index, Core, compare, words, word_letter, letter_word, call_none, call, not_closed, grouped, Closed, marked, Operands, Chains, Implications, Last, ends, quantified, Formula, formula, factor_then, factors_then, addends_then, term_then, arguments_then, places_then, index_then, letter_then, marks_then, variables_then, within, tildes_then, core_then, closed_then, operands_then, chains_then, implications_then, formula_then, parts, derivations}
+use Rattle.formula_parse.specs.Flaws.{Flaw, Product, product_start}
+use Rattle.formula_parse.specs.Machine.{Front, Body, Frame, Outer, Aim, Side, Where, Spelling, Position, State, after_index, after_letter, first, second, left_side, right_of, place_in, argument, on_left, on_right, at_operand, at_system, at_variable, behind_operand, behind_first, at_factor, behind_factor, behind_index, at_word, at_bracket, at_letter, at_value, behind_letter, at_called, at_call, at_argument, done, paren, scope, fresh, close, whole, wrapped, closed, leave_closed, leave, close_term, leave_whole, leave_product, leave_factor, leave_first, leave_side, leave_index, enter_word, enter_bracket, with_letter, enter_letter, enter_value, leave_letter, enter_called, enter_call, enter_factor, enter_argument, next_variable, enter, enter_system, enter_variable, step, step_at, within_where, within_outer, within_position}
+use Rattle.formula_parse.specs.Runs.{placed}
+
+-- the nesting of the formula inside of some frames
+abbrev pub nesting : List (Frame parts) → ℕ
+nesting [] = 0
+nesting (paren h y ∷ hs) = suc (within h.tildes (nesting hs))
+nesting (scope q ns n h ∷ hs) = suc (within h.tildes (nesting hs))
+
+abbrev pub front_then : Front parts → ℕ → List Placed → List Placed
+front_then r d q = implications_then r.implications d (chains_then r.chains d (operands_then r.operands d q))
+
+abbrev pub body_then : Body parts → ℕ → List Placed → List Placed
+body_then g d q = front_then g.front d (tildes_then g.tildes d (marks_then g.marks (within g.tildes d) q))
+
+abbrev pub frames_then : List (Frame parts) → List Placed → List Placed
+frames_then [] q = q
+frames_then (paren h y ∷ hs) q = frames_then hs (body_then h (nesting hs) (here opening (suc (within h.tildes (nesting hs))) ∷ q))
+frames_then (scope k ns n h ∷ hs) q =
+    let d = suc (within h.tildes (nesting hs)) in
+    frames_then hs (body_then h (nesting hs) (here (quantifier k) d ∷ variables_then ns d (here (name n) d ∷ q)))
+
+abbrev pub aim_then : Aim parts → ℕ → List Placed → List Placed
+aim_then (after_index x k) d q = index_then x d (here (relation k) d ∷ q)
+aim_then (after_letter l k) d q = letter_then l d (here (relation k) d ∷ q)
+
+abbrev pub side_then : Side parts → ℕ → List Placed → List Placed
+side_then first d q = q
+side_then (second a) d q = aim_then a d q
+
+abbrev pub where_then : Where parts → ℕ → List Placed → List Placed
+where_then left_side d q = q
+where_then (right_of t k) d q = term_then t d (here (relation k) d ∷ q)
+where_then (place_in s n ts) d q = side_then s d (here (name n) d ∷ here bracket (suc d) ∷ places_then ts d q)
+where_then (argument n ts) d q = here call_sign d ∷ here (called n) d ∷ here opening (suc d) ∷ arguments_then ts (suc d) q
+
+abbrev pub outer_then : List (Outer parts) → ℕ → List Placed → List Placed
+outer_then [] d q = q
+outer_then (x ∷ o) d q =
+    outer_then o d (addends_then x.addends (within_outer o d) (factors_then x.factors (within_outer o d) (here opening (suc (within_outer o d)) ∷ q)))
+
+abbrev pub spelling_then : Spelling parts → ℕ → List Placed → List Placed
+spelling_then on_left d q = q
+spelling_then (on_right x k) d q = index_then x d (here (relation k) d ∷ q)
+
+abbrev pub position_then : Position parts → ℕ → List Placed → List Placed
+position_then at_operand d q = q
+position_then at_system d q = here mark d ∷ q
+position_then (at_variable k ns) d q = here (quantifier k) (suc d) ∷ variables_then ns (suc d) q
+position_then (behind_operand c) d q = core_then c d q
+position_then (behind_first n) d q = here (name n) d ∷ q
+position_then (at_factor h o ss ps p) d q =
+    let e = within_where h d in
+    where_then h d (outer_then o e (addends_then ss (within_outer o e) (factors_then ps (within_outer o e) q)))
+position_then (behind_factor h o ss ps p f b) d q =
+    let e = within_where h d in
+    where_then h d (outer_then o e (addends_then ss (within_outer o e) (factors_then ps (within_outer o e) (factor_then f (within_outer o e) q))))
+position_then (behind_index s n ts t) d q = where_then (place_in s n ts) d (term_then t (suc d) (here unbracket d ∷ q))
+position_then (at_word a) d q = aim_then a d q
+position_then (at_bracket a n) d q = aim_then a d (here (name n) d ∷ q)
+position_then (at_letter c b) d q = spelling_then c d (here (letter_sign b) d ∷ q)
+position_then (at_value c b) d q = spelling_then c d (here (letter_sign b) d ∷ here (sign minus) d ∷ q)
+position_then (behind_letter l) d q = letter_then l d q
+position_then at_called d q = here call_sign d ∷ q
+position_then (at_call n) d q = here call_sign d ∷ here (called n) d ∷ q
+position_then (at_argument n) d q = here call_sign d ∷ here (called n) d ∷ here opening (suc d) ∷ q
+position_then (done f) d q = q
+
+-- what a state at a position has read
+abbrev pub at_then : State parts → Position parts → List Placed → List Placed
+at_then s (done f) q = formula_then f 0 (here end 0 ∷ q)
+at_then s p q = frames_then s.around (body_then s.body (nesting s.around) (position_then p (within s.body.tildes (nesting s.around)) q))
+
+abbrev pub state_then : State parts → List Placed → List Placed
+state_then s q = at_then s s.position q
+
+-- the nesting of a state, counted through its frames
+abbrev pub deep : State parts → ℕ
+deep s = within_position s.position (within s.body.tildes (nesting s.around))
+
+-- a body keeps the nesting of its frames, and has read nothing while it is untouched
+pub record Stands (gs : List (Frame parts)) (g : Body parts) : Type 0 where
+  pub based : g.base ≡ nesting gs
+  pub empty : g.touched ≡ false → g ≡ fresh derivations g.base
+
+abbrev pub AllStand : List (Frame parts) → Type 0
+AllStand [] = Unit {0}
+AllStand (paren h y ∷ hs) = Stands hs h × AllStand hs
+AllStand (scope k ns n h ∷ hs) = Stands hs h × AllStand hs
+
+pub record Sane (s : State parts) : Type 0 where
+  pub body : Stands s.around s.body
+  pub frames : AllStand s.around
+
+-- the state that comes has read a token more
+pub record ReadsOn (n : State parts) (k : List Placed → List Placed) (c : ℕ → Placed) : Type 0 where
+  pub sane : Sane n
+  pub spells : (q : List Placed) → state_then n q ≡ k (c (deep n) ∷ q)
+
+abbrev pub GoesOn : Option (State parts) → (List Placed → List Placed) → (ℕ → Placed) → Type 0
+GoesOn None k c = Unit {0}
+GoesOn (Some n) k c = ReadsOn n k c
+
+-- the same formula, with another position
+goes : {n : State parts} {k : List Placed → List Placed} {c : ℕ → Placed} → Sane n → ((q : List Placed) → state_then n q ≡ k (c (deep n) ∷ q)) → ReadsOn n k c
+goes s h = record { sane = s; spells = h }
+
+true_false : {X : Type 0} → true ≡ false → X
+true_false e = cc
+
+pub wrapped_then : (ts : List Names) (c : Closed) (d : ℕ) (q : List Placed) → closed_then (wrapped derivations ts c) d q ≡ tildes_then ts d (closed_then c (within ts d) q)
+wrapped_then [] c d q = refl
+wrapped_then (ms ∷ ts) c d q = wrapped_then ts (marked ms (not_closed c)) d q
+
+close_goes : (w : Option Flaw) (gs : List (Frame parts)) (f : Formula) (t : Token) → AllStand gs → GoesOn (close derivations w gs f t) (λ q. frames_then gs (formula_then f (nesting gs) q)) (here t)
+close_goes w [] f end a = goes (record { body = record { based = refl; empty = λ e. refl }; frames = tt }) (λ q. refl)
+close_goes w [] f _ a = tt
+close_goes w (paren h y ∷ hs) f closing a = goes (record { body = a.0; frames = a.1 }) (λ q. refl)
+close_goes w (paren h y ∷ hs) f _ a = tt
+close_goes w (scope k ns n h ∷ hs) f t a = close_goes w hs (whole derivations h.front (quantified h.tildes h.marks k ns n f)) t a.1
+
+-- a state with another position
+abbrev pub at : State parts → Position parts → State parts
+at s p = record s { position = p }
+
+closed_goes : (s : State parts) (c : Closed) (t : Token) → Sane s → GoesOn (leave_closed derivations s s.body.front c t) (λ q. frames_then s.around (front_then s.body.front (nesting s.around) (closed_then c (nesting s.around) q))) (here t)
+closed_goes s c (connective k b) a = goes (record { body = record { based = a.body.based; empty = λ e. true_false e }; frames = a.frames }) (λ q. refl)
+closed_goes s c (implies b) a = goes (record { body = record { based = a.body.based; empty = λ e. true_false e }; frames = a.frames }) (λ q. refl)
+closed_goes s c iff a = goes (record { body = record { based = a.body.based; empty = λ e. true_false e }; frames = a.frames }) (λ q. refl)
+closed_goes s c t a = close_goes s.flaw s.around (whole derivations s.body.front (ends c)) t a.frames
+
+-- what was spelled before may be spelled otherwise
+respelled : (o : Option (State parts)) (k j : List Placed → List Placed) (c : ℕ → Placed) → ((q : List Placed) → k q ≡ j q) → GoesOn o k c → GoesOn o j c
+respelled None k j c e h = tt
+respelled (Some n) k j c e h = goes h.sane (λ q. h.spells q ∙ e _)
+
+leave_goes : (s : State parts) (c : Core) (t : Token) → Sane s → GoesOn (leave derivations s c t) (state_then (at s (behind_operand c))) (here t)
+leave_goes s c t a =
+    respelled
+    (leave derivations s c t)
+    _
+    (state_then (at s (behind_operand c)))
+    (here t)
+    (λ q. ap (λ z. frames_then s.around (front_then s.body.front (nesting s.around) z)) (wrapped_then s.body.tildes (marked s.body.marks c) (nesting s.around) q))
+    (closed_goes s (closed derivations s.body c) t a)
+
+-- the body stays as it is
+stays : {s : State parts} (p : Position parts) → Sane s → Sane (at s p)
+stays p a = record { body = a.body; frames = a.frames }
+
+close_term_goes : (s : State parts) (gs : List (Frame parts)) (g : Body parts) (b : Bool) (t : Term) (q : Bool) → b ≡ g.touched → Stands gs g → AllStand gs → GoesOn (close_term derivations s gs b t q) (λ r. frames_then gs (body_then g (nesting gs) (term_then t (within g.tildes (nesting gs)) r))) (here closing)
+close_term_goes s (paren h y ∷ hs) g false t q e a b =
+    goes
+    (record { body = b.0; frames = b.1 })
+    (λ r.
+    ap
+    (λ (z : Body parts).
+    frames_then
+    (paren h y ∷ hs)
+    (body_then z (nesting (paren h y ∷ hs)) (term_then t (within z.tildes (nesting (paren h y ∷ hs))) (here closing (within h.tildes (nesting hs)) ∷ r))))
+    (sym (a.empty (sym e))))
+close_term_goes s (paren h y ∷ hs) g true t q e a b = tt
+close_term_goes s (scope k ns n h ∷ hs) g c t q e a b = tt
+close_term_goes s [] g c t q e a b = tt
+
+whole_goes : (s : State parts) (h : Where parts) (t : Term) (q : Bool) (u : Token) → Sane s → GoesOn (leave_whole derivations s h t q u) (λ r. frames_then s.around (body_then s.body (nesting s.around) (where_then h (within s.body.tildes (nesting s.around)) (term_then t (within_where h (within s.body.tildes (nesting s.around))) r)))) (here u)
+whole_goes s left_side t q (relation k) a = goes (stays _ a) (λ r. refl)
+whole_goes s left_side t q closing a = close_term_goes s s.around s.body s.body.touched t q refl a.body a.frames
+whole_goes s left_side t q _ a = tt
+whole_goes s (right_of l k) t q u a = leave_goes s (compare l k t) u a
+whole_goes s (place_in d n ts) t q unbracket a = goes (stays _ a) (λ r. refl)
+whole_goes s (place_in d n ts) t q _ a = tt
+whole_goes s (argument n ts) t q comma a = goes (stays _ a) (λ r. refl)
+whole_goes s (argument n ts) t q closing a = goes (stays _ a) (λ r. refl)
+whole_goes s (argument n ts) t q _ a = tt
+
+product_goes : (s : State parts) (h : Where parts) (o : List (Outer parts)) (ss : Addends) (ps : Factors) (f : Factor) (q : Bool) (u : Token) → Sane s → GoesOn (leave_product derivations s h o (term ss ps f) q u) (state_then (at s (behind_factor h o ss ps (product_start true) f q))) (here u)
+product_goes s h [] ss ps f q u a = whole_goes s h (term ss ps f) q u a
+product_goes s h (x ∷ o) ss ps f q closing a = goes (record { body = a.body; frames = a.frames }) (λ r. refl)
+product_goes s h (x ∷ o) ss ps f q _ a = tt
+
+leave_factor_goes : (s : State parts) (h : Where parts) (o : List (Outer parts)) (ss : Addends) (ps : Factors) (p : Product) (f : Factor) (q : Bool) (u : Token) → Sane s → GoesOn (leave_factor derivations s h o ss ps p f q u) (state_then (at s (behind_factor h o ss ps p f q))) (here u)
+leave_factor_goes s h o ss ps p f q (times b) a = goes (stays _ a) (λ r. refl)
+leave_factor_goes s h o ss ps p f q (sign k) a = goes (stays _ a) (λ r. refl)
+leave_factor_goes s h o ss ps p f q t a = product_goes s h o ss ps f _ t a
+
+first_goes : (s : State parts) (n : Name) (u : Token) → Sane s → GoesOn (leave_first derivations s n u) (state_then (at s (behind_first n))) (here u)
+first_goes s n bracket a = goes (stays _ a) (λ r. refl)
+first_goes s n t a = leave_factor_goes s left_side [] no_addends no_factors (product_start true) (variable n) false t a
+
+side_goes : (s : State parts) (d : Side parts) (n : Name) (ts : Terms) (t : Term) (u : Token) → Sane s → GoesOn (leave_side derivations s d (index n ts t) u) (state_then (at s (behind_index d n ts t))) (here u)
+side_goes s first n ts t (relation k) a = goes (stays _ a) (λ r. refl)
+side_goes s first n ts t _ a = tt
+side_goes s (second (after_index z k)) n ts t u a = leave_goes s (words z k (index n ts t)) u a
+side_goes s (second (after_letter l k)) n ts t u a = leave_goes s (letter_word l k (index n ts t)) u a
+
+index_goes : (s : State parts) (d : Side parts) (n : Name) (ts : Terms) (t : Term) (u : Token) → Sane s → GoesOn (leave_index derivations s d n ts t u) (state_then (at s (behind_index d n ts t))) (here u)
+index_goes s d n ts t bracket a = goes (stays _ a) (λ r. refl)
+index_goes s d n ts t u a = side_goes s d n ts t u a
+
+word_goes : (s : State parts) (m : Aim parts) (u : Token) → Sane s → GoesOn (enter_word derivations s m u) (state_then (at s (at_word m))) (here u)
+word_goes s m (name n) a = goes (stays _ a) (λ r. refl)
+word_goes s (after_index x k) (letter_sign b) a = goes (stays _ a) (λ r. refl)
+word_goes s m _ a = tt
+
+bracket_goes : (s : State parts) (m : Aim parts) (n : Name) (u : Token) → Sane s → GoesOn (enter_bracket derivations s m n u) (state_then (at s (at_bracket m n))) (here u)
+bracket_goes s m n bracket a = goes (stays _ a) (λ r. refl)
+bracket_goes s m n _ a = tt
+
+letter_goes : (s : State parts) (c : Spelling parts) (b : ℕ) (u : Token) → Sane s → GoesOn (enter_letter derivations s c b u) (state_then (at s (at_letter c b))) (placed (at_letter c b) u)
+letter_goes s on_left b (number v) a = goes (stays _ a) (λ r. refl)
+letter_goes s (on_right x k) b (number v) a = goes (stays _ a) (λ r. refl)
+letter_goes s c b (sign minus) a = goes (stays _ a) (λ r. refl)
+letter_goes s c b _ a = tt
+
+value_goes : (s : State parts) (c : Spelling parts) (b : ℕ) (u : Token) → Sane s → GoesOn (enter_value derivations s c b u) (state_then (at s (at_value c b))) (placed (at_value c b) u)
+value_goes s on_left b (number v) a = goes (stays _ a) (λ r. refl)
+value_goes s (on_right x k) b (number v) a = goes (stays _ a) (λ r. refl)
+value_goes s c b _ a = tt
+
+leave_letter_goes : (s : State parts) (l : Letter) (u : Token) → Sane s → GoesOn (leave_letter derivations s l u) (state_then (at s (behind_letter l))) (here u)
+leave_letter_goes s l (relation k) a = goes (stays _ a) (λ r. refl)
+leave_letter_goes s l _ a = tt
+
+called_goes : (s : State parts) (u : Token) → Sane s → GoesOn (enter_called derivations s u) (state_then (at s at_called)) (here u)
+called_goes s (called n) a = goes (stays _ a) (λ r. refl)
+called_goes s _ a = tt
+
+call_goes : (s : State parts) (n : Name) (u : Token) → Sane s → GoesOn (enter_call derivations s n u) (state_then (at s (at_call n))) (here u)
+call_goes s n opening a = goes (stays _ a) (λ r. refl)
+call_goes s n _ a = tt
+
+factor_goes : (s : State parts) (h : Where parts) (o : List (Outer parts)) (ss : Addends) (ps : Factors) (p : Product) (u : Token) → Sane s → GoesOn (enter_factor derivations s h o ss ps p u) (state_then (at s (at_factor h o ss ps p))) (here u)
+factor_goes s h o ss ps p opening a = goes (stays _ a) (λ r. refl)
+factor_goes s h o ss ps p (name n) a = goes (record { body = a.body; frames = a.frames }) (λ r. refl)
+factor_goes s h o ss ps p (number n) a = goes (record { body = a.body; frames = a.frames }) (λ r. refl)
+factor_goes s h o ss ps p _ a = tt
+
+argument_goes : (s : State parts) (n : Name) (u : Token) → Sane s → GoesOn (enter_argument derivations s n u) (state_then (at s (at_argument n))) (here u)
+argument_goes s n closing a = goes (stays _ a) (λ r. refl)
+argument_goes s n t a = factor_goes s (argument n no_terms) [] no_addends no_factors (product_start true) t a
+
+next_goes : (s : State parts) (gs : List (Frame parts)) (g : Body parts) (b : Bool) → b ≡ g.touched → Stands gs g → AllStand gs → GoesOn (next_variable derivations s gs b) (λ r. frames_then gs (body_then g (nesting gs) r)) (here comma)
+next_goes s (scope k ns n h ∷ hs) g false e a b =
+    goes
+    (record { body = b.0; frames = b.1 })
+    (λ r.
+    ap
+    (λ (z : Body parts).
+    frames_then (scope k ns n h ∷ hs) (body_then z (nesting (scope k ns n h ∷ hs)) (here comma (suc (within h.tildes (nesting hs))) ∷ r)))
+    (sym (a.empty (sym e))))
+next_goes s (scope k ns n h ∷ hs) g true e a b = tt
+next_goes s (paren h y ∷ hs) g c e a b = tt
+next_goes s [] g c e a b = tt
+
+-- a body inside of another one
+inside : (gs : List (Frame parts)) (g : Body parts) → Stands gs g → suc (within g.tildes g.base) ≡ suc (within g.tildes (nesting gs))
+inside gs g a = ap (λ b. suc (within g.tildes b)) a.based
+
+enter_goes : (s : State parts) (u : Token) → Sane s → GoesOn (enter derivations s u) (state_then (at s at_operand)) (here u)
+enter_goes s mark a = goes (stays _ a) (λ r. refl)
+enter_goes s negation a = goes (record { body = record { based = a.body.based; empty = λ e. true_false e }; frames = a.frames }) (λ r. refl)
+enter_goes s (quantifier q) a = goes (stays _ a) (λ r. refl)
+enter_goes s opening a =
+    goes (record { body = record { based = inside s.around s.body a.body; empty = λ e. refl }; frames = (a.body, a.frames) }) (λ r. refl)
+enter_goes s (name n) a = goes (stays _ a) (λ r. refl)
+enter_goes s (number n) a = goes (record { body = a.body; frames = a.frames }) (λ r. refl)
+enter_goes s (letter_sign b) a = goes (stays _ a) (λ r. refl)
+enter_goes s call_sign a = goes (stays _ a) (λ r. refl)
+enter_goes s comma a = next_goes s s.around s.body s.body.touched refl a.body a.frames
+enter_goes s _ a = tt
+
+system_goes : (s : State parts) (u : Token) → Sane s → GoesOn (enter_system derivations s u) (state_then (at s at_system)) (here u)
+system_goes s (system n) a = goes (record { body = record { based = a.body.based; empty = λ e. true_false e }; frames = a.frames }) (λ r. refl)
+system_goes s _ a = tt
+
+variable_goes : (s : State parts) (q : Quantifier) (ns : Names) (u : Token) → Sane s → GoesOn (enter_variable derivations s q ns u) (state_then (at s (at_variable q ns))) (here u)
+variable_goes s q ns (name n) a =
+    goes (record { body = record { based = inside s.around s.body a.body; empty = λ e. refl }; frames = (a.body, a.frames) }) (λ r. refl)
+variable_goes s q ns _ a = tt
+
+position_goes : (s : State parts) (p : Position parts) (u : Token) → Sane s → GoesOn (step_at derivations s p u) (state_then (at s p)) (placed p u)
+position_goes s at_operand u a = enter_goes s u a
+position_goes s at_system u a = system_goes s u a
+position_goes s (at_variable q ns) u a = variable_goes s q ns u a
+position_goes s (behind_operand c) u a = leave_goes s c u a
+position_goes s (behind_first n) u a = first_goes s n u a
+position_goes s (at_factor h o ss ps p) u a = factor_goes s h o ss ps p u a
+position_goes s (behind_factor h o ss ps p f q) u a = leave_factor_goes s h o ss ps p f q u a
+position_goes s (behind_index d n ts t) u a = index_goes s d n ts t u a
+position_goes s (at_word m) u a = word_goes s m u a
+position_goes s (at_bracket m n) u a = bracket_goes s m n u a
+position_goes s (at_letter c b) u a = letter_goes s c b u a
+position_goes s (at_value c b) u a = value_goes s c b u a
+position_goes s (behind_letter l) u a = leave_letter_goes s l u a
+position_goes s at_called u a = called_goes s u a
+position_goes s (at_call n) u a = call_goes s n u a
+position_goes s (at_argument n) u a = argument_goes s n u a
+position_goes s (done f) u a = tt
+
+pub step_goes : (s : State parts) (u : Token) → Sane s → GoesOn (step derivations s u) (state_then s) (placed s.position u)
+step_goes s u a = position_goes s s.position u a

@@ -1,0 +1,17 @@
+pub mod Tokens
+pub mod Trees
+pub mod Making
+pub mod Derivations
+pub mod Systems
+pub mod Flaws
+pub mod Machine
+pub mod Grammar
+pub mod Runs
+pub mod Bytes
+pub mod Spots
+pub mod Views
+pub mod StateViews
+pub mod Stops
+pub mod LexemeViews
+pub mod Advances
+pub mod Parsing

@@ -1,0 +1,175 @@
+-- The tokens, flaws and states that values stand for.
+use Rattle.std.specs.Prelude.{◌≡◌, ◌<◌, ◌≤◌, ℕ, List, [], ◌∷◌, Option, None, Some, Vec, Result, Ok, Err, ⊤}
+use Rattle.std.specs.List.{fold}
+use Rattle.std.specs.declared.alloc.Global.{Global}
+use Rattle.formula_parse.specs.Tokens as tokens
+use Rattle.formula_parse.specs.Trees as trees
+use Rattle.formula_parse.specs.Flaws as flaws
+use Rattle.formula_parse.specs.Machine as machine
+use Rattle.formula_parse.specs.Grammar.{made}
+use Rattle.formula_parse.specs.Views.{relation_view, quantifier_view, sign_view, names_view, term_view, terms_view, addends_view, index_view, formula_view, operands_view}
+use Rattle.formula_parse.specs.declared.token.ChainSign.{ChainSign}
+use Rattle.formula_parse.specs.declared.token.ChainSign.TheVariants as chain_signs
+use Rattle.formula_parse.specs.declared.token.Token.{Token}
+use Rattle.formula_parse.specs.declared.token.Token.TheVariants as token
+use Rattle.formula_parse.specs.declared.flaw.Flaw.{Flaw}
+use Rattle.formula_parse.specs.declared.flaw.Flaw.TheVariants as flaw
+use Rattle.formula_parse.specs.declared.flaw.Product.{Product}
+use Rattle.formula_parse.specs.declared.flaw.Came.{Came}
+use Rattle.formula_parse.specs.declared.state.Front.{Front}
+use Rattle.formula_parse.specs.declared.state.Body.{Body}
+use Rattle.formula_parse.specs.declared.state.Frame.{Frame}
+use Rattle.formula_parse.specs.declared.state.Frame.TheVariants as frames
+use Rattle.formula_parse.specs.declared.state.Outer.{Outer}
+use Rattle.formula_parse.specs.declared.state.Aim.{Aim}
+use Rattle.formula_parse.specs.declared.state.Aim.TheVariants as aims
+use Rattle.formula_parse.specs.declared.state.Side.{Side}
+use Rattle.formula_parse.specs.declared.state.Side.TheVariants as sides
+use Rattle.formula_parse.specs.declared.state.Place.{Place}
+use Rattle.formula_parse.specs.declared.state.Place.TheVariants as places
+use Rattle.formula_parse.specs.declared.state.Spelling.{Spelling}
+use Rattle.formula_parse.specs.declared.state.Spelling.TheVariants as spellings
+use Rattle.formula_parse.specs.declared.state.Reading.{Reading}
+use Rattle.formula_parse.specs.declared.state.Position.{Position}
+use Rattle.formula_parse.specs.declared.state.Position.TheVariants as positions
+use Rattle.formula_parse.specs.declared.state.Context.{Context}
+use Rattle.formula_parse.specs.declared.state.State.{State}
+use Rattle.formula_parse.specs.declared.tree.Term.{Term}
+
+abbrev pub chain_sign_view : ChainSign → tokens.Connective
+chain_sign_view chain_signs.And = tokens.and
+chain_sign_view chain_signs.Or = tokens.or
+chain_sign_view chain_signs.Xor = tokens.xor
+
+abbrev pub token_view : Token → tokens.Token
+token_view (token.Name n) = tokens.name n.items
+token_view (token.Number n) = tokens.number n
+token_view (token.System n) = tokens.system n.items
+token_view (token.Called n) = tokens.called n.items
+token_view token.Mark = tokens.mark
+token_view token.CallSign = tokens.call_sign
+token_view token.Negation = tokens.negation
+token_view (token.Quantifier q) = tokens.quantifier (quantifier_view q)
+token_view token.Comma = tokens.comma
+token_view token.Opening = tokens.opening
+token_view token.Closing = tokens.closing
+token_view token.Bracket = tokens.bracket
+token_view token.Unbracket = tokens.unbracket
+token_view (token.LetterSign b) = tokens.letter_sign b
+token_view (token.Sign s) = tokens.sign (sign_view s)
+token_view (token.Times b) = tokens.times b
+token_view (token.Relation r) = tokens.relation (relation_view r)
+token_view (token.Connective k b) = tokens.connective (chain_sign_view k) b
+token_view (token.Implies b) = tokens.implies b
+token_view token.Iff = tokens.iff
+token_view token.Other = tokens.other
+token_view token.End = tokens.end
+
+abbrev pub flaw_view : Flaw → flaws.Flaw
+flaw_view (flaw.MixedChain b) = flaws.mixed_chain b
+flaw_view (flaw.NotLinear b) = flaws.not_linear b
+
+abbrev pub noted_view : Option Flaw → Option flaws.Flaw
+noted_view None = None
+noted_view (Some f) = Some (flaw_view f)
+
+abbrev pub product_view : Product → flaws.Product
+product_view p = record { lone = p.lone; unknown = p.unknown; star = p.star }
+
+abbrev pub came_view : Came → flaws.Came
+came_view c = record { or_came = c.or_came; xor_came = c.xor_came }
+
+abbrev pub front_view : Front → machine.Front made
+front_view f = record {
+  implications = operands_view f.implications.items;
+  chains = operands_view f.chains.items;
+  operands = operands_view f.operands.items;
+  came = came_view f.came;
+  implied = f.implied;
+}
+
+-- the marks before some `~`, the last first
+abbrev pub tildes_view : List (Vec (Vec ℕ Global) Global) → List trees.Names
+tildes_view ts = fold (λ (st : List trees.Names) (ms : Vec (Vec ℕ Global) Global). names_view ms.items ∷ st) [] ts
+
+abbrev pub body_view : Body → machine.Body made
+body_view b = record {
+  base = b.base;
+  front = front_view b.front;
+  tildes = tildes_view b.before.tildes.items;
+  marks = names_view b.before.marks.items;
+  touched = b.touched;
+}
+
+abbrev pub frame_view : Frame → machine.Frame made
+frame_view (frames.Paren b y) = machine.paren (body_view b) y.items
+frame_view (frames.Scope q ns n b) = machine.scope (quantifier_view q) (names_view ns.items) n.items (body_view b)
+
+-- the innermost first
+abbrev pub frames_view : List Frame → List (machine.Frame made)
+frames_view fs = fold (λ gs f. frame_view f ∷ gs) [] fs
+
+abbrev pub outer_view : Outer → machine.Outer made
+outer_view o = record { addends = addends_view o.addends.items; factors = terms_view o.factors.items; product = product_view o.product }
+
+abbrev pub outers_view : List Outer → List (machine.Outer made)
+outers_view os = fold (λ gs o. outer_view o ∷ gs) [] os
+
+abbrev pub aim_view : Aim → machine.Aim made
+aim_view (aims.AfterIndex x r) = machine.after_index (index_view x) (relation_view r)
+aim_view (aims.AfterLetter l r) = machine.after_letter l (relation_view r)
+
+abbrev pub side_view : Side → machine.Side made
+side_view sides.First = machine.first
+side_view (sides.Second a) = machine.second (aim_view a)
+
+abbrev pub place_view : Place → machine.Where made
+place_view places.LeftSide = machine.left_side
+place_view (places.RightOf t r) = machine.right_of (term_view t) (relation_view r)
+place_view (places.PlaceIn s n ts) = machine.place_in (side_view s) n.items (terms_view ts.items)
+place_view (places.Argument n ts) = machine.argument n.items (terms_view ts.items)
+
+abbrev pub spelling_view : Spelling → machine.Spelling made
+spelling_view spellings.OnLeft = machine.on_left
+spelling_view (spellings.OnRight x r) = machine.on_right (index_view x) (relation_view r)
+
+abbrev pub position_view : Position → machine.Position made
+position_view positions.AtOperand = machine.at_operand
+position_view positions.AtSystem = machine.at_system
+position_view (positions.AtVariable q ns) = machine.at_variable (quantifier_view q) (names_view ns.items)
+position_view (positions.BehindOperand f) = machine.behind_operand (formula_view f)
+position_view (positions.BehindFirst n) = machine.behind_first n.items
+position_view (positions.AtFactor r) = machine.at_factor (place_view r.place) (outers_view r.outer.items) (addends_view r.addends.items) (terms_view r.factors.items) (product_view r.product)
+position_view (positions.BehindFactor r t q) = machine.behind_factor (place_view r.place) (outers_view r.outer.items) (addends_view r.addends.items) (terms_view r.factors.items) (product_view r.product) (term_view t) q
+position_view (positions.BehindIndex s n ts t) = machine.behind_index (side_view s) n.items (terms_view ts.items) (term_view t)
+position_view (positions.AtWord a) = machine.at_word (aim_view a)
+position_view (positions.AtBracket a n) = machine.at_bracket (aim_view a) n.items
+position_view (positions.AtLetter c b) = machine.at_letter (spelling_view c) b
+position_view (positions.AtValue c b) = machine.at_value (spelling_view c) b
+position_view (positions.BehindLetter l) = machine.behind_letter l
+position_view positions.AtCalled = machine.at_called
+position_view (positions.AtCall n) = machine.at_call n.items
+position_view (positions.AtArgument n) = machine.at_argument n.items
+position_view (positions.Done f) = machine.done (formula_view f)
+
+abbrev pub Machine : Type 0
+Machine = machine.State made
+
+-- a state whose position does not matter
+abbrev pub context_view : Context → Machine
+context_view c = record {
+  around = frames_view c.around.items;
+  body = body_view c.body;
+  system = c.system.items;
+  flaw = noted_view c.flaw;
+  position = machine.at_operand;
+}
+
+abbrev pub state_view : State → Machine
+state_view s = record {
+  around = frames_view s.context.around.items;
+  body = body_view s.context.body;
+  system = s.context.system.items;
+  flaw = noted_view s.context.flaw;
+  position = position_view s.position;
+}

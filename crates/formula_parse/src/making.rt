@@ -1,0 +1,170 @@
+//! How trees are made of their parts. Parentheses leave no mark, and a list of one is its item.
+
+ghost use Rattle.std.specs.Prelude.{◌≡◌, IfOk};
+ghost use Rattle.formula_parse.specs.Trees as trees;
+ghost use Rattle.formula_parse.specs.Grammar as grammar;
+ghost use Rattle.formula_parse.specs.Views.{term_view, terms_view, addends_view, formula_view, operands_view, names_view, sign_view, connective_view, quantifier_view, fact_view};
+ghost use Rattle.formula_parse.specs.StateViews.{tildes_view};
+
+use crate::state::Before;
+use crate::tree::{
+    Addend, Atom, Connective, Fact, Formula, Index, Operand, Quantifier, Sign, Term,
+};
+use std::alloc::{AllocError, Global};
+
+/// The product of some factors and the last.
+#[tactic(auto, using(crate::proofs::MakingSteps::multiplied_none, crate::proofs::MakingSteps::multiplied_more))]
+pub fn multiplied(mut factors: Vec<Term>, last: Term) -> Result<Term, AllocError>
+    ensures { IfOk result (λ t. term_view t ≡ grammar.multiplied (terms_view factors.items) (term_view last)) }
+{
+    if factors.is_empty() {
+        return Ok(last);
+    }
+    factors.push(last)?;
+    Ok(Term::Product(factors))
+}
+
+/// The sum of some addends and the last.
+#[tactic(auto, using(crate::proofs::MakingSteps::summed_none, crate::proofs::MakingSteps::summed_more))]
+pub fn summed(alloc: Global, addends: Vec<Addend>, last: Term) -> Result<Term, AllocError>
+    ensures { IfOk result (λ t. term_view t ≡ grammar.summed (addends_view addends.items) (term_view last)) }
+{
+    if addends.is_empty() {
+        return Ok(last);
+    }
+    Ok(Term::Sum(addends, Box::new(alloc, last)?))
+}
+
+/// The addends with one more.
+pub fn with_addend(
+    mut addends: Vec<Addend>,
+    term: Term,
+    sign: Sign,
+) -> Result<Vec<Addend>, AllocError>
+    ensures { IfOk result (λ v. addends_view v.items ≡ trees.addends (addends_view addends.items) (term_view term) (sign_view sign)) }
+{
+    addends.push(Addend { term, sign })?;
+    Ok(addends)
+}
+
+/// The chain of some operands and the last.
+#[tactic(auto, using(crate::proofs::MakingSteps::chained_none, crate::proofs::MakingSteps::chained_more))]
+pub fn chained(alloc: Global, operands: Vec<Operand>, last: Formula) -> Result<Formula, AllocError>
+    ensures { IfOk result (λ f. formula_view f ≡ grammar.chained (operands_view operands.items) (formula_view last)) }
+{
+    if operands.is_empty() {
+        return Ok(last);
+    }
+    Ok(Formula::Chain(operands, Box::new(alloc, last)?))
+}
+
+/// The operands with one more.
+pub fn with_operand(
+    mut operands: Vec<Operand>,
+    formula: Formula,
+    connective: Connective,
+) -> Result<Vec<Operand>, AllocError>
+    ensures { IfOk result (λ v. operands_view v.items ≡ trees.operands (operands_view operands.items) (formula_view formula) (connective_view connective)) }
+{
+    operands.push(Operand {
+        formula,
+        connective,
+    })?;
+    Ok(operands)
+}
+
+/// A formula behind some marks.
+#[tactic(auto, using(crate::proofs::MakingSteps::marks_none, crate::proofs::MakingSteps::marks_more))]
+pub fn under_marks(
+    alloc: Global,
+    marks: Vec<Vec<u8>>,
+    formula: Formula,
+) -> Result<Formula, AllocError>
+    ensures { IfOk result (λ f. formula_view f ≡ grammar.under_marks (names_view marks.items) (formula_view formula)) }
+{
+    if marks.is_empty() {
+        return Ok(formula);
+    }
+    Ok(Formula::Marked(marks, Box::new(alloc, formula)?))
+}
+
+/// The negation of a formula.
+#[tactic(auto, using(crate::proofs::ViewSteps::view_negated))]
+pub fn negated(alloc: Global, formula: Formula) -> Result<Formula, AllocError>
+    ensures { IfOk result (λ f. formula_view f ≡ trees.negated (formula_view formula)) }
+{
+    Ok(Formula::Negated(Box::new(alloc, formula)?))
+}
+
+/// A formula behind some `~`, the last first, each with the marks before it.
+pub fn under_tildes(
+    alloc: Global,
+    mut tildes: Vec<Vec<Vec<u8>>>,
+    formula: Formula,
+) -> Result<Formula, AllocError>
+    ensures { IfOk result (λ f. formula_view f ≡ grammar.under_tildes (tildes_view tildes.items) (formula_view formula)) }
+{
+    match tildes.pop() {
+        None => Ok(formula),
+        Some(marks) => {
+            let negated = negated(alloc, formula)?;
+            let marked = under_marks(alloc, marks, negated)?;
+            under_tildes(alloc, tildes, marked)
+        }
+    }
+}
+
+/// A fact in a system.
+#[tactic(auto, using(crate::proofs::ViewSteps::view_atom))]
+pub fn atom(alloc: Global, system: &[u8], fact: Fact) -> Result<Formula, AllocError>
+    ensures { IfOk result (λ f. formula_view f ≡ grammar.in_system system.now (fact_view fact)) }
+{
+    Ok(Formula::Atom(Atom {
+        system: Vec::from_slice(alloc, system)?,
+        fact,
+    }))
+}
+
+/// A quantifier's formula.
+#[tactic(auto, using(crate::proofs::MakingSteps::scope_made))]
+fn scope(
+    alloc: Global,
+    quantifier: Quantifier,
+    mut names: Vec<Vec<u8>>,
+    last: Vec<u8>,
+    formula: Formula,
+) -> Result<Formula, AllocError>
+    ensures { IfOk result (λ f. formula_view f ≡ trees.quantified (quantifier_view quantifier)
+        (trees.names (names_view names.items) last.items) (formula_view formula)) }
+{
+    names.push(last)?;
+    Ok(Formula::Quantified(quantifier, names, Box::new(alloc, formula)?))
+}
+
+/// A quantifier's formula, with the marks and `~` before it.
+pub fn quantified(
+    alloc: Global,
+    before: Before,
+    quantifier: Quantifier,
+    names: Vec<Vec<u8>>,
+    last: Vec<u8>,
+    formula: Formula,
+) -> Result<Formula, AllocError>
+    ensures { IfOk result (λ f. formula_view f ≡ grammar.trees.quantified
+        (tildes_view before.tildes.items) (names_view before.marks.items)
+        (quantifier_view quantifier) (names_view names.items) last.items (formula_view formula)) }
+{
+    let scope = scope(alloc, quantifier, names, last, formula)?;
+    let marked = under_marks(alloc, before.marks, scope)?;
+    let whole = under_tildes(alloc, before.tildes, marked)?;
+    Ok(whole)
+}
+
+/// A word at some places and a last one.
+pub fn index(word: Vec<u8>, mut places: Vec<Term>, last: Term) -> Result<Index, AllocError>
+    ensures word { IfOk result (λ x. x.word.items ≡ word.items) }
+    ensures places { IfOk result (λ x. terms_view x.places.items ≡ trees.terms (terms_view places.items) (term_view last)) }
+{
+    places.push(last)?;
+    Ok(Index { word, places })
+}

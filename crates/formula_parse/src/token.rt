@@ -1,0 +1,63 @@
+//! The tokens of a formula.
+
+ghost use Rattle.std.specs.Prelude.{◌≡◌};
+
+use crate::tree::{Connective, Quantifier, Relation, Sign};
+
+/// The connectives of a chain.
+#[derive(Clone, Copy, Debug, PartialEq, Eq)]
+pub(crate) enum ChainSign {
+    And,
+    Or,
+    Xor,
+}
+
+/// A token. Those at which a fault of the second pass may stand, and the `@`, keep their byte.
+#[derive(Drop)]
+pub(crate) enum Token {
+    /// A variable or a word.
+    Name(Vec<u8>),
+    /// A numeral below 2^64.
+    Number(u64),
+    /// The system behind a `?`.
+    System(Vec<u8>),
+    /// The name behind a `$`.
+    Called(Vec<u8>),
+    Mark,
+    CallSign,
+    Negation,
+    Quantifier(Quantifier),
+    Comma,
+    Opening,
+    Closing,
+    Bracket,
+    Unbracket,
+    LetterSign(usize),
+    Sign(Sign),
+    Times(usize),
+    Relation(Relation),
+    Connective(ChainSign, usize),
+    Implies(usize),
+    Iff,
+    /// A byte that begins none.
+    Other,
+    /// The end of the text.
+    End,
+}
+
+impl ChainSign {
+    ghost use Rattle.formula_parse.specs.Grammar.{joint};
+    ghost use Rattle.formula_parse.specs.Views.{connective_view};
+    ghost use Rattle.formula_parse.specs.StateViews.{chain_sign_view};
+
+    /// The connective of the tree.
+    pub fn connective(self) -> Connective
+        ensures { connective_view result ≡ joint (chain_sign_view self) }
+    {
+        match self {
+            ChainSign::And => Connective::And,
+            ChainSign::Or => Connective::Or,
+            ChainSign::Xor => Connective::Xor,
+        }
+    }
+}
