@@ -1,4 +1,5 @@
 pub mod Words
 pub mod Walks
+pub mod Ends
 pub mod Scripts
 pub mod Readings

@@ -5,4 +5,4 @@ use Rattle.reference.specs.declared.cutting.Reading.{Reading}
 
 -- the reading has read just these bytes
 abbrev pub IsReadingOf : List ℕ → Reading → Type 0
-IsReadingOf bytes reading = HasRead bytes reading.items.items reading.text.items reading.begin reading.line reading.quoted
+IsReadingOf bytes reading = HasRead bytes reading.items.items reading.text.items reading.begin reading.line reading.commented reading.quoted

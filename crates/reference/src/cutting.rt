@@ -1,30 +1,43 @@
 //! The items of a script, byte by byte.
 
-ghost use Rattle.std.specs.Prelude.{◌≡◌, ◌++◌, ◌∷◌, [], ◌<◌, ◌≤◌, ℕ, List, IfOk, OnOk, length};
-ghost use Rattle.script_cut.specs.Cuts.{HasItems, start};
-ghost use Rattle.script_cut.specs.Texts.{is_gap as is_gap_byte, after_byte, line_ends as line_ends_of};
+ghost use Rattle.std.specs.Prelude.{◌≡◌, ◌++◌, ◌∷◌, [], ◌<◌, ◌≤◌, ◌||◌, ◌&&◌, not, ℕ, List, IfOk, OnOk, length};
+ghost use Rattle.script_cut.specs.Cuts.{HasItems, start, Terminated, PastLimit};
+ghost use Rattle.script_cut.specs.Texts.{is_gap, is_terminator, comment_after, after_byte, line_ends as line_ends_of};
+ghost use Rattle.reference.specs.Ends.{ended_of};
 ghost use Rattle.reference.specs.Readings.{IsReadingOf};
 
 use digit_tuple::faults::OutOfMemory;
-use script_cut::{Ended, SCRIPT_LIMIT};
+use script_cut::SCRIPT_LIMIT;
 use std::alloc::Global;
 use std::marker::Model;
 use text_grammar::Class;
+
+/// How an item of a script ended.
+#[derive(Clone, Copy, Debug, PartialEq, Eq)]
+pub enum ScriptEnd {
+    /// By a terminator: whether it was `:`, so that the steps are shown, and else `;`.
+    Terminated(bool),
+    /// By the script's end.
+    Unterminated,
+    /// Not, since the limit of the script came first.
+    PastLimit,
+}
 
 /// What a script is cut into: a text, the line on which it begins, and how it ended.
 #[derive(Drop)]
 pub struct ScriptItem {
     bytes: Vec<u8>,
     begin: u64,
-    end: Ended,
+    end: ScriptEnd,
 }
 
 impl Model for ScriptItem {
     ghost use Rattle.script_cut.specs.Cuts.{Item};
+    ghost use Rattle.reference.specs.Ends.{ended_of};
 
     ghost Value = { Item };
 
-    ghost view = { λ i. record { text = i.bytes.items; line = i.begin; ended = i.end } };
+    ghost view = { λ i. record { text = i.bytes.items; line = i.begin; ended = ended_of i.end } };
 }
 
 impl ScriptItem {
@@ -43,8 +56,8 @@ impl ScriptItem {
     }
 
     /// How it ended.
-    pub fn ended(&self) -> Ended
-        ensures { result ≡ self.now.ended }
+    pub fn ended(&self) -> ScriptEnd
+        ensures { ended_of result ≡ self.now.ended }
     {
         self.end
     }
@@ -65,13 +78,14 @@ pub fn items_of(alloc: Global, script: &[u8]) -> Result<Vec<ScriptItem>, OutOfMe
 }
 
 // The items whose end was read; the text that has begun behind them, or none, and its line; the line
-// behind it, and whether a quote is open there.
+// behind it, and whether a comment or a quote is open there.
 #[derive(Drop)]
 struct Reading {
     items: Vec<ScriptItem>,
     text: Vec<u8>,
     begin: u64,
     line: u64,
+    commented: bool,
     quoted: bool,
 }
 
@@ -85,6 +99,7 @@ impl Reading {
             text: Vec::new(alloc),
             begin: 1,
             line: 1,
+            commented: false,
             quoted: false,
         }
     }
@@ -94,13 +109,14 @@ impl Reading {
         requires { self.old.line ≤ 16777216 }
         ensures { OnOk result ((read : List ℕ) → length read < 16777216 → IsReadingOf read self.old → IsReadingOf (read ++ byte ∷ []) self.new) }
     {
-        if self.text.is_empty() && is_gap(byte) {
+        if self.text.is_empty() && begins_none(self.commented, byte) {
             self.line += line_ends(byte);
             self.begin = self.line;
+            self.commented = is_commented_after(self.commented, byte);
             return Ok(());
         }
-        if byte == b';' && !self.quoted {
-            self.end_text(alloc)?;
+        if ends_text(self.quoted, byte) {
+            self.end_text(alloc, byte == b':')?;
             return Ok(());
         }
         self.text.push(byte)?;
@@ -110,10 +126,10 @@ impl Reading {
     }
 
     // Ends the text by its terminator.
-    fn end_text(&mut self, alloc: Global) -> Result<(), OutOfMemory>
-        ensures items { OnOk result (self.new.items.items ≡ self.old.items.items ++ (record { text = self.old.text.items; line = self.old.begin; ended = Ended.Terminated }) ∷ []) }
+    fn end_text(&mut self, alloc: Global, shown: bool) -> Result<(), OutOfMemory>
+        ensures items { OnOk result (self.new.items.items ≡ self.old.items.items ++ (record { text = self.old.text.items; line = self.old.begin; ended = Terminated shown }) ∷ []) }
         ensures text { self.new.text.items ≡ [] }
-        ensures line { (self.new.line ≡ self.old.line) × (self.new.begin ≡ self.old.line) × (self.new.quoted ≡ self.old.quoted) }
+        ensures line { (self.new.line ≡ self.old.line) × (self.new.begin ≡ self.old.line) × (self.new.commented ≡ self.old.commented) × (self.new.quoted ≡ self.old.quoted) }
     {
         let text = std::mem::replace(&mut self.text, Vec::new(alloc));
         let begin = self.begin;
@@ -121,20 +137,20 @@ impl Reading {
         self.items.push(ScriptItem {
             bytes: text,
             begin,
-            end: Ended::Terminated,
+            end: ScriptEnd::Terminated(shown),
         })?;
         Ok(())
     }
 
     // The items of a script of which no further byte may be read, but which has more.
     fn cut_off(self, alloc: Global) -> Result<Vec<ScriptItem>, OutOfMemory>
-        ensures { IfOk result (λ items. items.items ≡ self.items.items ++ (record { text = []; line = self.line; ended = Ended.PastLimit }) ∷ []) }
+        ensures { IfOk result (λ items. items.items ≡ self.items.items ++ (record { text = []; line = self.line; ended = PastLimit }) ∷ []) }
     {
         let mut items = self.items;
         items.push(ScriptItem {
             bytes: Vec::new(alloc),
             begin: self.line,
-            end: Ended::PastLimit,
+            end: ScriptEnd::PastLimit,
         })?;
         Ok(items)
     }
@@ -148,17 +164,35 @@ impl Reading {
             items.push(ScriptItem {
                 bytes: self.text,
                 begin: self.begin,
-                end: Ended::Unterminated,
+                end: ScriptEnd::Unterminated,
             })?;
         }
         Ok(items)
     }
 }
 
-fn is_gap(byte: u8) -> bool
-    ensures { result ≡ is_gap_byte byte }
+// Whether no text begins with a byte, where a comment is open or not.
+fn begins_none(commented: bool, byte: u8) -> bool
+    ensures { result ≡ (commented || is_gap byte) }
 {
-    Class::Blank.contains(byte) || byte == b';'
+    commented || Class::Blank.contains(byte) || byte == b';' || byte == b':' || byte == b'#'
+}
+
+// Whether a text ends before a byte, where a quote is open or not.
+fn ends_text(quoted: bool, byte: u8) -> bool
+    ensures { result ≡ (is_terminator byte && not quoted) }
+{
+    (byte == b';' || byte == b':') && !quoted
+}
+
+fn is_commented_after(commented: bool, byte: u8) -> bool
+    ensures { result ≡ comment_after commented byte }
+{
+    if commented {
+        byte != b'\n'
+    } else {
+        byte == b'#'
+    }
 }
 
 fn is_quoted_after(quoted: bool, byte: u8) -> bool

@@ -1,6 +1,6 @@
 //! Parsing, automata and cuts, held against the slow programs on small inputs.
 
-use crate::cutting::items_of;
+use crate::cutting::{ScriptEnd, items_of};
 use crate::matching::matches;
 use crate::spelling::spells;
 use crate::tuples::tuples_of;
@@ -14,10 +14,11 @@ use regex_build::parsing::parse;
 use regex_build::position_table::positions;
 use regex_build::post::Post;
 use regex_build::regex::Regex;
-use script_cut::{Cut, Ended, SCRIPT_LIMIT, next_cut};
+use script_cut::{Cut, CutFault, Cutter, SCRIPT_LIMIT};
 use std::alloc::Global;
 use std::process::Abort;
 use std::test::Fail;
+use wal_outside::MemSource;
 
 // One track, whose digits are 0 and 1.
 fn two_digits(alloc: Global) -> Result<Header, Fail> {
@@ -136,49 +137,45 @@ fn what_is_parsed_is_spelled(rt: HostRuntime) -> Result<(), Fail> {
     Ok(())
 }
 
-// What is cut off next, if so many bytes and lines can be counted.
-fn next(left: &[u8], room: usize, line: u64) -> Option<Cut<'_>> {
-    if left.len() > u32::MAX as usize || line > u64::from(u32::MAX) {
-        return None;
-    }
-    Some(next_cut(left, room, line))
-}
-
-// Asserts that the items of a script are cut off it one after another.
-fn cut_as_listed(rt: &impl Abort, alloc: Global, script: &[u8], count: usize) -> Result<(), Fail> {
+// Asserts that a cutter gives the items of a script one after another, whose source gives it in these
+// pieces, and whole behind them.
+fn cut_as_listed(
+    rt: &impl Abort,
+    alloc: Global,
+    script: &[u8],
+    pieces: Vec<usize>,
+    count: usize,
+) -> Result<(), Fail> {
     let items = items_of(alloc, script)?;
-    let mut left = script;
-    let mut room = SCRIPT_LIMIT;
-    let mut line = 1;
+    assert_eq!(rt; items.len(), count);
+    let bytes = Vec::from_slice(alloc, script)?;
+    let mut source = MemSource::new(bytes, pieces, Vec::new(alloc));
+    let mut cutter = Cutter::new(alloc);
     for item in &items {
-        match next(left, room, line).ok_or("too long")? {
-            Cut::Command(text, begin, behind, room_behind, line_behind) => {
-                assert_eq!(rt; item.ended(), Ended::Terminated);
-                assert_eq!(rt; (item.text(), item.line()), (text, begin));
-                left = behind;
-                room = room_behind;
-                line = line_behind;
+        match cutter.cut(&mut source) {
+            Ok(Cut::Command(text, shown, begin)) => {
+                assert_eq!(rt; item.ended(), ScriptEnd::Terminated(shown));
+                assert_eq!(rt; (item.text(), item.line()), (text.as_slice(), begin));
             }
-            Cut::Open(text, begin) => {
-                assert_eq!(rt; item.ended(), Ended::Unterminated);
-                assert_eq!(rt; (item.text(), item.line()), (text, begin));
-                left = b"";
+            Err(CutFault::Syntax(begin, len)) => {
+                assert_eq!(rt; item.ended(), ScriptEnd::Unterminated);
+                assert_eq!(rt; (item.text().len(), item.line()), (len, begin));
             }
-            Cut::PastLimit(begin) => {
-                assert_eq!(rt; item.ended(), Ended::PastLimit);
-                assert_eq!(rt; item.line(), begin);
-                left = b"";
+            Err(CutFault::ScriptLimit(begin)) => {
+                assert_eq!(rt; item.ended(), ScriptEnd::PastLimit);
+                assert_eq!(rt; (item.text().len(), item.line()), (0, begin));
+                return Ok(());
             }
-            Cut::End => assert!(rt; false),
+            _ => assert!(rt; false),
         }
     }
-    assert!(rt; matches!(next(left, room, line), Some(Cut::End)));
-    assert_eq!(rt; items.len(), count);
+    assert!(rt; matches!(cutter.cut(&mut source), Ok(Cut::End)));
     Ok(())
 }
 
 #[test]
 fn scripts_are_cut_as_listed(rt: HostRuntime) -> Result<(), Fail> {
+    let alloc = rt.alloc();
     let table = [
         ("", 0),
         (" ;\n;", 0),
@@ -190,18 +187,35 @@ fn scripts_are_cut_as_listed(rt: HostRuntime) -> Result<(), Fail> {
         ("\"a;", 1),
         (";;a;;b\"\n;\n\";", 2),
         ("a\"b\"c;d\"", 2),
+        ("a:", 1),
+        ("a:::\nb :", 2),
+        ("a:;b::c:", 3),
+        ("::;:", 0),
+        ("# a;\n", 0),
+        ("# a;b", 0),
+        ("# a\nb;", 1),
+        ("a # b\n;", 1),
+        (" #\n#\n;a", 1),
+        ("a;# b;\n# c\n d::", 2),
+        ("\"#;\";#\"\na \":;\"::", 2),
+        ("#\"\n\"a\n:\" ;b # c", 2),
     ];
     for (script, count) in table {
-        cut_as_listed(&rt, rt.alloc(), script.as_bytes(), count)?;
+        cut_as_listed(&rt, alloc, script.as_bytes(), Vec::new(alloc), count)?;
+        for length in [1, 2, 3, 7] {
+            let pieces = vec![in alloc; length; script.len()]?;
+            cut_as_listed(&rt, alloc, script.as_bytes(), pieces, count)?;
+        }
     }
     Ok(())
 }
 
 #[test]
 fn a_script_is_cut_at_its_limit(rt: HostRuntime) -> Result<(), Fail> {
-    let mut script = Vec::from_elem(rt.alloc(), b'\n', SCRIPT_LIMIT - 1)?;
+    let alloc = rt.alloc();
+    let mut script = Vec::from_elem(alloc, b'\n', SCRIPT_LIMIT - 1)?;
     script.push(b';')?;
-    cut_as_listed(&rt, rt.alloc(), &script, 0)?;
+    cut_as_listed(&rt, alloc, &script, Vec::new(alloc), 0)?;
     script.push(b' ')?;
-    cut_as_listed(&rt, rt.alloc(), &script, 1)
+    cut_as_listed(&rt, alloc, &script, Vec::new(alloc), 1)
 }

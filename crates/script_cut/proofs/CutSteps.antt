@@ -1,83 +1,264 @@
--- One item off the front of some bytes.
-use Rattle.std.proofs.Common.{◌≡◌, ℕ, ◌+◌, ◌-◌, ◌<◌, ◌≤◌, false, List, [], ◌∷◌, length, take, drop, refl, sym, arith, add-one, length-drop}
-use Rattle.std.proofs.lemmas.List.{take-append-drop, take_all, length-take-le}
-use Rattle.script_cut.specs.Texts.{Starts, line_ends}
-use Rattle.script_cut.specs.Cuts.{Next, IsAtEnd}
-use Rattle.script_cut.specs.Lengths.{gap_count, text_count}
-use Rattle.script_cut.specs.declared.cutting.Ended.TheVariants.{Terminated, Unterminated, PastLimit}
-use Rattle.script_cut.proofs.Parts.{gaps_in_front, gaps_throughout, starts_behind, starts_in_front, unbroken_in_front, closed_in_front, terminator_behind, none_in_front}
+-- What a call of a cutter gives, from the bytes that were passed.
+use Rattle.std.proofs.Common.{◌≡◌, ◌≢◌, ℕ, ◌+◌, ◌<◌, ◌≤◌, Bool, true, false, IsTrue, List, [], ◌∷◌, ◌++◌, length, Option, None, Some, Ok, Err, refl, sym, ◌∙◌, ap, subst, inl, inr, arith, append_assoc, append-nil, length-append}
+use Rattle.std.specs.Io.KnownBytes.{Consumes, IsAtEnd as HasGivenAll}
+use Rattle.std.specs.declared.vec.Vec.{Vec}
+use Rattle.std.specs.declared.alloc.Global.{Global}
+use Rattle.script_cut.specs.Texts.{is_gap, AreGaps, quoted, unbroken, Starts, IsOpen, terminator_of, line_ends}
+use Rattle.script_cut.specs.Cuts.{Ended, Terminated, Unterminated, Next, HasNoCommand}
+use Rattle.script_cut.specs.Kept.{Kept}
+use Rattle.script_cut.specs.Cutting.{place_of, MayCome, HasCut}
+use Rattle.script_cut.specs.Passing.{Passes, IsOver, Stops, IsAtText, PassesGaps, PassesText, HasScanned, IsBehindText, IsBehindAll}
+use Rattle.script_cut.specs.declared.cut.Cut.TheVariants as cuts
+use Rattle.script_cut.specs.declared.cut.CutFault.{CutFault}
+use Rattle.script_cut.specs.declared.cut.CutFault.TheVariants as faults
+use Rattle.script_cut.specs.declared.cutter.Scanned.{Scanned}
+use Rattle.script_cut.proofs.Gaps.{line_ends-append}
+use Rattle.script_cut.proofs.PassingSteps.{passes-then}
 
--- a command whose terminator may be read
-pub command_cut : (bytes behind left : List ℕ) (room line g t : ℕ) → g ≡ gap_count bytes → behind ≡ drop g bytes → t ≡ text_count false behind → left ≡ drop (t + 1) behind → t < length behind → g + t < room → (begin next : ℕ) → begin ≡ line + line_ends (take g bytes) → next ≡ begin + line_ends (take t behind)
-    → Next (record { left = bytes; room = room; line = line }) (record { text = take t behind; line = begin; ended = Terminated }) (record { left = left; room = room - (g + t + 1); line = next })
-command_cut bytes behind left room line g t g_is behind_is t_is left_is ended within begin next begin_is next_is =
-    let behind_len : length behind ≡ length bytes - g = rw behind_is (length-drop g bytes) in
-    let gap_len : length (take g bytes) ≡ g = length-take-le g bytes (omega arith) in
-    let text_len : length (take t behind) ≡ t = length-take-le t behind (omega arith) in
-    let found : text_count false behind < length behind = omega arith in
-    let some : gap_count bytes < length bytes = omega arith in
-    let starts : Starts behind = rw (behind_is, g_is) (starts_behind bytes some) in
-    let terminator : drop t behind ≡ 59 ∷ left = rw (left_is, add-one, t_is) (terminator_behind false behind found) in
+not_both : (b : Bool) → b ≡ false → b ≡ true → ⊥
+not_both b p q = cc
+
+-- what is still to come stands behind all of them
+come_behind : (held given more passed rest : List ℕ) → held ++ given ≡ passed ++ rest → held ++ (given ++ more) ≡ passed ++ (rest ++ more)
+come_behind held given more passed rest split = sym (append_assoc held given more) ∙ ap (λ bytes. bytes ++ more) split ∙ append_assoc passed rest more
+
+-- once the source has ended nothing comes
+come_none : (over : Bool) (now : Option (List ℕ)) (more : List ℕ) → over ≡ true → MayCome over now more → more ≡ []
+come_none true now more is may = may
+come_none false now more is may = cc
+
+-- a text starts as what was held does
+starts_front : (held given text rest : List ℕ) → Starts held → held ++ given ≡ text ++ rest → 0 < length text → Starts text
+starts_front [] given text rest starts split some = absurd starts
+starts_front (b ∷ bs) given [] rest starts split some = absurd (omega arith)
+starts_front (b ∷ bs) given (x ∷ xs) rest starts split some = let same : b ≡ x = cc in let P : ℕ → Type 0 = λ n. is_gap n ≡ false in subst P same starts
+
+gap_ends : (shown : Bool) → is_gap (terminator_of shown) ≡ true
+gap_ends true = refl
+gap_ends false = refl
+
+line_ends-terminator : (shown : Bool) → line_ends (terminator_of shown ∷ []) ≡ 0
+line_ends-terminator true = refl
+line_ends-terminator false = refl
+
+-- no terminator stands where a command begins
+some_before : (shown : Bool) (held given text rest : List ℕ) → Starts held → held ++ given ≡ (text ++ terminator_of shown ∷ []) ++ rest → 0 < length text
+some_before shown [] given text rest starts split = absurd starts
+some_before shown (b ∷ bs) given [] rest starts split = let same : b ≡ terminator_of shown = cc in let is : is_gap b ≡ true = rw same (gap_ends shown) in absurd (not_both (is_gap b) starts is)
+some_before shown (b ∷ bs) given (x ∷ xs) rest starts split = omega arith
+
+some_at_end : (held given text : List ℕ) → Starts held → held ++ given ≡ (text ++ []) ++ [] → 0 < length text
+some_at_end [] given text starts split = absurd starts
+some_at_end (b ∷ bs) given [] starts split = cc
+some_at_end (b ∷ bs) given (x ∷ xs) starts split = omega arith
+
+-- a text was found: it is the next item, whatever is still to come
+pub record HasFound (old : Kept) (told : Option (List ℕ)) (new : Kept) (now : Option (List ℕ)) (ended : Ended) (line len : ℕ) : Type 0 where
+  pub given : List ℕ
+  pub taken : Consumes told now given
+  pub last : new.over ≡ true → HasGivenAll now
+  pub text : List ℕ
+  pub len_is : len ≡ length text
+  pub text_is : len ≤ 65536 → new.text ≡ text
+  pub next : (more : List ℕ) → MayCome new.over now more → Next (place_of old (given ++ more)) (record { text = text; line = line; ended = ended }) (place_of new more)
+
+command_next : (old mid new : Kept) (told between now : Option (List ℕ)) (shown : Bool) (before text more : List ℕ) (p : Passes old told mid between before) (q : Passes mid between new now (text ++ terminator_of shown ∷ [])) (t : Passes old told new now (before ++ (text ++ terminator_of shown ∷ [])))
+    → old.over ≡ false → new.over ≡ false → AreGaps before → IsOpen text → quoted false text ≡ false
+    → Next (place_of old (t.given ++ more)) (record { text = text; line = mid.line; ended = Terminated shown }) (place_of new more)
+command_next old mid new told between now shown before text more p q t over over' gaps begun closed = record {
+  before = before;
+  cut = record {
+    gaps = gaps;
+    command = record { begun = begun; closed = closed };
+    split = rw (over, over') (come_behind old.held t.given more (before ++ (text ++ terminator_of shown ∷ [])) new.held t.split ∙ simp append_assoc);
+    room = omega (arith, p.room_is, q.room_is, length-append text (terminator_of shown ∷ []));
+  };
+  line_is = p.line_is;
+  next_line = omega (arith, q.line_is, line_ends-append text (terminator_of shown ∷ []), line_ends-terminator shown);
+}
+
+open_next : (old mid new : Kept) (told between now : Option (List ℕ)) (before text more : List ℕ) (p : Passes old told mid between before) (q : Passes mid between new now (text ++ [])) (t : Passes old told new now (before ++ (text ++ [])))
+    → old.over ≡ false → new.over ≡ true → new.held ≡ [] → more ≡ [] → AreGaps before → IsOpen text
+    → Next (place_of old (t.given ++ more)) (record { text = text; line = mid.line; ended = Unterminated }) (place_of new more)
+open_next old mid new told between now before text more p q t over over' none no_more gaps begun = record {
+  before = before;
+  cut = record {
+    gaps = gaps;
+    begun = begun;
+    split = rw (over, no_more, append-nil t.given, t.split, none) (simp (append_assoc, append-nil));
+    room = omega (arith, p.room_is, q.room_is, length-append text []);
+    nothing_left = rw over' refl;
+  };
+  line_is = p.line_is;
+  next_line = omega (arith, q.line_is, line_ends-append text []);
+}
+
+-- a text that ended by a terminator
+pub found_command : (old mid new : Kept) (told between now : Option (List ℕ)) (len : ℕ) (shown : Bool) → old.over ≡ false → PassesGaps old told (Ok true) mid between → PassesText mid between (Ok (record { len = len; shown = Some shown })) new now
+    → HasFound old told new now (Terminated shown) mid.line len
+found_command old mid new told between now len shown over p q =
+    let at : IsAtText p.before mid = p.stops in
+    let scanned : HasScanned (record { len = len; shown = Some shown }) q.text q.end new now = q.stops in
+    let behind : IsBehindText q.text q.end shown new = scanned.ends in
+    let text_passes : Passes mid between new now (q.text ++ terminator_of shown ∷ []) = rw behind.end_is at q.passes in
+    let whole : Passes old told new now (p.before ++ (q.text ++ terminator_of shown ∷ [])) = passes-then old mid new told between now p.before (q.text ++ terminator_of shown ∷ []) p.passes text_passes in
+    let some : 0 < length q.text = some_before shown mid.held text_passes.given q.text new.held at.starts text_passes.split in
+    let split : mid.held ++ text_passes.given ≡ q.text ++ ((terminator_of shown ∷ []) ++ new.held) = text_passes.split ∙ append_assoc q.text (terminator_of shown ∷ []) new.held in
     record {
-      before = take g bytes;
-      cut = record {
-        gaps = rw g_is (gaps_in_front bytes);
-        command = record {
-          begun = record { starts = rw t_is (starts_in_front behind starts); unbroken = rw t_is (unbroken_in_front false behind) };
-          closed = rw t_is (closed_in_front false behind found);
-        };
-        split = cc (take-append-drop g bytes, take-append-drop t behind);
-        room = omega arith;
-      };
-      line_is = begin_is;
-      next_line = next_is;
+      given = whole.given;
+      taken = whole.taken;
+      last = λ is. absurd (not_both new.over behind.over is);
+      text = q.text;
+      len_is = scanned.len_is;
+      text_is = scanned.text_is;
+      next = λ more may. command_next old mid new told between now shown p.before q.text more p.passes text_passes whole over behind.over
+          (record { all = p.gaps; closed = at.closed })
+          (record { starts = starts_front mid.held text_passes.given q.text ((terminator_of shown ∷ []) ++ new.held) at.starts split some; unbroken = q.whole })
+          behind.closed;
     }
 
--- no command whose terminator may be read, and a byte that may not
-pub cut_off : (bytes behind : List ℕ) (room line g t : ℕ) → g ≡ gap_count bytes → behind ≡ drop g bytes → t ≡ text_count false behind → room ≤ g + t → room < length bytes → (at : ℕ) → at ≡ line + line_ends (take room bytes)
-    → Next (record { left = bytes; room = room; line = line }) (record { text = []; line = at; ended = PastLimit }) (record { left = []; room = 0; line = at + 0 })
-cut_off bytes behind room line g t g_is behind_is t_is most more at at_is =
-    let within : room ≤ gap_count bytes + text_count false (drop (gap_count bytes) bytes) = rw (← g_is, ← behind_is, ← t_is) most in
+-- a text that ended by the script's end
+pub found_open : (old mid new : Kept) (told between now : Option (List ℕ)) (len : ℕ) → old.over ≡ false → PassesGaps old told (Ok true) mid between → PassesText mid between (Ok (record { len = len; shown = None })) new now
+    → HasFound old told new now Unterminated mid.line len
+found_open old mid new told between now len over p q =
+    let at : IsAtText p.before mid = p.stops in
+    let scanned : HasScanned (record { len = len; shown = None }) q.text q.end new now = q.stops in
+    let behind : IsBehindAll q.end new now = scanned.ends in
+    let all : IsOver new now = behind.over in
+    let text_passes : Passes mid between new now (q.text ++ []) = rw behind.no_end at q.passes in
+    let whole : Passes old told new now (p.before ++ (q.text ++ [])) = passes-then old mid new told between now p.before (q.text ++ []) p.passes text_passes in
+    let ends : mid.held ++ text_passes.given ≡ (q.text ++ []) ++ [] = rw all.held at text_passes.split in
+    let split : mid.held ++ text_passes.given ≡ q.text ++ [] = ends ∙ append-nil (q.text ++ []) in
     record {
-      before = take room bytes;
+      given = whole.given;
+      taken = whole.taken;
+      last = λ is. all.ended;
+      text = q.text;
+      len_is = scanned.len_is;
+      text_is = scanned.text_is;
+      next = λ more may. open_next old mid new told between now p.before q.text more p.passes text_passes whole over all.over all.held (come_none new.over now more all.over may)
+          (record { all = p.gaps; closed = at.closed })
+          (record { starts = starts_front mid.held text_passes.given q.text [] at.starts split (some_at_end mid.held text_passes.given q.text at.starts ends); unbroken = q.whole });
+    }
+
+-- answers of a text that was found
+pub cut_command : (old new : Kept) (told now : Option (List ℕ)) (shown : Bool) (line len : ℕ) (text : Vec ℕ Global) (kept : List ℕ) → HasFound old told new now (Terminated shown) line len → len ≤ 65536 → text.items ≡ new.text → HasCut old told (Ok (cuts.Command text shown line)) (record new { text = kept }) now
+cut_command old new told now shown line len text kept f few is =
+    let same : text.items ≡ f.text = is ∙ f.text_is few in
+    record {
+      given = f.given;
+      taken = f.taken;
+      ended = λ begun over. f.last over;
+      item = λ more may. (rw same (f.next more may), rw same (omega (arith, f.len_is)));
+      failed = λ is. cc;
+    }
+
+pub cut_syntax : (old new : Kept) (told now : Option (List ℕ)) (line len : ℕ) → HasFound old told new now Unterminated line len → len ≤ 65536 → HasCut old told (Err (faults.Syntax line len)) new now
+cut_syntax old new told now line len f few = record {
+  given = f.given;
+  taken = f.taken;
+  ended = λ begun over. f.last over;
+  item = λ more may. (f.text, f.next more may, f.len_is, few);
+  failed = λ is. cc;
+}
+
+pub cut_long : (old new : Kept) (told now : Option (List ℕ)) (ended : Ended) (line len : ℕ) → HasFound old told new now ended line len → 65536 < len → HasCut old told (Err (faults.Long line)) new now
+cut_long old new told now ended line len f many = record {
+  given = f.given;
+  taken = f.taken;
+  ended = λ begun over. f.last over;
+  item = λ more may. (f.text, ended, f.next more may, omega (arith, f.len_is));
+  failed = λ is. cc;
+}
+
+some_held : (held more : List ℕ) → held ≢ [] → held ++ more ≢ []
+some_held [] more some is = some refl
+some_held (b ∷ bs) more some is = cc
+
+-- the cutter was stopped before a command ended
+pub cut_stop : (old new : Kept) (told now : Option (List ℕ)) (passed : List ℕ) (fault : CutFault) → old.over ≡ false → Passes old told new now passed → HasNoCommand passed → Stops fault new → HasCut old told (Err fault) new now
+cut_stop old new told now passed faults.Failed over p none stops = record {
+  given = p.given;
+  taken = p.taken;
+  ended = λ begun is. absurd (not_both new.over stops.1 is);
+  item = λ more may. tt;
+  failed = λ is. rw (p.split, stops.0, append-nil passed) none;
+}
+cut_stop old new told now passed (faults.ScriptLimit line) over p none stops = record {
+  given = p.given;
+  taken = p.taken;
+  ended = λ begun is. absurd (not_both new.over stops.3 is);
+  item = λ more may. (
+    record { left = []; room = 0; line = line + 0 },
+    record {
+      before = passed;
       cut = record {
-        no_command = none_in_front room bytes within;
-        full = length-take-le room bytes (omega arith);
-        past = drop room bytes;
-        more = λ none. let len : length (drop room bytes) ≡ 0 = rw none refl in omega (arith, length-drop room bytes);
-        split = sym (take-append-drop room bytes);
+        no_command = none;
+        full = omega (arith, p.room_is, stops.1);
+        past = new.held ++ more;
+        more = some_held new.held more stops.0;
+        split = rw over (come_behind old.held p.given more passed new.held p.split);
         no_text = refl;
         nothing_left = refl;
         no_room = refl;
       };
-      line_is = at_is;
+      line_is = stops.2 ∙ p.line_is;
       next_line = refl;
-    }
+    },
+  );
+  failed = λ is. cc;
+}
+cut_stop old new told now passed faults.Memory over p none stops = record {
+  given = p.given;
+  taken = p.taken;
+  ended = λ begun is. absurd (not_both new.over stops is);
+  item = λ more may. tt;
+  failed = λ is. cc;
+}
+cut_stop old new told now passed (faults.Syntax line len) over p none stops = absurd stops
+cut_stop old new told now passed (faults.Long line) over p none stops = absurd stops
 
--- a text without terminator up to the end
-pub open_cut : (bytes behind : List ℕ) (room line g t : ℕ) → g ≡ gap_count bytes → behind ≡ drop g bytes → t ≡ text_count false behind → length behind ≤ t → length bytes ≤ room → 0 < length behind → (begin : ℕ) → begin ≡ line + line_ends (take g bytes)
-    → Next (record { left = bytes; room = room; line = line }) (record { text = behind; line = begin; ended = Unterminated }) (record { left = []; room = 0; line = begin + line_ends behind })
-open_cut bytes behind room line g t g_is behind_is t_is all within some begin begin_is =
-    let behind_len : length behind ≡ length bytes - g = rw behind_is (length-drop g bytes) in
-    let whole : take t behind ≡ behind = take_all t behind all in
-    let gap_len : length (take g bytes) ≡ g = length-take-le g bytes (omega arith) in
-    let less : gap_count bytes < length bytes = omega arith in
-    record {
-      before = take g bytes;
-      cut = record {
-        gaps = rw g_is (gaps_in_front bytes);
-        begun = record { starts = rw (behind_is, g_is) (starts_behind bytes less); unbroken = rw (take_all (text_count false behind) behind (omega arith)) at (unbroken_in_front false behind) };
-        split = cc (take-append-drop g bytes);
-        within = omega arith;
-        nothing_left = refl;
-        no_room = refl;
-      };
-      line_is = begin_is;
-      next_line = refl;
-    }
+-- no command has ended where none has begun, or one has begun
+none_so_far : (held given before text rest : List ℕ) → AreGaps before → Starts held → held ++ given ≡ text ++ rest → IsTrue (unbroken false text) → HasNoCommand (before ++ text)
+none_so_far held given before [] rest gaps starts split whole = inl (rw (append-nil before) gaps.all)
+none_so_far held given before (x ∷ xs) rest gaps starts split whole = inr (record {
+  before = before;
+  text = x ∷ xs;
+  gaps = gaps;
+  begun = record { starts = starts_front held given (x ∷ xs) rest starts split (omega arith); unbroken = whole };
+  split = refl;
+})
 
--- nothing but gaps
-pub at_end : (bytes behind : List ℕ) (room line g : ℕ) → g ≡ gap_count bytes → behind ≡ drop g bytes → length behind ≡ 0 → length bytes ≤ room → IsAtEnd (record { left = bytes; room = room; line = line })
-at_end bytes behind room line g g_is behind_is none within =
-    let behind_len : length behind ≡ length bytes - g = rw behind_is (length-drop g bytes) in
-    record { gaps = gaps_throughout bytes (omega arith); within = within }
+-- among the gaps
+pub cut_gaps_stop : (old new : Kept) (told now : Option (List ℕ)) (fault : CutFault) → old.over ≡ false → PassesGaps old told (Err fault) new now → HasCut old told (Err fault) new now
+cut_gaps_stop old new told now fault over p = cut_stop old new told now p.before fault over p.passes (inl p.gaps) p.stops
+
+-- in a text
+pub cut_text_stop : (old mid new : Kept) (told between now : Option (List ℕ)) (fault : CutFault) → old.over ≡ false → PassesGaps old told (Ok true) mid between → PassesText mid between (Err fault) new now → HasCut old told (Err fault) new now
+cut_text_stop old mid new told between now fault over p q =
+    let at : IsAtText p.before mid = p.stops in
+    let text_passes : Passes mid between new now (q.text ++ []) = rw q.stops.0 at q.passes in
+    let split : mid.held ++ text_passes.given ≡ q.text ++ new.held = text_passes.split ∙ rw (append-nil q.text) refl in
+    let passes : Passes old told new now (p.before ++ q.text) = rw (append-nil q.text) at (passes-then old mid new told between now p.before (q.text ++ []) p.passes text_passes) in
+    cut_stop old new told now (p.before ++ q.text) fault over passes (none_so_far mid.held text_passes.given p.before q.text new.held (record { all = p.gaps; closed = at.closed }) at.starts split q.whole) q.stops.1
+
+-- the text that was passed, by how it ended
+pub found_terminated : (old mid new : Kept) (told between now : Option (List ℕ)) (scanned : Scanned) (shown : Bool) → old.over ≡ false → PassesGaps old told (Ok true) mid between → PassesText mid between (Ok scanned) new now → scanned.shown ≡ Some shown
+    → HasFound old told new now (Terminated shown) mid.line scanned.len
+found_terminated old mid new told between now scanned shown over p q is =
+    let P : Option Bool → Type 0 = λ end. PassesText mid between (Ok (record { len = scanned.len; shown = end })) new now in
+    found_command old mid new told between now scanned.len shown over p (subst P is q)
+
+pub found_unterminated : (old mid new : Kept) (told between now : Option (List ℕ)) (scanned : Scanned) → old.over ≡ false → PassesGaps old told (Ok true) mid between → PassesText mid between (Ok scanned) new now → scanned.shown ≡ None
+    → HasFound old told new now Unterminated mid.line scanned.len
+found_unterminated old mid new told between now scanned over p q is =
+    let P : Option Bool → Type 0 = λ end. PassesText mid between (Ok (record { len = scanned.len; shown = end })) new now in
+    found_open old mid new told between now scanned.len over p (subst P is q)
+
+long_by : (old mid new : Kept) (told between now : Option (List ℕ)) (scanned : Scanned) (end : Option Bool) → old.over ≡ false → PassesGaps old told (Ok true) mid between → PassesText mid between (Ok scanned) new now → scanned.shown ≡ end → 65536 < scanned.len → HasCut old told (Err (faults.Long mid.line)) new now
+long_by old mid new told between now scanned (Some shown) over p q is many = cut_long old new told now (Terminated shown) mid.line scanned.len (found_terminated old mid new told between now scanned shown over p q is) many
+long_by old mid new told between now scanned None over p q is many = cut_long old new told now Unterminated mid.line scanned.len (found_unterminated old mid new told between now scanned over p q is) many
+
+-- a command that is too long, whether it ended or not
+pub cut_too_long : (old mid new : Kept) (told between now : Option (List ℕ)) (scanned : Scanned) → old.over ≡ false → PassesGaps old told (Ok true) mid between → PassesText mid between (Ok scanned) new now → 65536 < scanned.len → HasCut old told (Err (faults.Long mid.line)) new now
+cut_too_long old mid new told between now scanned over p q many = long_by old mid new told between now scanned scanned.shown over p q refl many

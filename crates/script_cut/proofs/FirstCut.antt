@@ -1,30 +1,28 @@
 -- What a place's first item is, read off its bytes.
-use Rattle.std.proofs.Common.{◌≡◌, ◌≢◌, ℕ, ◌+◌, ◌<◌, ◌≤◌, false, List, [], ◌∷◌, ◌++◌, length, take, drop, refl, sym, ◌∙◌, arith, append-nil, length-append}
+use Rattle.std.proofs.Common.{◌≡◌, ◌≢◌, ℕ, ◌+◌, ◌<◌, ◌≤◌, Bool, false, IsTrue, List, [], ◌∷◌, ◌++◌, length, take, drop, refl, sym, ◌∙◌, arith, inl, inr, append-nil, append_assoc, length-append}
 use Rattle.std.proofs.lemmas.List.{take_at, drop_at, drop_all}
-use Rattle.std.proofs.Math.Seq.{drop-append-add}
-use Rattle.script_cut.specs.Texts.{AreGaps, Starts, line_ends}
-use Rattle.script_cut.specs.Cuts.{Place, Next, IsAtEnd, CutsCommand, CutsOpen, CutsOff}
+use Rattle.script_cut.specs.Texts.{commented, AreGaps, Starts, unbroken, terminator_of, line_ends}
+use Rattle.script_cut.specs.Cuts.{Ended, Terminated, Unterminated, PastLimit, Place, Next, IsAtEnd, HasNoCommand, CutsCommand, CutsOpen, CutsOff}
 use Rattle.script_cut.specs.Lengths.{gap_count, text_count}
-use Rattle.script_cut.specs.declared.cutting.Ended.{Ended}
-use Rattle.script_cut.specs.declared.cutting.Ended.TheVariants.{Terminated, Unterminated, PastLimit}
-use Rattle.script_cut.proofs.Counts.{gap_count-gaps, gap_count-starts, text_count-command, text_count-unbroken, reach, reach-no_command}
+use Rattle.script_cut.proofs.Gaps.{gap_count-gaps, gap_count-starts}
+use Rattle.script_cut.proofs.Commands.{text_count-command, text_count-unbroken, text_count-front}
 
 -- what stands behind the gaps
 abbrev pub behind_gaps : List ℕ → List ℕ
-behind_gaps left = drop (gap_count left) left
+behind_gaps left = drop (gap_count false left) left
 
 -- how long the text behind the gaps is
 abbrev pub text_size : List ℕ → ℕ
 text_size left = text_count false (behind_gaps left)
 
 -- the first item is a command
-pub record FirstCommand (old : Place) (text : List ℕ) (line : ℕ) (new : Place) : Type 0 where
+pub record FirstCommand (shown : Bool) (old : Place) (text : List ℕ) (line : ℕ) (new : Place) : Type 0 where
   pub found : text_size old.left < length (behind_gaps old.left)
-  pub within : gap_count old.left + text_size old.left < old.room
+  pub within : gap_count false old.left + text_size old.left < old.room
   pub text_is : text ≡ take (text_size old.left) (behind_gaps old.left)
-  pub line_is : line ≡ old.line + line_ends (take (gap_count old.left) old.left)
-  pub left_is : new.left ≡ drop (text_size old.left + 1) (behind_gaps old.left)
-  pub room_is : new.room + (gap_count old.left + text_size old.left + 1) ≡ old.room
+  pub line_is : line ≡ old.line + line_ends (take (gap_count false old.left) old.left)
+  pub left_is : terminator_of shown ∷ new.left ≡ drop (text_size old.left) (behind_gaps old.left)
+  pub room_is : new.room + (gap_count false old.left + text_size old.left + 1) ≡ old.room
 
 -- the first item is a text without terminator
 pub record FirstOpen (old : Place) (text : List ℕ) (line : ℕ) (new : Place) : Type 0 where
@@ -32,13 +30,13 @@ pub record FirstOpen (old : Place) (text : List ℕ) (line : ℕ) (new : Place) 
   pub some : 0 < length (behind_gaps old.left)
   pub within : length old.left ≤ old.room
   pub text_is : text ≡ behind_gaps old.left
-  pub line_is : line ≡ old.line + line_ends (take (gap_count old.left) old.left)
+  pub line_is : line ≡ old.line + line_ends (take (gap_count false old.left) old.left)
   pub left_is : new.left ≡ []
-  pub room_is : new.room ≡ 0
+  pub room_is : new.room + length old.left ≡ old.room
 
 -- there is none before the limit, and more behind it
 pub record FirstPast (old : Place) (text : List ℕ) (line : ℕ) (new : Place) : Type 0 where
-  pub none : old.room ≤ gap_count old.left + text_size old.left
+  pub none : old.room ≤ gap_count false old.left + text_size old.left
   pub more : old.room < length old.left
   pub text_is : text ≡ []
   pub line_is : line ≡ old.line + line_ends (take old.room old.left)
@@ -46,19 +44,24 @@ pub record FirstPast (old : Place) (text : List ℕ) (line : ℕ) (new : Place) 
   pub room_is : new.room ≡ 0
 
 abbrev pub IsFirst : Ended → Place → List ℕ → ℕ → Place → Type 0
-IsFirst Terminated old text line new = FirstCommand old text line new
+IsFirst (Terminated shown) old text line new = FirstCommand shown old text line new
 IsFirst Unterminated old text line new = FirstOpen old text line new
 IsFirst PastLimit old text line new = FirstPast old text line new
 
 -- gaps, and what stands behind them
 record Splits (left before rest : List ℕ) : Type 0 where
-  gap : gap_count left ≡ length before
-  front : take (gap_count left) left ≡ before
+  gap : gap_count false left ≡ length before
+  front : take (gap_count false left) left ≡ before
   behind : behind_gaps left ≡ rest
+
+gaps_behind : (before text rest : List ℕ) → AreGaps before → Starts text → gap_count false (before ++ (text ++ rest)) ≡ length before
+gaps_behind before text rest gaps starts =
+    let none : gap_count (commented false before) (text ++ rest) ≡ 0 = rw gaps.closed (gap_count-starts text rest starts) in
+    omega (arith, gap_count-gaps false before (text ++ rest) gaps.all)
 
 splits_of : (left before text rest : List ℕ) → left ≡ before ++ (text ++ rest) → AreGaps before → Starts text → Splits left before (text ++ rest)
 splits_of left before text rest split gaps starts =
-    let gap : gap_count left ≡ length before = rw split (omega (arith, gap_count-gaps before (text ++ rest) gaps, gap_count-starts text rest starts)) in
+    let gap : gap_count false left ≡ length before = rw split (gaps_behind before text rest gaps starts) in
     record {
       gap = gap;
       front = rw (gap, split) (take_at before (text ++ rest) (length before) refl);
@@ -73,16 +76,16 @@ some_left : (past : List ℕ) → past ≢ [] → 0 < length past
 some_left [] more = absurd (more refl)
 some_left (b ∷ bs) more = omega arith
 
-command_first : (old : Place) (text : List ℕ) (line : ℕ) (new : Place) → (next : Next old (record { text = text; line = line; ended = Terminated }) new) → CutsCommand old next.before text new → FirstCommand old text line new
-command_first old text line new next cut =
-    let parts : Splits old.left next.before (text ++ 59 ∷ new.left) = splits_of old.left next.before text (59 ∷ new.left) cut.split cut.gaps cut.command.begun.starts in
-    let size : text_size old.left ≡ length text = rw parts.behind (text_count-command false text new.left cut.command.begun.unbroken cut.command.closed) in
+command_first : (shown : Bool) (old : Place) (text : List ℕ) (line : ℕ) (new : Place) → (next : Next old (record { text = text; line = line; ended = Terminated shown }) new) → CutsCommand shown old next.before text new → FirstCommand shown old text line new
+command_first shown old text line new next cut =
+    let parts : Splits old.left next.before (text ++ terminator_of shown ∷ new.left) = splits_of old.left next.before text (terminator_of shown ∷ new.left) cut.split cut.gaps cut.command.begun.starts in
+    let size : text_size old.left ≡ length text = rw parts.behind (text_count-command shown false text new.left cut.command.begun.unbroken cut.command.closed) in
     record {
-      found = rw (size, parts.behind) (omega (arith, length-append text (59 ∷ new.left)));
+      found = rw (size, parts.behind) (omega (arith, length-append text (terminator_of shown ∷ new.left)));
       within = omega (arith, parts.gap, size, cut.room);
-      text_is = rw (size, parts.behind) (sym (take_at text (59 ∷ new.left) (length text) refl));
+      text_is = rw (size, parts.behind) (sym (take_at text (terminator_of shown ∷ new.left) (length text) refl));
       line_is = rw parts.front next.line_is;
-      left_is = rw (size, parts.behind) (sym (drop-append-add text (59 ∷ new.left) 1));
+      left_is = rw (size, parts.behind) (sym (drop_at text (terminator_of shown ∷ new.left) (length text) refl));
       room_is = omega (arith, parts.gap, size, cut.room);
     }
 
@@ -95,12 +98,32 @@ open_first old text line new next cut =
     record {
       none = rw (size, behind) (omega arith);
       some = rw behind (some_in text cut.begun.starts);
-      within = rw cut.split (omega (arith, length-append next.before text, cut.within));
+      within = rw cut.split (omega (arith, length-append next.before text, cut.room));
       text_is = sym behind;
       line_is = rw found.front next.line_is;
       left_is = cut.nothing_left;
-      room_is = cut.no_room;
+      room_is = rw cut.split (omega (arith, length-append next.before text, cut.room));
     }
+
+-- how far the gaps and the text at the front go
+unfoldable reach : List ℕ → ℕ
+reach bytes = gap_count false bytes + text_count false (drop (gap_count false bytes) bytes)
+
+reach-begun : (before text past : List ℕ) → AreGaps before → Starts text → IsTrue (unbroken false text) → length before + length text ≤ reach (before ++ (text ++ past))
+unfolding reach
+reach-begun before text past gaps starts whole =
+    let gap : gap_count false (before ++ (text ++ past)) ≡ length before = gaps_behind before text past gaps starts in
+    let behind : drop (gap_count false (before ++ (text ++ past))) (before ++ (text ++ past)) ≡ text ++ past = rw gap (drop_at before (text ++ past) (length before) refl) in
+    let far : length text ≤ text_count false (drop (gap_count false (before ++ (text ++ past))) (before ++ (text ++ past))) = rw behind (text_count-front false text past whole) in
+    omega arith
+
+-- bytes in which no command ends reach to their end
+reach-no_command : (bytes past : List ℕ) → HasNoCommand bytes → length bytes ≤ reach (bytes ++ past)
+unfolding reach
+reach-no_command bytes past (inl gaps) = omega (arith, gap_count-gaps false bytes past gaps)
+reach-no_command bytes past (inr begun) =
+    let far : length begun.before + length begun.text ≤ reach (begun.before ++ (begun.text ++ past)) = reach-begun begun.before begun.text past begun.gaps begun.begun.starts begun.begun.unbroken in
+    rw (begun.split, append_assoc, length-append) far
 
 past_first : (old : Place) (text : List ℕ) (line : ℕ) (new : Place) → (next : Next old (record { text = text; line = line; ended = PastLimit }) new) → CutsOff old next.before text new → FirstPast old text line new
 unfolding reach
@@ -117,13 +140,13 @@ past_first old text line new next cut =
 
 -- an item that comes next is the first
 pub first_of_next : (old : Place) (ended : Ended) (text : List ℕ) (line : ℕ) (new : Place) → Next old (record { text = text; line = line; ended = ended }) new → IsFirst ended old text line new
-first_of_next old Terminated text line new next = command_first old text line new next next.cut
+first_of_next old (Terminated shown) text line new next = command_first shown old text line new next next.cut
 first_of_next old Unterminated text line new next = open_first old text line new next next.cut
 first_of_next old PastLimit text line new next = past_first old text line new next next.cut
 
 -- at the end nothing stands behind the gaps
 pub none_behind : (place : Place) → IsAtEnd place → behind_gaps place.left ≡ []
 none_behind place end =
-    let gaps : gap_count (place.left ++ []) ≡ length place.left + gap_count [] = gap_count-gaps place.left [] end.gaps in
-    let all : gap_count place.left ≡ length place.left + 0 = rw append-nil at gaps in
-    drop_all (gap_count place.left) place.left (omega arith)
+    let gaps : gap_count false (place.left ++ []) ≡ length place.left + gap_count (commented false place.left) [] = gap_count-gaps false place.left [] end.gaps in
+    let all : gap_count false place.left ≡ length place.left + 0 = rw append-nil at gaps in
+    drop_all (gap_count false place.left) place.left (omega arith)

@@ -1,6 +1,8 @@
-pub mod Parts
+pub mod Gaps
+pub mod Commands
+pub mod PassingSteps
 pub mod CutSteps
-pub mod Counts
 pub mod FirstCut
 pub mod OneList
-pub mod SomeList
+pub mod ToldItem
+pub mod ReadingSteps

@@ -1,9 +1,7 @@
 -- A script has one list of items.
-use Rattle.std.proofs.Common.{◌≡◌, ℕ, ◌+◌, List, [], ◌∷◌, length, refl, sym, ap, ◌∙◌, subst, arith}
-use Rattle.script_cut.specs.Texts.{line_ends}
-use Rattle.script_cut.specs.Cuts.{Item, Place, Next, IsAtEnd, CutsTo, HasItems}
-use Rattle.script_cut.specs.declared.cutting.Ended.{Ended}
-use Rattle.script_cut.specs.declared.cutting.Ended.TheVariants.{Terminated, Unterminated, PastLimit}
+use Rattle.std.proofs.Common.{◌≡◌, ℕ, ◌+◌, Bool, true, false, List, [], ◌∷◌, length, refl, sym, ap, ◌∙◌, subst, arith}
+use Rattle.script_cut.specs.Texts.{terminator_of, line_ends}
+use Rattle.script_cut.specs.Cuts.{Ended, Terminated, Unterminated, PastLimit, Item, Place, Next, IsAtEnd, CutsTo, HasItems}
 use Rattle.script_cut.proofs.FirstCut.{behind_gaps, IsFirst, first_of_next, none_behind}
 
 -- two items and the places behind them are equal
@@ -11,32 +9,44 @@ pub record Same (i j : Item) (p q : Place) : Type 0 where
   pub item : i ≡ j
   pub place : p ≡ q
 
-same_parts : (ended : Ended) (t u : List ℕ) (m n : ℕ) (p q : Place) → t ≡ u → m ≡ n → p.left ≡ q.left → p.room ≡ q.room → p.line ≡ m + line_ends t → q.line ≡ n + line_ends u → Same (record { text = t; line = m; ended = ended }) (record { text = u; line = n; ended = ended }) p q
-same_parts ended t u m n p q texts begins lefts rooms line line' =
+same_parts : (e f : Ended) (t u : List ℕ) (m n : ℕ) (p q : Place) → e ≡ f → t ≡ u → m ≡ n → p.left ≡ q.left → p.room ≡ q.room → p.line ≡ m + line_ends t → q.line ≡ n + line_ends u → Same (record { text = t; line = m; ended = e }) (record { text = u; line = n; ended = f }) p q
+same_parts e f t u m n p q ends texts begins lefts rooms line line' =
     let lines : p.line ≡ q.line = cc in
     record {
-      item = λ i. record { text = texts i; line = begins i; ended = ended };
+      item = λ i. record { text = texts i; line = begins i; ended = ends i };
       place = λ i. record { left = lefts i; room = rooms i; line = lines i };
     }
 
+-- a terminator says whether the steps are shown
+one_terminator : (a b : Bool) → terminator_of a ≡ terminator_of b → a ≡ b
+one_terminator true true is = refl
+one_terminator true false is = absurd (omega arith)
+one_terminator false true is = absurd (omega arith)
+one_terminator false false is = refl
+
+first_byte : (b c : ℕ) (bs cs : List ℕ) → b ∷ bs ≡ c ∷ cs → (b ≡ c) × (bs ≡ cs)
+first_byte b c bs cs is = (cc, cc)
+
 -- one place has one first item
 same_first : (old : Place) (e f : Ended) (t u : List ℕ) (m n : ℕ) (p q : Place) → IsFirst e old t m p → IsFirst f old u n q → p.line ≡ m + line_ends t → q.line ≡ n + line_ends u → Same (record { text = t; line = m; ended = e }) (record { text = u; line = n; ended = f }) p q
-same_first old Terminated Terminated t u m n p q a b line line' = same_parts Terminated t u m n p q (a.text_is ∙ sym b.text_is) (a.line_is ∙ sym b.line_is) (a.left_is ∙ sym b.left_is) (omega (arith, a.room_is, b.room_is)) line line'
-same_first old Terminated Unterminated t u m n p q a b line line' = absurd (omega (arith, a.found, b.none))
-same_first old Terminated PastLimit t u m n p q a b line line' = absurd (omega (arith, a.within, b.none))
-same_first old Unterminated Terminated t u m n p q a b line line' = absurd (omega (arith, a.none, b.found))
-same_first old Unterminated Unterminated t u m n p q a b line line' = same_parts Unterminated t u m n p q (a.text_is ∙ sym b.text_is) (a.line_is ∙ sym b.line_is) (a.left_is ∙ sym b.left_is) (a.room_is ∙ sym b.room_is) line line'
+same_first old (Terminated v) (Terminated w) t u m n p q a b line line' =
+    let lefts : (terminator_of v ≡ terminator_of w) × (p.left ≡ q.left) = first_byte (terminator_of v) (terminator_of w) p.left q.left (a.left_is ∙ sym b.left_is) in
+    same_parts (Terminated v) (Terminated w) t u m n p q (ap Terminated (one_terminator v w lefts.0)) (a.text_is ∙ sym b.text_is) (a.line_is ∙ sym b.line_is) lefts.1 (omega (arith, a.room_is, b.room_is)) line line'
+same_first old (Terminated v) Unterminated t u m n p q a b line line' = absurd (omega (arith, a.found, b.none))
+same_first old (Terminated v) PastLimit t u m n p q a b line line' = absurd (omega (arith, a.within, b.none))
+same_first old Unterminated (Terminated w) t u m n p q a b line line' = absurd (omega (arith, a.none, b.found))
+same_first old Unterminated Unterminated t u m n p q a b line line' = same_parts Unterminated Unterminated t u m n p q refl (a.text_is ∙ sym b.text_is) (a.line_is ∙ sym b.line_is) (a.left_is ∙ sym b.left_is) (omega (arith, a.room_is, b.room_is)) line line'
 same_first old Unterminated PastLimit t u m n p q a b line line' = absurd (omega (arith, a.within, b.more))
-same_first old PastLimit Terminated t u m n p q a b line line' = absurd (omega (arith, a.none, b.within))
+same_first old PastLimit (Terminated w) t u m n p q a b line line' = absurd (omega (arith, a.none, b.within))
 same_first old PastLimit Unterminated t u m n p q a b line line' = absurd (omega (arith, a.more, b.within))
-same_first old PastLimit PastLimit t u m n p q a b line line' = same_parts PastLimit t u m n p q (a.text_is ∙ sym b.text_is) (a.line_is ∙ sym b.line_is) (a.left_is ∙ sym b.left_is) (a.room_is ∙ sym b.room_is) line line'
+same_first old PastLimit PastLimit t u m n p q a b line line' = same_parts PastLimit PastLimit t u m n p q refl (a.text_is ∙ sym b.text_is) (a.line_is ∙ sym b.line_is) (a.left_is ∙ sym b.left_is) (a.room_is ∙ sym b.room_is) line line'
 
 -- what comes next is determined
 pub same_next : (old : Place) (i j : Item) (p q : Place) → Next old i p → Next old j q → Same i j p q
 same_next old i j p q a b = same_first old i.ended j.ended i.text j.text i.line j.line p q (first_of_next old i.ended i.text i.line p a) (first_of_next old j.ended j.text j.line q b) a.next_line b.next_line
 
 no_first : (old : Place) (e : Ended) (t : List ℕ) (m : ℕ) (p : Place) → IsFirst e old t m p → IsAtEnd old → ⊥
-no_first old Terminated t m p a end = let none : length (behind_gaps old.left) ≡ 0 = ap length (none_behind old end) in omega (arith, a.found)
+no_first old (Terminated v) t m p a end = let none : length (behind_gaps old.left) ≡ 0 = ap length (none_behind old end) in omega (arith, a.found)
 no_first old Unterminated t m p a end = let none : length (behind_gaps old.left) ≡ 0 = ap length (none_behind old end) in omega (arith, a.some)
 no_first old PastLimit t m p a end = omega (arith, a.more, end.within)
 

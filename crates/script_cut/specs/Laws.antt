@@ -1,6 +1,10 @@
 -- What holds of the cuts of every script.
-use Rattle.std.specs.Prelude.{◌≡◌, List}
+use Rattle.std.specs.Prelude.{◌≡◌, ℕ, List, Some, Result}
 use Rattle.script_cut.specs.Cuts.{Item, Place, Next, HasItems}
+use Rattle.script_cut.specs.Kept.{Kept}
+use Rattle.script_cut.specs.Cutting.{place_of, GivesItem, HasCut}
+use Rattle.script_cut.specs.declared.cut.Cut.{Cut}
+use Rattle.script_cut.specs.declared.cut.CutFault.{CutFault}
 
 -- a place has at most one next item, with one place behind it
 abbrev pub HasOneNext : Place → Type 0
@@ -10,6 +14,6 @@ HasOneNext place = (i j : Item) (p q : Place) → Next place i p → Next place 
 abbrev pub HasOneList : Place → Type 0
 HasOneList place = (is js : List Item) → HasItems place is → HasItems place js → is ≡ js
 
--- there is a list of the items up to the end
-abbrev pub HasSomeList : Place → Type 0
-HasSomeList place = (items : List Item) × HasItems place items
+-- where the source tells what it has left, the item is the next one of what was held and what was left
+abbrev pub GivesToldItem : Kept → List ℕ → Result Cut CutFault → Kept → List ℕ → Type 0
+GivesToldItem old left result new now = HasCut old (Some left) result new (Some now) → GivesItem (place_of old left) result (place_of new now)

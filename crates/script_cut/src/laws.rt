@@ -1,9 +1,18 @@
+ghost use Rattle.std.specs.Prelude.{ℕ, List, Result};
 ghost use Rattle.script_cut.specs.Cuts.{Place};
-ghost use Rattle.script_cut.specs.Laws.{HasOneNext, HasOneList, HasSomeList};
+ghost use Rattle.script_cut.specs.Kept.{Kept};
+ghost use Rattle.script_cut.specs.Laws.{HasOneNext, HasOneList, GivesToldItem};
+ghost use Rattle.script_cut.specs.declared.cut.Cut.{Cut};
+ghost use Rattle.script_cut.specs.declared.cut.CutFault.{CutFault};
 
-/// A law, with nothing to run: from each place of a script on there is one list of items, and no other; and what comes next at it is determined.
+/// A law, with nothing to run: the next item at a place of a script is determined, and so are all its items.
 pub fn one_cut()
     ensures next { (place : Place) → HasOneNext place }
     ensures list { (place : Place) → HasOneList place }
-    ensures some { (place : Place) → HasSomeList place }
+{}
+
+/// A law, with nothing to run: where the source tells what it has left, a call gives the next item of what the
+/// cutter held and the source had left, and what both have then is what stands behind it.
+pub fn told_cut()
+    ensures { (old : Kept) (left : List ℕ) (result : Result Cut CutFault) (new : Kept) (now : List ℕ) → GivesToldItem old left result new now }
 {}

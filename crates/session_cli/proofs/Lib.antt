@@ -1,9 +1,8 @@
 pub mod CommandSteps
-pub mod ScriptSteps
-pub mod ItemSteps
 pub mod RunSteps
 pub mod Standing
-pub mod LongerScript
+pub mod Coming
+pub mod Between
 pub mod WholeSteps
 pub mod TrackSets
 pub mod MatchedWords

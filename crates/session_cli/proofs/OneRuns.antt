@@ -1,13 +1,12 @@
 -- Runs over one script end alike, unless the store, the sink or memory fails.
 use Rattle.std.proofs.Common.{◌≡◌, ℕ, ◌+◌, ◌-◌, ◌^◌, ◌<◌, ◌≤◌, min, ◌⊎◌, Bool, true, false, ◌||◌, if◌then◌else◌, List, [], ◌∷◌, length, Option, Some, Ok, Err, refl, sym, ap, ◌∙◌, subst, inl, inr, arith}
 use Rattle.std.specs.Option.{option_map}
+use Rattle.wal_outside.specs.Causes.{Rose}
 use Rattle.wal_outside.specs.Files.{Files, put}
 use Rattle.wal_outside.specs.Sending.{HasSent}
 use Rattle.wal_outside.specs.declared.sink.WriteFault.{WriteFault}
 use Rattle.wal_outside.specs.declared.sink.WriteFault.TheVariants as writes
-use Rattle.script_cut.specs.Cuts.{Item, start}
-use Rattle.script_cut.specs.declared.cutting.Ended.{Ended}
-use Rattle.script_cut.specs.declared.cutting.Ended.TheVariants.{Terminated, Unterminated, PastLimit}
+use Rattle.script_cut.specs.Cuts.{Ended, Terminated, Unterminated, PastLimit, Item, start, HasNoCommand}
 use Rattle.script_cut.proofs.OneList.{same_lists}
 use Rattle.session_cli.specs.declared.fault.Part.TheVariants as parts
 use Rattle.session_cli.specs.declared.fault.Fault.TheVariants as faults
@@ -69,7 +68,7 @@ same_open text answer other a b = by_cases (open_is text answer a) (open_is text
 -- an item has one answer that is neither the store's nor memory's
 same_item : (ended : Ended) (ledger : Ledger) (text : List ℕ) (answer other : Answer) → IsAnswerOf ended ledger text answer → IsAnswerOf ended ledger text other
     → of_fault is_store_fault answer ≡ false → of_fault is_memory_fault answer ≡ false → of_fault is_store_fault other ≡ false → of_fault is_memory_fault other ≡ false → answer ≡ other
-same_item Terminated ledger text answer other a b s m s' m' = one_answer ledger text answer other (proper ledger text answer a s m) (proper ledger text other b s' m')
+same_item (Terminated shown) ledger text answer other a b s m s' m' = one_answer ledger text answer other (proper ledger text answer a s m) (proper ledger text other b s' m')
 same_item Unterminated ledger text answer other a b s m s' m' = same_open text answer other a b
 same_item PastLimit ledger text answer other a b s m s' m' = a ∙ sym b
 
@@ -161,11 +160,12 @@ not_stopped writes.Failed held now state (is, rose) (inr refused) = cc
 not_stopped writes.Memory held now state is (inl done) = cc
 not_stopped writes.Memory held now state is (inr refused) = cc
 
-not_nothing : (P : Type 0) (state : Status) → ((state ≡ status.Outside) × P) ⊎ (state ≡ status.Memory) → IsClean state → ⊥
-not_nothing P state (inl (is, rose)) (inl done) = cc
-not_nothing P state (inl (is, rose)) (inr refused) = cc
-not_nothing P state (inr is) (inl done) = cc
-not_nothing P state (inr is) (inr refused) = cc
+-- and neither the source nor want of memory
+no_fault : (P Q : Type 0) (state : Status) → ((state ≡ status.Outside) × P × Q) ⊎ (state ≡ status.Memory) → IsClean state → ⊥
+no_fault P Q state (inl (is, rose, none)) (inl done) = cc
+no_fault P Q state (inl (is, rose, none)) (inr refused) = cc
+no_fault P Q state (inr is) (inl done) = cc
+no_fault P Q state (inr is) (inr refused) = cc
 
 clean_through : (script : List ℕ) (from to : SourceView) (old new : StoreView) (held now : SinkView) (state : Status) → HasRun from to old new held now state → from.left ≡ Some script → IsClean state → RanThrough script old new held now state
 clean_through script from to old new held now state (inl (read, told, inl ran)) is clean =
@@ -173,7 +173,7 @@ clean_through script from to old new held now state (inl (read, told, inl ran)) 
     let same : read ≡ script = subst P is told in
     let Q : List ℕ → Type 0 = λ s. RanThrough s old new held now state in subst Q same ran
 clean_through script from to old new held now state (inl (read, told, inr ran)) is clean = absurd (not_stopped ran.fault held now state ran.state_is clean)
-clean_through script from to old new held now state (inr nothing) is clean = absurd (not_nothing _ state nothing.state_is clean)
+clean_through script from to old new held now state (inr fault) is clean = absurd (no_fault (Rose from.faults to.faults) (HasNoCommand fault.behind) state fault.cause clean)
 
 -- runs over one script, from the same files, that end clean end alike
 pub runs_alike : (script : List ℕ) (from to from' to' : SourceView) (old new old' new' : StoreView) (held now held' now' : SinkView) (state state' : Status)

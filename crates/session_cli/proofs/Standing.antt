@@ -1,13 +1,11 @@
 -- Where a run stands between two items, and how it goes on and ends.
-use Rattle.std.proofs.Common.{◌≡◌, ℕ, ◌≤◌, Bool, true, false, ◌||◌, List, [], ◌∷◌, ◌++◌, Option, Result, Ok, Err, IsErrOf, refl, sym, ap, subst, inl, inr, arith}
+use Rattle.std.proofs.Common.{◌≡◌, ℕ, ◌<◌, ◌≤◌, ◌⊎◌, Bool, true, false, ◌||◌, List, [], ◌∷◌, ◌++◌, length, Option, Result, Ok, Err, IsErrOf, refl, sym, ap, subst, inl, inr, arith}
 use Rattle.wal_outside.specs.Causes.{Rose}
-use Rattle.wal_outside.specs.Sending.{HasSent}
+use Rattle.wal_outside.specs.Sending.{Sends, HasSent}
 use Rattle.wal_outside.specs.declared.sink.WriteFault.{WriteFault}
 use Rattle.wal_outside.specs.declared.sink.WriteFault.TheVariants as writes
 use Rattle.wal_outside.proofs.SendingSteps.{none_sent, sends_then}
-use Rattle.script_cut.specs.Cuts.{Item, Place, Next, start, CutsTo, IsAtEnd}
-use Rattle.script_cut.specs.declared.cutting.Ended.{Ended}
-use Rattle.script_cut.specs.declared.cutting.Ended.TheVariants.{Terminated, Unterminated, PastLimit}
+use Rattle.script_cut.specs.Cuts.{Ended, Terminated, Unterminated, PastLimit, Item, Place, Next, start, CutsTo, CutsOpen, CutsOff, IsAtEnd}
 use Rattle.session_cli.specs.declared.fault.Fault.{Fault}
 use Rattle.session_cli.specs.declared.fault.Fault.TheVariants as faults
 use Rattle.session_cli.specs.declared.tally.Tally.{Tally}
@@ -21,7 +19,7 @@ use Rattle.session_cli.specs.Whole.{StopsWith, RanThrough, RanToStop}
 use Rattle.session_cli.specs.Commands.{Gives, Commands}
 use Rattle.session_cli.specs.Tallies.{AddsFault, AddsResult, Counts, tally_status}
 use Rattle.session_cli.specs.Handing.{result_line, HasAnswered, stop_status}
-use Rattle.session_cli.specs.Ending.{Ran, Finishes}
+use Rattle.session_cli.specs.Ending.{Finishes}
 use Rattle.session_cli.proofs.RunSteps.{stores_first, stores_after, run_more, cuts_more, printed_more, some_of-append}
 
 -- what was answered and printed so far
@@ -94,8 +92,8 @@ counts_more tally after answers (Err fault) (Ok success) gives counts adds = abs
 counts_more tally after answers (Err fault) (Err refusal) gives counts adds = let P : Fault → Type 0 = λ f. Counts after (answers ++ Err f ∷ []) in subst P gives (counts_fault tally after answers fault counts adds)
 
 -- one command's step
-step_of : (ledger : Ledger) (old new : StoreView) (text : List ℕ) (line : ℕ) (result : Result (Unit {0}) Fault) → (c : Commands ledger old text result new) → Answers ledger old (record { text = text; line = line; ended = Terminated }) c.answer new
-step_of ledger old new text line result c = record {
+step_of : (ledger : Ledger) (old new : StoreView) (text : List ℕ) (shown : Bool) (line : ℕ) (result : Result (Unit {0}) Fault) → (c : Commands ledger old text result new) → Answers ledger old (record { text = text; line = line; ended = Terminated shown }) c.answer new
+step_of ledger old new text shown line result c = record {
   answered = c.answered;
   files = c.stored.files;
   later = c.stored.later;
@@ -104,21 +102,21 @@ step_of ledger old new text line result c = record {
 }
 
 -- a command was answered and its line handed over
-pub goes_on : (script : List ℕ) (old mid new : StoreView) (held told now : Option (List ℕ)) (place next : Place) (tally counted : Tally) (text : List ℕ) (line : ℕ)
-    → Stands script old mid held told place tally → Next place (record { text = text; line = line; ended = Terminated }) next
+pub goes_on : (script : List ℕ) (old mid new : StoreView) (held told now : Option (List ℕ)) (place next : Place) (tally counted : Tally) (text : List ℕ) (shown : Bool) (line : ℕ)
+    → Stands script old mid held told place tally → Next place (record { text = text; line = line; ended = Terminated shown }) next
     → ((ledger : Ledger) → StoresTold ledger mid.files → HasAnswered ledger mid text line told tally (Ok tt) new now counted)
     → Stands script old new held now next counted
-goes_on script old mid new held told now place next tally counted text line stands cut answered =
+goes_on script old mid new held told now place next tally counted text shown line stands cut answered =
     let a : HasAnswered stands.ledger mid text line told tally (Ok tt) new now counted = answered stands.ledger stands.stores in
     let c : Commands stands.ledger mid text a.result new = a.commands in
-    let item : Item = record { text = text; line = line; ended = Terminated } in
-    let line_is : result_line line a.result ≡ line_of item c.answer = line_same text line Terminated a.result c.answer c.gives in
+    let item : Item = record { text = text; line = line; ended = Terminated shown } in
+    let line_is : result_line line a.result ≡ line_of item c.answer = line_same text line (Terminated shown) a.result c.answer c.gives in
     record {
       items = stands.items ++ item ∷ [];
       answers = stands.answers ++ c.answer ∷ [];
       ledger = after stands.ledger c.answer;
       cut = cuts_more stands.items (start script) place item next stands.cut cut;
-      run = run_more stands.items stands.answers (first_ledger old.files) stands.ledger old mid item c.answer new stands.run (step_of stands.ledger mid new text line a.result c);
+      run = run_more stands.items stands.answers (first_ledger old.files) stands.ledger old mid item c.answer new stands.run (step_of stands.ledger mid new text shown line a.result c);
       stores = stores_after stands.ledger c.answer mid.files new.files stands.stores c.stored.files;
       sent = rw (printed_more stands.items stands.answers (first_ledger old.files) stands.ledger old mid item c.answer stands.run)
           (sends_then {T = Unit {0}} held told now (printed stands.items stands.answers) (line_of item c.answer) (Ok tt) stands.sent (rw line_is at a.sends));
@@ -126,14 +124,14 @@ goes_on script old mid new held told now place next tally counted text line stan
     }
 
 -- a command was answered, and the sink stopped in its line
-pub stops : (script : List ℕ) (old mid new : StoreView) (held now : SinkView) (told : Option (List ℕ)) (place next : Place) (tally counted : Tally) (text : List ℕ) (line : ℕ) (fault : WriteFault) (state : Status)
-    → Stands script old mid held.held told place tally → Next place (record { text = text; line = line; ended = Terminated }) next
+pub stops : (script : List ℕ) (old mid new : StoreView) (held now : SinkView) (told : Option (List ℕ)) (place next : Place) (tally counted : Tally) (text : List ℕ) (shown : Bool) (line : ℕ) (fault : WriteFault) (state : Status)
+    → Stands script old mid held.held told place tally → Next place (record { text = text; line = line; ended = Terminated shown }) next
     → ((ledger : Ledger) → StoresTold ledger mid.files → HasAnswered ledger mid text line told tally (Err fault) new now.held counted)
     → StopsWith fault held now state → RanToStop script old new held now state
-stops script old mid new held now told place next tally counted text line fault state stands cut answered state_is =
+stops script old mid new held now told place next tally counted text shown line fault state stands cut answered state_is =
     let a : HasAnswered stands.ledger mid text line told tally (Err fault) new now.held counted = answered stands.ledger stands.stores in
     let c : Commands stands.ledger mid text a.result new = a.commands in
-    let item : Item = record { text = text; line = line; ended = Terminated } in
+    let item : Item = record { text = text; line = line; ended = Terminated shown } in
     record {
       items = stands.items;
       answers = stands.answers;
@@ -142,12 +140,12 @@ stops script old mid new held now told place next tally counted text line fault 
       last = next;
       cut = cuts_more stands.items (start script) place item next stands.cut cut;
       ledger = after stands.ledger c.answer;
-      run = run_more stands.items stands.answers (first_ledger old.files) stands.ledger old mid item c.answer new stands.run (step_of stands.ledger mid new text line a.result c);
+      run = run_more stands.items stands.answers (first_ledger old.files) stands.ledger old mid item c.answer new stands.run (step_of stands.ledger mid new text shown line a.result c);
       stores = stores_after stands.ledger c.answer mid.files new.files stands.stores c.stored.files;
       mid = told;
       sent = stands.sent;
       fault = fault;
-      stopped = rw (line_same text line Terminated a.result c.answer c.gives) at a.sends;
+      stopped = rw (line_same text line (Terminated shown) a.result c.answer c.gives) at a.sends;
       state_is = state_is;
     }
 
@@ -180,38 +178,63 @@ open_step ledger store text line faults.ScriptLimit outcome = absurd outcome
 pub limit_step : (ledger : Ledger) (store : StoreView) (line : ℕ) → Answers ledger store (record { text = []; line = line; ended = PastLimit }) (Err faults.ScriptLimit) store
 limit_step ledger store line = record { answered = refl; files = refl; later = omega arith; cause = λ is. cc; failed = refl }
 
--- the last item is a refusal that leaves the store
-pub finishes : (script : List ℕ) (old mid : StoreView) (held told now : SinkView) (place last : Place) (tally : Tally) (item : Item) (fault : Fault) (state : Status)
-    → Stands script old mid held.held told.held place tally → Next place item last → IsAtEnd last → held.faults ≤ told.faults
-    → ((ledger : Ledger) → Answers ledger mid item (Err fault) mid)
-    → Finishes told item.line fault tally now state → Ran script old mid held now state
-finishes script old mid held told now place last tally item fault state stands cut end later step (inl whole) = inl (record {
+-- an item that is too long is refused, and the store stays
+pub long_step : (ended : Ended) (ledger : Ledger) (store : StoreView) (place : Place) (text : List ℕ) (line : ℕ) (next : Place) → Next place (record { text = text; line = line; ended = ended }) next → 65536 < length text
+    → Answers ledger store (record { text = text; line = line; ended = ended }) (Err (faults.Long 65536)) store
+long_step (Terminated shown) ledger store place text line next cut long = record { answered = inl (refl, long); files = refl; later = omega arith; cause = λ is. cc; failed = refl }
+long_step Unterminated ledger store place text line next cut long = record { answered = (refl, long); files = refl; later = omega arith; cause = λ is. cc; failed = refl }
+long_step PastLimit ledger store place text line next cut long = absurd (no_text cut.before cut.cut)
+  where
+    no_text : (before : List ℕ) → CutsOff place before text next → ⊥
+    no_text before off = omega (arith, ap length off.no_text, long)
+
+-- nothing is left
+pub none_left : (place : Place) → place.left ≡ [] → IsAtEnd place
+none_left place is = record { gaps = rw is refl; within = omega (arith, ap length is) }
+
+-- an item was refused, its line handed over, and the store stays
+pub refuses : (script : List ℕ) (old mid : StoreView) (held told now : Option (List ℕ)) (place next : Place) (tally counted : Tally) (item : Item) (fault : Fault)
+    → Stands script old mid held told place tally → Next place item next → ((ledger : Ledger) → Answers ledger mid item (Err fault) mid)
+    → HasSent told now (fault_line item.line fault) → AddsFault tally fault counted → Stands script old mid held now next counted
+refuses script old mid held told now place next tally counted item fault stands cut step sent adds = record {
   items = stands.items ++ item ∷ [];
   answers = stands.answers ++ Err fault ∷ [];
-  last = last;
-  cut = cuts_more stands.items (start script) place item last stands.cut cut;
-  end = end;
   ledger = stands.ledger;
+  cut = cuts_more stands.items (start script) place item next stands.cut cut;
   run = run_more stands.items stands.answers (first_ledger old.files) stands.ledger old mid item (Err fault) mid stands.run (step stands.ledger);
   stores = stands.stores;
   sent = rw (printed_more stands.items stands.answers (first_ledger old.files) stands.ledger old mid item (Err fault) stands.run)
-      (sends_then {T = Unit {0}} held.held told.held now.held (printed stands.items stands.answers) (fault_line item.line fault) (Ok tt) stands.sent whole.sent);
-  state_is = let counts : Counts whole.counted (stands.answers ++ Err fault ∷ []) = counts_fault tally whole.counted stands.answers fault stands.counts whole.adds in
-      rw (whole.state_is, counts.refused, counts.store, counts.memory) refl;
-})
-finishes script old mid held told now place last tally item fault state stands cut end later step (inr part) = inr (record {
+      (sends_then {T = Unit {0}} held told now (printed stands.items stands.answers) (fault_line item.line fault) (Ok tt) stands.sent sent);
+  counts = counts_fault tally counted stands.answers fault stands.counts adds;
+}
+
+-- or the sink stopped in its line
+pub refuses_stop : (script : List ℕ) (old mid : StoreView) (held now : SinkView) (told : Option (List ℕ)) (place next : Place) (tally : Tally) (item : Item) (fault : Fault) (stop : WriteFault) (state : Status)
+    → Stands script old mid held.held told place tally → Next place item next → ((ledger : Ledger) → Answers ledger mid item (Err fault) mid)
+    → Sends {T = Unit {0}} told now.held (fault_line item.line fault) (Err stop) → StopsWith stop held now state → RanToStop script old mid held now state
+refuses_stop script old mid held now told place next tally item fault stop state stands cut step stopped state_is = record {
   items = stands.items;
   answers = stands.answers;
   item = item;
   answer = Err fault;
-  last = last;
-  cut = cuts_more stands.items (start script) place item last stands.cut cut;
+  last = next;
+  cut = cuts_more stands.items (start script) place item next stands.cut cut;
   ledger = stands.ledger;
   run = run_more stands.items stands.answers (first_ledger old.files) stands.ledger old mid item (Err fault) mid stands.run (step stands.ledger);
   stores = stands.stores;
-  mid = told.held;
+  mid = told;
   sent = stands.sent;
-  fault = part.stop;
-  stopped = part.stopped;
-  state_is = stops_later part.stop held told now state later part.state_is;
-})
+  fault = stop;
+  stopped = stopped;
+  state_is = state_is;
+}
+
+-- the last item is a refusal that leaves the store
+pub finishes : (script : List ℕ) (old mid : StoreView) (held told now : SinkView) (place last : Place) (tally : Tally) (item : Item) (fault : Fault) (state : Status)
+    → Stands script old mid held.held told.held place tally → Next place item last → IsAtEnd last → held.faults ≤ told.faults
+    → ((ledger : Ledger) → Answers ledger mid item (Err fault) mid)
+    → Finishes told item.line fault tally now state → RanThrough script old mid held now state ⊎ RanToStop script old mid held now state
+finishes script old mid held told now place last tally item fault state stands cut end later step (inl whole) =
+    inl (ends_there script old mid held now last whole.counted state (refuses script old mid held.held told.held now.held place last tally whole.counted item fault stands cut step whole.sent whole.adds) end whole.state_is)
+finishes script old mid held told now place last tally item fault state stands cut end later step (inr part) =
+    inr (refuses_stop script old mid held now told.held place last tally item fault part.stop state stands cut step part.stopped (stops_later part.stop held told now state later part.state_is))

@@ -1,63 +1,16 @@
--- From the bytes that were read to the whole script, and what a status tells.
-use Rattle.std.proofs.Common.{◌≡◌, ℕ, ◌≤◌, Bool, true, false, ◌||◌, ◌⊎◌, IsTrue, List, [], ◌∷◌, ◌++◌, take, Option, None, Some, refl, sym, ◌∙◌, inl, inr, arith}
+-- What a status tells.
+use Rattle.std.proofs.Common.{◌≡◌, ℕ, ◌≤◌, Bool, true, false, ◌||◌, ◌⊎◌, IsTrue, List, [], ◌∷◌, refl, sym, ◌∙◌, inl, inr, arith}
 use Rattle.wal_outside.specs.Causes.{Rose}
 use Rattle.wal_outside.specs.declared.sink.WriteFault.{WriteFault}
 use Rattle.wal_outside.specs.declared.sink.WriteFault.TheVariants as writes
-use Rattle.script_cut.specs.Cuts.{Item, Place, start, CutsTo, IsAtEnd}
+use Rattle.script_cut.specs.Cuts.{Item}
 use Rattle.session_cli.specs.declared.status.Status.{Status}
 use Rattle.session_cli.specs.declared.status.Status.TheVariants as status
 use Rattle.session_cli.specs.Trees.{Ledger}
 use Rattle.session_cli.specs.Outcomes.{Answer, after}
-use Rattle.session_cli.specs.Views.{StoreView, SinkView, IsTold}
+use Rattle.session_cli.specs.Views.{SourceView, StoreView, SinkView}
 use Rattle.session_cli.specs.Runs.{Run, of_fault, is_store_fault, some_of, status_by}
-use Rattle.session_cli.specs.Whole.{StopsWith, RanThrough, RanToStop}
-use Rattle.session_cli.specs.Scripts.{HasScript}
-use Rattle.session_cli.specs.Ending.{Ran}
-use Rattle.session_cli.proofs.LongerScript.{script_cuts}
-
-through_script : (left bytes : List ℕ) (old new : StoreView) (held now : SinkView) (state : Status) → bytes ≡ take 16777217 left → RanThrough bytes old new held now state → RanThrough left old new held now state
-through_script left bytes old new held now state is ran =
-    let c : (after : Place) × CutsTo (start left) ran.items after × (IsAtEnd ran.last → IsAtEnd after) = script_cuts left bytes ran.items ran.last is ran.cut in
-    record {
-      items = ran.items;
-      answers = ran.answers;
-      last = c.0;
-      cut = c.1;
-      end = c.2 ran.end;
-      ledger = ran.ledger;
-      run = ran.run;
-      stores = ran.stores;
-      sent = ran.sent;
-      state_is = ran.state_is;
-    }
-
-stop_script : (left bytes : List ℕ) (old new : StoreView) (held now : SinkView) (state : Status) → bytes ≡ take 16777217 left → RanToStop bytes old new held now state → RanToStop left old new held now state
-stop_script left bytes old new held now state is ran =
-    let c : (after : Place) × CutsTo (start left) (ran.items ++ ran.item ∷ []) after × (IsAtEnd ran.last → IsAtEnd after) = script_cuts left bytes (ran.items ++ ran.item ∷ []) ran.last is ran.cut in
-    record {
-      items = ran.items;
-      answers = ran.answers;
-      item = ran.item;
-      answer = ran.answer;
-      last = c.0;
-      cut = c.1;
-      ledger = ran.ledger;
-      run = ran.run;
-      stores = ran.stores;
-      mid = ran.mid;
-      sent = ran.sent;
-      fault = ran.fault;
-      stopped = ran.stopped;
-      state_is = ran.state_is;
-    }
-
--- a run over the bytes that were read is one over the script
-pub run_of_script : (told : Option (List ℕ)) (bytes : List ℕ) (old new : StoreView) (held now : SinkView) (state : Status) → HasScript told bytes → Ran bytes old new held now state
-    → (script : List ℕ) × IsTold told script × (RanThrough script old new held now state ⊎ RanToStop script old new held now state)
-unfolding HasScript
-run_of_script None bytes old new held now state is ran = (bytes, tt, ran)
-run_of_script (Some left) bytes old new held now state is (inl ran) = (left, refl, inl (through_script left bytes old new held now state is ran))
-run_of_script (Some left) bytes old new held now state is (inr ran) = (left, refl, inr (stop_script left bytes old new held now state is ran))
+use Rattle.session_cli.specs.Whole.{StopsWith, HasRun}
 
 -- the store's count never falls
 pub later_of_run : (items : List Item) (answers : List Answer) (ledger last : Ledger) (old new : StoreView) → Run ledger old items answers last new → old.faults ≤ new.faults
@@ -87,7 +40,12 @@ outside_of_stop : (stop : WriteFault) (held now : SinkView) (state : Status) →
 outside_of_stop writes.Failed held now state (is, rose) outside = rose
 outside_of_stop writes.Memory held now state is outside = cc
 
--- the sink's count rose, or the store's
-pub rose_of_outside : (script : List ℕ) (old new : StoreView) (held now : SinkView) (state : Status) → Ran script old new held now state → state ≡ status.Outside → Rose held.faults now.faults ⊎ Rose old.faults new.faults
-rose_of_outside script old new held now state (inl ran) outside = inr (rose_of_run ran.items ran.answers _ ran.ledger old new ran.run (store_of_outside _ _ _ (sym ran.state_is ∙ outside)))
-rose_of_outside script old new held now state (inr ran) outside = inl (outside_of_stop ran.fault held now state ran.state_is outside)
+-- the source's count rose, or the sink's, or the store's
+pub rose_of_outside : (from to : SourceView) (old new : StoreView) (held now : SinkView) (state : Status) → HasRun from to old new held now state → state ≡ status.Outside → Rose from.faults to.faults ⊎ (Rose held.faults now.faults ⊎ Rose old.faults new.faults)
+rose_of_outside from to old new held now state (inl (script, told, inl ran)) outside = inr (inr (rose_of_run ran.items ran.answers _ ran.ledger old new ran.run (store_of_outside _ _ _ (sym ran.state_is ∙ outside))))
+rose_of_outside from to old new held now state (inl (script, told, inr ran)) outside = inr (inl (outside_of_stop ran.fault held now state ran.state_is outside))
+rose_of_outside from to old new held now state (inr ran) outside = inl (by_cause ran.cause)
+  where
+    by_cause : {P : Type 0} → ((state ≡ status.Outside) × Rose from.faults to.faults × P) ⊎ (state ≡ status.Memory) → Rose from.faults to.faults
+    by_cause (inl (is, rose, none)) = rose
+    by_cause (inr is) = cc

@@ -1,4 +1,4 @@
--- How the answering of a script's items ends.
+-- How a run ends in its last line.
 use Rattle.std.specs.Prelude.{◌≡◌, ◌⊎◌, ℕ, List, Err}
 use Rattle.wal_outside.specs.Sending.{Sends, HasSent}
 use Rattle.wal_outside.specs.declared.sink.WriteFault.{WriteFault}
@@ -7,12 +7,8 @@ use Rattle.session_cli.specs.declared.tally.Tally.{Tally}
 use Rattle.session_cli.specs.declared.status.Status.{Status}
 use Rattle.session_cli.specs.Lines.{fault_line}
 use Rattle.session_cli.specs.Tallies.{AddsFault, tally_status}
-use Rattle.session_cli.specs.Views.{SinkView, StoreView}
-use Rattle.session_cli.specs.Whole.{StopsWith, RanThrough, RanToStop}
-
--- all items were answered, or the sink stopped the run
-abbrev pub Ran : List ℕ → StoreView → StoreView → SinkView → SinkView → Status → Type 0
-Ran script old new held now state = RanThrough script old new held now state ⊎ RanToStop script old new held now state
+use Rattle.session_cli.specs.Views.{SinkView}
+use Rattle.session_cli.specs.Whole.{StopsWith}
 
 -- the last line was handed over and its fault counted
 pub record FinishesWhole (held : SinkView) (line : ℕ) (fault : Fault) (tally : Tally) (now : SinkView) (state : Status) : Type 0 where

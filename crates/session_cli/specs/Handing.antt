@@ -9,7 +9,6 @@ use Rattle.session_cli.specs.declared.status.Status.TheVariants as status
 use Rattle.session_cli.specs.Lines.{fault_line}
 use Rattle.session_cli.specs.declared.tally.Tally.{Tally}
 use Rattle.session_cli.specs.Trees.{Ledger}
-use Rattle.session_cli.specs.Outcomes.{OpenOutcome}
 use Rattle.session_cli.specs.Views.{StoreView}
 use Rattle.session_cli.specs.Commands.{Commands}
 use Rattle.session_cli.specs.Tallies.{AddsResult}
@@ -26,10 +25,6 @@ pub record HasAnswered (ledger : Ledger) (old : StoreView) (text : List ℕ) (li
   pub commands : Commands ledger old text result new
   pub sends : Sends told now (result_line line result) sent
   pub adds : AddsResult tally result counted
-
--- the fault of a text without terminator
-abbrev pub IsOpenFault : List ℕ → Fault → Type 0
-IsOpenFault text fault = OpenOutcome text (Err fault)
 
 -- how a run ends that a sink stopped
 abbrev pub stop_status : WriteFault → Status

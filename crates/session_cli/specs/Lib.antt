@@ -13,5 +13,4 @@ pub mod Plans
 pub mod Commands
 pub mod Tallies
 pub mod Handing
-pub mod Scripts
 pub mod Ending

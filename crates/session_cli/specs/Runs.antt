@@ -4,9 +4,7 @@ use Rattle.std.specs.Option.{option_map}
 use Rattle.wal_outside.specs.Causes.{Rose}
 use Rattle.wal_outside.specs.Files.{Files, put}
 use Rattle.wal_outside.specs.Places.{Place}
-use Rattle.script_cut.specs.Cuts.{Item}
-use Rattle.script_cut.specs.declared.cutting.Ended.{Ended}
-use Rattle.script_cut.specs.declared.cutting.Ended.TheVariants.{Terminated, Unterminated, PastLimit}
+use Rattle.script_cut.specs.Cuts.{Ended, Terminated, Unterminated, PastLimit, Item}
 use Rattle.session_cli.specs.declared.fault.Fault.{Fault}
 use Rattle.session_cli.specs.declared.fault.Fault.TheVariants as faults
 use Rattle.session_cli.specs.declared.status.Status.{Status}
@@ -30,7 +28,7 @@ IsAnswer ledger text (Ok success) = Outcome ledger text (Ok success)
 
 -- the answer of an item, by how it ended
 abbrev pub IsAnswerOf : Ended → Ledger → List ℕ → Answer → Type 0
-IsAnswerOf Terminated ledger text answer = IsAnswer ledger text answer
+IsAnswerOf (Terminated shown) ledger text answer = IsAnswer ledger text answer
 IsAnswerOf Unterminated ledger text answer = OpenOutcome text answer
 IsAnswerOf PastLimit ledger text answer = answer ≡ Err faults.ScriptLimit
 

@@ -4,7 +4,8 @@ use Rattle.wal_outside.specs.Causes.{Rose}
 use Rattle.wal_outside.specs.Sending.{Sends, HasSent}
 use Rattle.wal_outside.specs.declared.sink.WriteFault.{WriteFault}
 use Rattle.wal_outside.specs.declared.sink.WriteFault.TheVariants as writes
-use Rattle.script_cut.specs.Cuts.{Item, Place, start, CutsTo, IsAtEnd}
+use Rattle.std.specs.Io.KnownBytes.{Consumes}
+use Rattle.script_cut.specs.Cuts.{Item, Place, start, CutsTo, IsAtEnd, HasNoCommand}
 use Rattle.session_cli.specs.declared.status.Status.{Status}
 use Rattle.session_cli.specs.declared.status.Status.TheVariants as status
 use Rattle.session_cli.specs.Trees.{Ledger}
@@ -47,17 +48,30 @@ pub record RanToStop (script : List ℕ) (old new : StoreView) (held now : SinkV
   pub stopped : Sends {T = Unit {0}} mid now.held (line_of item answer) (Err fault)
   pub state_is : StopsWith fault held now state
 
--- No command was answered and nothing printed: the source failed, or there was no memory for the script.
-pub record RanNothing (from to : SourceView) (old new : StoreView) (held now : SinkView) (state : Status) : Type 0 where
-  pub state_is : ((state ≡ status.Outside) × Rose from.faults to.faults) ⊎ (state ≡ status.Memory)
-  pub store_stays : new ≡ old
-  pub sink_stays : now ≡ held
+-- The source failed, or there was no memory to cut the next command. The items answered are those of what the source gave, and their
+-- lines were printed whole. Where the source failed, no further command has its terminator in what it gave.
+pub record RanToFault (from to : SourceView) (old new : StoreView) (held now : SinkView) (state : Status) : Type 0 where
+  pub gave : List ℕ
+  pub more : List ℕ
+  pub taken : Consumes from.left to.left gave
+  pub told : IsTold to.left more
+  pub items : List Item
+  pub answers : List Answer
+  pub last : Place
+  pub cut : CutsTo (start (gave ++ more)) items last
+  pub behind : List ℕ
+  pub left_is : last.left ≡ behind ++ more
+  pub ledger : Ledger
+  pub run : Run (first_ledger old.files) old items answers ledger new
+  pub stores : StoresTold ledger new.files
+  pub sent : HasSent held.held now.held (printed items answers)
+  pub cause : ((state ≡ status.Outside) × Rose from.faults to.faults × HasNoCommand behind) ⊎ (state ≡ status.Memory)
 
--- A run over a script: all of what the source had left, where that is told.
+-- A run over a script: all of what the source had left, where that is told; or what it gave of that.
 abbrev pub HasRun : SourceView → SourceView → StoreView → StoreView → SinkView → SinkView → Status → Type 0
 HasRun from to old new held now state =
     ((script : List ℕ) × IsTold from.left script × (RanThrough script old new held now state ⊎ RanToStop script old new held now state))
-    ⊎ RanNothing from to old new held now state
+    ⊎ RanToFault from to old new held now state
 
 abbrev pub usage_line : List ℕ
 usage_line = codes "usage: walnut [--states N] [--stop] [--make SEED]\n"

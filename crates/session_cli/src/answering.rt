@@ -1,16 +1,15 @@
-ghost use Rattle.std.specs.Prelude.{◌≡◌, ◌≤◌, ◌<◌, length, Err, IsErrOf};
+ghost use Rattle.std.specs.Prelude.{◌≡◌, ◌≤◌, IsErrOf};
 ghost use Rattle.wal_outside.specs.Causes.{Rose};
 ghost use Rattle.wal_outside.specs.Sending.{Sends};
 ghost use Rattle.session_cli.specs.Tallies.{AddsResult};
 ghost use Rattle.session_cli.specs.Trees.{Ledger};
 ghost use Rattle.session_cli.specs.Runs.{StoresTold};
 ghost use Rattle.session_cli.specs.Views.{StoreView};
-ghost use Rattle.session_cli.specs.Handing.{HasAnswered, result_line, IsOpenFault, stop_status as status_of_stop};
+ghost use Rattle.session_cli.specs.Handing.{HasAnswered, result_line, stop_status as status_of_stop};
 
 use crate::command::command;
-use crate::fault::{Fault, Part};
+use crate::fault::Fault;
 use crate::lines::send_fault;
-use crate::planning::COMMAND_LIMIT;
 use crate::status::Status;
 use crate::tally::Tally;
 use std::alloc::Global;
@@ -60,17 +59,6 @@ pub(crate) fn answer_command<K: Sink, T: Store>(
 {
     let answer = command(alloc, text, store);
     hand_over(out, line, &answer, tally)
-}
-
-/// Why a text without terminator is refused: it is too long, or it ends too early.
-pub(crate) fn open_fault(text: &[u8]) -> Fault
-    ensures { IsOpenFault text.now result }
-{
-    if text.len() > COMMAND_LIMIT {
-        Fault::Long(COMMAND_LIMIT)
-    } else {
-        Fault::Syntax(Part::Command, text.len())
-    }
 }
 
 /// How a run ends that the sink stopped.

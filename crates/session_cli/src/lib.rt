@@ -1,4 +1,4 @@
-//! Sessions: a script is read, its commands are answered one after another, and each accepted one stores its text.
+//! Sessions: the commands of a script are answered one after another as they come, and each accepted one stores its text.
 #![tactic(auto)]
 
 // how a run ended
@@ -17,8 +17,6 @@ mod tally;
 mod answering;
 // the commands of a script, one after another
 mod running;
-// the bytes of a script
-mod script;
 // the whole call
 mod whole;
 // what holds of all runs

@@ -1,49 +1,56 @@
-ghost use Rattle.std.specs.Prelude.{◌≡◌, ◌≤◌, length};
-ghost use Rattle.wal_outside.specs.Causes.{Rose};
-ghost use Rattle.session_cli.specs.Views.{SinkView, StoreView};
-ghost use Rattle.session_cli.specs.Ending.{Ran, Finishes};
+ghost use Rattle.session_cli.specs.Views.{SourceView, SinkView, StoreView};
+ghost use Rattle.session_cli.specs.Whole.{HasRun};
+ghost use Rattle.session_cli.specs.Ending.{Finishes};
 
-use crate::answering::{answer_command, hand_over, open_fault, stop_status};
-use crate::fault::Fault;
+use crate::answering::{answer_command, hand_over, stop_status};
+use crate::fault::{Fault, Part};
+use crate::planning::COMMAND_LIMIT;
 use crate::status::Status;
 use crate::tally::Tally;
-use script_cut::{Cut, SCRIPT_LIMIT, next_cut};
+use script_cut::{Cut, CutFault, Cutter};
 use std::alloc::Global;
-use wal_outside::{Sink, Store};
+use wal_outside::{Sink, Source, Store};
 
-/// Answers the commands of a script one after another, and hands over their lines.
-pub(crate) fn answer_all<K: Sink, T: Store>(
+/// Answers the commands of a script one after another, each as its terminator comes, and hands over their lines.
+pub(crate) fn answer_all<S: Source, K: Sink, T: Store>(
     alloc: Global,
-    bytes: &[u8],
+    script: &mut S,
     out: &mut K,
     store: &mut T,
 ) -> Status
-    requires { length bytes.now ≤ 16777217 }
-    ensures { Ran bytes.now
+    ensures { HasRun
+        (record { left = S.left script.old; faults = S.faults script.old })
+        (record { left = S.left script.new; faults = S.faults script.new })
         (record { files = T.files store.old; faults = T.faults store.old; failed = T.failed store.old })
         (record { files = T.files store.new; faults = T.faults store.new; failed = T.failed store.new })
         (record { held = K.held out.old; faults = K.faults out.old })
         (record { held = K.held out.new; faults = K.faults out.new }) result }
 {
     let mut tally = Tally::new();
-    let mut rest = bytes;
-    let mut room = SCRIPT_LIMIT;
-    let mut line = 1;
+    let mut cutter = Cutter::new(alloc);
     'items: loop {
-        match next_cut(rest, room, line) {
-            Cut::Command(text, at, left, room_left, next) => {
-                match answer_command(alloc, text, at, out, store, &mut tally) {
-                    Ok(()) => {
-                        rest = left;
-                        room = room_left;
-                        line = next;
-                    }
+        match cutter.cut(script) {
+            Ok(Cut::Command(text, _shown, line)) => {
+                match answer_command(alloc, &text, line, out, store, &mut tally) {
+                    Ok(()) => {}
                     Err(fault) => return stop_status(fault),
                 }
             }
-            Cut::Open(text, at) => return finish(out, at, open_fault(text), tally),
-            Cut::PastLimit(at) => return finish(out, at, Fault::ScriptLimit, tally),
-            Cut::End => return tally.status(),
+            Ok(Cut::End) => return tally.status(),
+            Err(CutFault::Long(line)) => {
+                match hand_over(out, line, &Err(Fault::Long(COMMAND_LIMIT)), &mut tally) {
+                    Ok(()) => {}
+                    Err(fault) => return stop_status(fault),
+                }
+            }
+            Err(CutFault::Syntax(line, len)) => {
+                return finish(out, line, Fault::Syntax(Part::Command, len), tally);
+            }
+            Err(CutFault::ScriptLimit(line)) => {
+                return finish(out, line, Fault::ScriptLimit, tally);
+            }
+            Err(CutFault::Failed) => return Status::Outside,
+            Err(CutFault::Memory) => return Status::Memory,
         }
     }
 }

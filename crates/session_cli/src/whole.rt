@@ -5,18 +5,18 @@ ghost use Rattle.session_cli.specs.Whole.{HasRun, ShowsUsage};
 
 use crate::answering::stop_status;
 use crate::running::answer_all;
-use crate::script::{ReadFault, read_script};
 use crate::status::Status;
 use std::alloc::Global;
 use wal_outside::{Sink, Source, Store, send};
 
-/// Runs a script: reads it, answers its commands in order, and prints the lines of the refused ones. `words` are those of
-/// the command line, the program's name first.
+/// Runs a script: answers its commands in order, each as soon as its terminator was read, and prints the lines of the
+/// refused ones. `words` are those of the command line, the program's name first. At most 65,537 bytes of the script are
+/// held at once.
 ///
 /// The status is the first of these that applies: `Usage` where a word follows the first, and then the usage line is
 /// printed; `Outside` where source or sink failed; `Memory`; `Outside` where the store failed; `Refused`; `Done`. A source
-/// that fails answers no command, a sink that fails or has no memory ends the run. The store keeps what was stored until
-/// then.
+/// or sink that fails, and want of memory outside a command, end the run: what was answered until then stands. Where the
+/// source failed, that is each command whose terminator it gave.
 pub fn run<S: Source, K: Sink, T: Store>(
     alloc: Global,
     words: &[String],
@@ -46,11 +46,7 @@ pub fn run<S: Source, K: Sink, T: Store>(
             Err(fault) => stop_status(fault),
         };
     }
-    match read_script(alloc, script) {
-        Ok(bytes) => answer_all(alloc, &bytes, out, store),
-        Err(ReadFault::Failed) => Status::Outside,
-        Err(ReadFault::Memory) => Status::Memory,
-    }
+    answer_all(alloc, script, out, store)
 }
 
 /// What the program takes on its command line.

@@ -72,16 +72,39 @@ fn pieces_change_nothing(rt: HostRuntime) -> Result<(), Fail> {
     Ok(())
 }
 
-#[test]
-fn a_source_that_fails_answers_no_command(rt: HostRuntime) -> Result<(), Fail> {
+/// Runs a script of which a source gives so many bytes, and fails at its second call.
+fn run_to_failure(
+    alloc: Global,
+    script: &[u8],
+    reads: &'static [usize],
+) -> Result<Left, AllocError> {
     let outside = Outside {
-        reads: &[15],
+        reads,
         failing_reads: &[2],
         writes: &[],
         failing_writes: &[],
         failing_store: &[],
     };
-    let left = run_script(rt.alloc(), THREE, &outside)?;
+    run_script(alloc, script, &outside)
+}
+
+#[test]
+fn a_source_that_fails_leaves_what_was_answered(rt: HostRuntime) -> Result<(), Fail> {
+    let left = run_to_failure(rt.alloc(), THREE, &[15])?;
+    assert_eq!(rt; left.status, Status::Outside);
+    assert!(rt; left.out.held().is_empty());
+    assert!(rt; is_stored(&left, "p"));
+    assert_eq!(rt; left.store.len(), 1);
+    let refused = run_to_failure(rt.alloc(), REFUSED, &[6])?;
+    assert_eq!(rt; refused.status, Status::Outside);
+    assert_eq!(rt; refused.out.held(), PRINTED);
+    assert_eq!(rt; refused.store.len(), 0);
+    Ok(())
+}
+
+#[test]
+fn a_command_that_did_not_come_whole_is_not_begun(rt: HostRuntime) -> Result<(), Fail> {
+    let left = run_to_failure(rt.alloc(), THREE, &[13])?;
     assert_eq!(rt; left.status, Status::Outside);
     assert!(rt; left.out.held().is_empty());
     assert_eq!(rt; left.store.len(), 0);

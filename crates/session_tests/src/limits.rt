@@ -39,6 +39,20 @@ fn a_command_has_at_most_65536_bytes(rt: HostRuntime) -> Result<(), Fail> {
     Ok(())
 }
 
+// A command that is too long is answered, and so is the one behind it.
+#[test]
+fn a_run_goes_on_behind_a_long_command(rt: HostRuntime) -> Result<(), Fail> {
+    let mut script = command_of(rt.alloc(), COMMAND_LIMIT + 1)?;
+    script.extend_from_slice(b"\nx;reg a {0} \"0\":")?;
+    let left = run_script(rt.alloc(), &script, &SURE)?;
+    assert_eq!(rt;
+        left.out.held(),
+        b"error 1: F07 Long 65536\nerror 2: F01 Command\n".as_slice()
+    );
+    assert_eq!(rt; left.store.len(), 1);
+    Ok(())
+}
+
 /// A script of so many bytes: a command, line ends, and at the end a command without arguments.
 fn script_of(alloc: Global, length: usize) -> Result<Vec<u8>, AllocError> {
     let mut script = Vec::with_capacity(alloc, length)?;

@@ -10,7 +10,7 @@ returns-then-index-eq-SCRIPT_LIMIT c =
     let script : List ℕ = c.args.script.now in
     let len : length (take i script) ≡ i = length-take-le i script (omega arith) in
     let more : drop i script ≢ [] = λ none. let empty : length (drop i script) ≡ 0 = rw none refl in omega (arith, length-drop i script) in
-    IfOk-weaker c.cut_off.result _ _ (λ items items_is. rw items_is (rw take-append-drop at (read_past (take i script) (drop i script) c.loop-index.reading.items.items c.loop-index.reading.text.items c.loop-index.reading.begin c.loop-index.reading.line c.loop-index.reading.quoted c.loop-index.invariant.read more (omega arith)))) c.cut_off.ensures
+    IfOk-weaker c.cut_off.result _ _ (λ items items_is. rw items_is (rw take-append-drop at (read_past (take i script) (drop i script) c.loop-index.reading.items.items c.loop-index.reading.text.items c.loop-index.reading.begin c.loop-index.reading.line c.loop-index.reading.commented c.loop-index.reading.quoted c.loop-index.invariant.read more (omega arith)))) c.cut_off.ensures
 
 pub loop-index-preserved : goal.loop-index-preserved
 loop-index-preserved c =

@@ -1,5 +1,4 @@
 use Rattle.script_cut.proofs.OneList.{same_next, same_lists}
-use Rattle.script_cut.proofs.SomeList.{some_list}
 use Rattle.script_cut.proofs.laws.one_cut.Goals as goal
 
 pub returns-clause-next : goal.returns-clause-next
@@ -7,6 +6,3 @@ returns-clause-next c = λ place i j p q a b. let same = same_next place i j p q
 
 pub returns-clause-list : goal.returns-clause-list
 returns-clause-list c = λ place is js a b. same_lists place is js a b
-
-pub returns-clause-some : goal.returns-clause-some
-returns-clause-some c = some_list

@@ -1,0 +1,10 @@
+pub mod OrderLemmas
+pub mod EdgeLemmas
+pub mod CanonicalLemmas
+pub mod PigeonLemmas
+pub mod SinkLemmas
+pub mod SignatureLemmas
+pub mod RefiningLemmas
+pub mod ResidualLemmas
+pub mod QuotientLemmas
+pub mod SameLemmas

@@ -1,0 +1,196 @@
+-- The automaton whose states are classes is canonical.
+use Rattle.std.proofs.Common.{◌≡◌, ◌≢◌, ◌==◌, ℕ, zero, suc, ◌+◌, ◌<◌, ◌≤◌, Bool, true, false, List, [], ◌∷◌, ◌++◌, map, take, length, get_or, set, Option, None, Some, MatchOption, if◌then◌else◌, ◌⊎◌, inl, inr, refl, sym, ap, ◌∙◌, subst, arith, get_or-set_same, get_or-set_other, length-set}
+use Rattle.std.specs.Bool.{⊤}
+use Rattle.std.specs.List.{All, AllPairs}
+use Rattle.std.specs.Option.{option_map, option_map_or}
+use Rattle.std.proofs.lemmas.Bool.{cases_lt, cases_eq, eqb-true, eqb-false}
+use Rattle.std.proofs.lemmas.List.{get_or-map, length-map, map-append}
+use Rattle.std.proofs.lemmas.Option.{none-some, same_Some}
+use Rattle.digit_tuple.specs.declared.edges.Edge.{Edge}
+use Rattle.digit_tuple.specs.Deterministic.{Automaton, IsTable, IsByEarlier, letters_of, states_of, step_of, accepting_of, edges_of, target_by, accepts_from}
+use Rattle.digit_tuple.specs.FirstWords.{IsNumberedByFirsts}
+use Rattle.digit_tuple.specs.Letters.{product, IsWord}
+use Rattle.explore.specs.Keys.{Step, AreSteps, key_by}
+use Rattle.explore.specs.Explored.{IsExplored, key_at}
+use Rattle.explore.specs.Steps.{step_in, steps_in}
+use Rattle.explore.specs.declared.source.KeyStep.{KeyStep}
+use Rattle.minimise.specs.Residuals.{SameResidual, SameLanguage, IsDead}
+use Rattle.minimise.specs.Canonical.{IsCanonical}
+use Rattle.minimise.specs.Classes.{AreResiduals, class_of, next_of, dead_class, live_class}
+use Rattle.minimise.specs.Signatures.{class_edges}
+use Rattle.minimise.specs.Quotient.{AreLeaders, IsQuotient, IsClass, leader_of, class_after, class_accepts, step_by}
+use Rattle.minimise.proofs.SinkLemmas.{sink_refuses, accepts_from-next, row_of, next_within}
+use Rattle.minimise.proofs.SignatureLemmas.{class_edge, class_edges-dead, class_edges-live, class_edges-all, class_edges-pairs, class_edges-lead}
+
+-- leaders of no states yet
+pub AreLeaders-none : (classes leaders : List ℕ) → length leaders ≡ length classes → AreLeaders classes leaders 0
+AreLeaders-none classes leaders width = record { width = width; within = λ q less. absurd (omega arith); same = λ q less. absurd (omega arith) }
+
+-- one more state leads its class
+pub AreLeaders-more : (classes old new : List ℕ) (count : ℕ) → AreLeaders classes old count → class_of classes count < length old → new ≡ set old (class_of classes count) count → AreLeaders classes new (count + 1)
+AreLeaders-more classes old new count so_far inside is = record {
+  width = ap length is ∙ length-set old (class_of classes count) count ∙ so_far.width;
+  within = λ q less. (by q less (cases_eq (class_of classes q) (class_of classes count))).0;
+  same = λ q less. (by q less (cases_eq (class_of classes q) (class_of classes count))).1;
+}
+  where
+    by : (q : ℕ) → q < count + 1 → (class_of classes q ≡ class_of classes count) ⊎ (class_of classes q ≡ class_of classes count → ⊥)
+        → (class_of new (class_of classes q) < count + 1) × (class_of classes (class_of new (class_of classes q)) ≡ class_of classes q)
+    by q less (inl one) =
+        let at : class_of new (class_of classes q) ≡ count = ap (class_of new) one ∙ ap (λ ns. class_of ns (class_of classes count)) is ∙ get_or-set_same old (class_of classes count) count 0 inside in
+        (omega (arith, at), ap (class_of classes) at ∙ sym one)
+    by q less (inr other) =
+        let at : class_of new (class_of classes q) ≡ class_of old (class_of classes q) = ap (λ ns. class_of ns (class_of classes q)) is ∙ get_or-set_other old (class_of classes count) (class_of classes q) count 0 other in
+        before (cases_lt q count) at
+      where
+        before : (q < count) ⊎ (count ≤ q) → class_of new (class_of classes q) ≡ class_of old (class_of classes q)
+            → (class_of new (class_of classes q) < count + 1) × (class_of classes (class_of new (class_of classes q)) ≡ class_of classes q)
+        before (inl earlier) at = (omega (arith, at, so_far.within q earlier), ap (class_of classes) at ∙ so_far.same q earlier)
+        before (inr later) at = let same : q ≡ count = omega arith in absurd (other (ap (class_of classes) same))
+
+-- steps by edges lead where the edges do
+pub key_by-edges : (es : List Edge) (a : ℕ) → key_by (map step_by es) a ≡ option_map (λ class. class ∷ []) (target_by es a)
+key_by-edges [] a = refl
+key_by-edges (e ∷ es) a = by (e.letter == a) (key_by-edges es a)
+  where
+    by : (b : Bool) → key_by (map step_by es) a ≡ option_map (λ class. class ∷ []) (target_by es a)
+        → (if b then Some (e.target ∷ []) else key_by (map step_by es) a) ≡ option_map (λ class. class ∷ []) (if b then Some e.target else target_by es a)
+    by true rest = refl
+    by false rest = rest
+
+-- the steps from a class
+pub AreSteps-class : (d : Automaton) (classes leaders key : List ℕ) → IsTable (letters_of d) d.states
+    → AreSteps (letters_of d) (class_after d classes leaders key) (map step_by (class_edges classes (dead_class d classes) (edges_of d (leader_of leaders key))))
+AreSteps-class d classes leaders key table = record {
+  in_range = λ k z within.
+      let inside : k < length es = omega (arith, within, length-map es step_by) in
+      let low : (get_or es k first).letter < letters_of d = class_edges-all classes (dead_class d classes) (λ a. a < letters_of d) (edges_of d q) (λ i y there. ((row_of d table q).in_range i y there).0) k first inside in
+      omega (arith, low, ap (λ (s : Step). s.letter) (get_or-map step_by es k first z inside));
+  ascending = λ i j z before within.
+      let inside : j < length es = omega (arith, within, length-map es step_by) in
+      let less : (get_or es i first).letter < (get_or es j first).letter = class_edges-pairs classes (dead_class d classes) (edges_of d q) (row_of d table q).ascending i j first before inside in
+      omega (arith, less, ap (λ (s : Step). s.letter) (get_or-map step_by es i first z (omega arith)), ap (λ (s : Step). s.letter) (get_or-map step_by es j first z inside));
+  lead = λ a small. key_by-edges es a ∙ ap (option_map (λ class. class ∷ [])) (class_edges-lead d classes (edges_of d q) a (row_of d table q).ascending);
+}
+  where
+    q : ℕ
+    q = leader_of leaders key
+
+    es : List Edge
+    es = class_edges classes (dead_class d classes) (edges_of d q)
+
+    first : Edge
+    first = record { letter = 0; target = 0 }
+
+module _ (d : Automaton) (classes leaders key : List ℕ) (a : ℕ) where
+  abbrev n : ℕ
+  n = next_of d (leader_of leaders key) a
+
+  -- where a letter leads to no class
+  class_after-none : class_after d classes leaders key a ≡ None → class_of classes n ≡ dead_class d classes
+  class_after-none = by (class_of classes n == dead_class d classes) refl
+    where
+      by : (b : Bool) → (class_of classes n == dead_class d classes) ≡ b → option_map (λ class. class ∷ []) (if b then None else Some (class_of classes n)) ≡ None → class_of classes n ≡ dead_class d classes
+      by true is none = eqb-true (class_of classes n) (dead_class d classes) is
+      by false is none = absurd (none-some (class_of classes n ∷ []) (sym none))
+
+  -- where it leads to one
+  class_after-some : (next : List ℕ) → class_after d classes leaders key a ≡ Some next → (class_of classes n ≢ dead_class d classes) × (class_of classes n ∷ [] ≡ next)
+  class_after-some next = by (class_of classes n == dead_class d classes) refl
+    where
+      by : (b : Bool) → (class_of classes n == dead_class d classes) ≡ b → option_map (λ class. class ∷ []) (if b then None else Some (class_of classes n)) ≡ Some next → (class_of classes n ≢ dead_class d classes) × (class_of classes n ∷ [] ≡ next)
+      by true is some = absurd (none-some next some)
+      by false is some = (eqb-false (class_of classes n) (dead_class d classes) is, same_Some (class_of classes n ∷ []) next some)
+
+-- a list of one number
+one_number : (key : List ℕ) → length key ≡ 1 → key ≡ class_of key 0 ∷ []
+one_number [] one = absurd (omega arith)
+one_number (k ∷ []) one = refl
+one_number (k ∷ l ∷ ls) one = absurd (omega arith)
+
+module _ (d least : Automaton) (classes leaders : List ℕ) (quotient : IsQuotient d classes leaders) (keys : List (List ℕ))
+    (explored : IsExplored (letters_of d) (class_of classes 0 ∷ []) (class_after d classes leaders) (class_accepts d leaders) keys least) (valid : All (IsClass d classes leaders) keys) where
+  -- the state of d whose residual a state of the least automaton has
+  abbrev state : ℕ → ℕ
+  state q = leader_of leaders (key_at keys q)
+
+  class_at : (q : ℕ) → q < states_of least → IsClass d classes leaders (key_at keys q)
+  class_at q within = valid q [] (omega (arith, within, explored.count))
+
+  -- what the class of a letter's target tells of residuals
+  same_next : (t n : ℕ) → t < states_of least → n ≤ states_of d → class_of classes n ∷ [] ≡ key_at keys t → SameResidual d (state t) d n
+  same_next t n within inside is =
+      let at = class_at t within in
+      (quotient.residuals (state t) n (omega (arith, at.leader)) inside).0 (at.itself ∙ ap (λ key. class_of key 0) (sym is))
+
+  residual : (w : List ℕ) (q : ℕ) → IsWord (letters_of d) w → q < states_of least → accepts_from least q w ≡ accepts_from d (state q) w
+  residual [] q over within = explored.accepting q within
+  residual (a ∷ w) q over within = by (step_of least q a) (explored.steps q a within over.0) (λ t inside. residual w t over.1 inside) ∙ sym (accepts_from-next d (state q) a w)
+    where
+      by : (o : Option ℕ) → MatchOption o (class_after d classes leaders (key_at keys q) a ≡ None) (λ t. (t < states_of least) × (class_after d classes leaders (key_at keys q) a ≡ Some (key_at keys t)))
+          → ((t : ℕ) → t < states_of least → accepts_from least t w ≡ accepts_from d (state t) w) → option_map_or (λ p. accepts_from least p w) o false ≡ accepts_from d (next_of d (state q) a) w
+      by None none rest =
+          let dead = class_after-none d classes leaders (key_at keys q) a none in
+          sym ((quotient.residuals (next_of d (state q) a) (states_of d) (next_within d quotient.table (state q) a) (omega arith)).0 dead w over.1 ∙ sink_refuses d w)
+      by (Some t) some rest =
+          let live = class_after-some d classes leaders (key_at keys q) a (key_at keys t) some.1 in
+          rest t some.0 ∙ same_next t (next_of d (state q) a) some.0 (next_within d quotient.table (state q) a) live.1 w over.1
+
+  pub SameLanguage-explored : 0 < states_of least → SameLanguage d least
+  SameLanguage-explored some w over = sym (residual w 0 over some ∙ same_next 0 0 some (omega arith) (sym explored.start_is) w over)
+
+  pub IsCanonical-explored : IsTable (letters_of least) least.states → (firsts : List (List ℕ)) → IsNumberedByFirsts least firsts → least.sizes ≡ d.sizes → IsCanonical least
+  IsCanonical-explored table firsts numbered sizes = record {
+    table = table;
+    firsts = firsts;
+    numbered = numbered;
+    distinct = λ p q less within same.
+        let one = class_at p (omega arith) in
+        let two = class_at q within in
+        let residuals : SameResidual d (state p) d (state q) = λ w over. sym (residual w p over (omega arith)) ∙ same w (word w over) ∙ residual w q over within in
+        let class : class_of (key_at keys p) 0 ≡ class_of (key_at keys q) 0 = sym one.itself ∙ (quotient.residuals (state p) (state q) (omega (arith, one.leader)) (omega (arith, two.leader))).1 residuals ∙ two.itself in
+        explored.apart p q [] less (omega (arith, within, explored.count)) (one_number (key_at keys p) one.one ∙ ap (λ c. c ∷ []) class ∙ sym (one_number (key_at keys q) two.one));
+    live = λ p a q within small leads dead.
+        let step = subst (λ (o : Option ℕ). MatchOption o (class_after d classes leaders (key_at keys p) a ≡ None) (λ t. (t < states_of least) × (class_after d classes leaders (key_at keys p) a ≡ Some (key_at keys t)))) leads (explored.steps p a within (letter a small)) in
+        let some = class_after-some d classes leaders (key_at keys p) a (key_at keys q) step.1 in
+        let at = class_at q step.0 in
+        some.0 (ap (λ key. class_of key 0) some.1 ∙ sym at.itself
+        ∙ (quotient.residuals (state q) (states_of d) (omega (arith, at.leader)) (omega arith)).1 (λ w over. sym (residual w q over step.0) ∙ dead w (word w over) ∙ sym (sink_refuses d w)));
+  }
+    where
+      letters : letters_of d ≡ letters_of least
+      letters = ap product (sym sizes)
+
+      word : (w : List ℕ) → IsWord (letters_of d) w → IsWord (letters_of least) w
+      word w over = subst (λ n. IsWord n w) letters over
+
+      letter : (a : ℕ) → a < letters_of least → a < letters_of d
+      letter a small = omega (arith, small, letters)
+
+-- the classes and their leaders, read through slices
+pub IsQuotient-read : (d : Automaton) (items ls one two three : List ℕ) → one ≡ items → two ≡ items → three ≡ ls → IsTable (letters_of d) d.states → length items ≡ states_of d + 1 → All (λ c. c ≤ states_of d) items → AreResiduals d items
+    → AreLeaders one ls (states_of d) → IsQuotient d two three
+IsQuotient-read d items ls one two three first second third table width below residuals leaders =
+    subst (λ (xs : List ℕ). IsQuotient d two xs) (sym third) (subst (λ (xs : List ℕ). IsQuotient d xs ls) (sym second) (record {
+      table = table;
+      width = width;
+      below = λ q within. below q 0 (omega (arith, within, width));
+      residuals = residuals;
+      leaders_are = subst (λ (xs : List ℕ). AreLeaders xs ls (states_of d)) first leaders;
+    }))
+
+-- the next edge's step, if it has one
+module _ (classes : List ℕ) (dead : ℕ) (es : List Edge) (k : ℕ) (z : Edge) (within : k < length es) (old : List KeyStep) (so_far : steps_in old ≡ map step_by (class_edges classes dead (take k es))) where
+  pub steps_in-dead : class_of classes (get_or es k z).target ≡ dead → steps_in old ≡ map step_by (class_edges classes dead (take (k + 1) es))
+  steps_in-dead is = so_far ∙ ap (map step_by) (class_edges-dead classes dead es k z within is)
+
+  pub steps_in-live : (new : List KeyStep) (step : KeyStep) → new ≡ old ++ step ∷ [] → step.letter ≡ (get_or es k z).letter → step.key.items ≡ class_of classes (get_or es k z).target ∷ [] → class_of classes (get_or es k z).target ≢ dead
+      → steps_in new ≡ map step_by (class_edges classes dead (take (k + 1) es))
+  steps_in-live new step pushed letter key other =
+      ap steps_in pushed ∙ map-append step_in old (step ∷ []) ∙ ap (λ (ss : List Step). ss ++ step_in step ∷ []) so_far
+      ∙ ap (λ (s : Step). map step_by (class_edges classes dead (take k es)) ++ s ∷ []) same
+      ∙ sym (map-append step_by (class_edges classes dead (take k es)) (class_edge classes (get_or es k z) ∷ []))
+      ∙ ap (map step_by) (class_edges-live classes dead es k z within other)
+    where
+      same : step_in step ≡ step_by (class_edge classes (get_or es k z))
+      same = ap (λ (n : ℕ). let s : Step = record { letter = n; key = step.key.items } in s) letter ∙ ap (λ (ns : List ℕ). let s : Step = record { letter = (get_or es k z).letter; key = ns } in s) key

@@ -1,0 +1,95 @@
+-- Classes that are refined until they are the residual languages.
+use Rattle.std.proofs.Common.{◌≡◌, ℕ, zero, suc, ◌+◌, ◌<◌, ◌≤◌, List, [], ◌∷◌, map, length, get_or, ◌⊎◌, inl, inr, refl, sym, ap, ◌∙◌, subst, arith}
+use Rattle.std.specs.List.{All}
+use Rattle.std.proofs.lemmas.List.{get_or_default}
+use Rattle.digit_tuple.specs.Deterministic.{Automaton, IsTable, letters_of, states_of, accepts_from}
+use Rattle.digit_tuple.specs.Letters.{IsWord}
+use Rattle.minimise.specs.Residuals.{SameResidual}
+use Rattle.minimise.specs.Classes.{class_of, next_of, AreResiduals}
+use Rattle.minimise.specs.Refinement.{AreAlike, AreCounted, AreRefined}
+use Rattle.minimise.proofs.PigeonLemmas.{StandsIn, onto_least, onto_one, choose}
+use Rattle.minimise.proofs.SinkLemmas.{accepts_from-next, next_within}
+
+-- classes that part no states with one residual language
+pub record AreCoarse (d : Automaton) (classes : List ℕ) (count : ℕ) : Type 0 where
+  pub counted : AreCounted d classes count
+  pub coarse : (p q : ℕ) → p ≤ states_of d → q ≤ states_of d → SameResidual d p d q → class_of classes p ≡ class_of classes q
+
+-- one class for all
+pub AreCoarse-one : (d : Automaton) (classes : List ℕ) → length classes ≡ states_of d + 1 → ((q : ℕ) → class_of classes q ≡ 0) → AreCoarse d classes 1
+AreCoarse-one d classes width zeros = record {
+  counted = record {
+    width = width;
+    small = omega arith;
+    below = λ q within. omega (arith, zeros q);
+    onto = λ k less. (0, omega arith, omega (arith, zeros 0, less));
+  };
+  coarse = λ p q small low same. zeros p ∙ sym (zeros q);
+}
+
+module _ (d : Automaton) (table : IsTable (letters_of d) d.states) where
+  -- what is alike for all rounds has one residual language; what has one is alike
+  alike_residual : (classes : List ℕ) (p q : ℕ) → ((p q : ℕ) → p ≤ states_of d → q ≤ states_of d → SameResidual d p d q → class_of classes p ≡ class_of classes q)
+      → p ≤ states_of d → q ≤ states_of d → SameResidual d p d q → AreAlike d classes p q
+  alike_residual classes p q coarse small low same = record {
+    accepting = same [] tt;
+    own = coarse p q small low same;
+    next = λ a inside. coarse (next_of d p a) (next_of d q a) (next_within d table p a) (next_within d table q a)
+        (λ w over. sym (accepts_from-next d p a w) ∙ same (a ∷ w) (inside, over) ∙ accepts_from-next d q a w);
+  }
+
+  pub AreCoarse-refined : (old new : List ℕ) (count more : ℕ) → AreCoarse d old count → AreRefined d old new more → AreCoarse d new more
+  AreCoarse-refined old new count more coarse refined = record {
+    counted = refined.counted;
+    coarse = λ p q small low same. (refined.same p q small low).1 (alike_residual old p q coarse.coarse small low same);
+  }
+
+  -- what stays alike has one residual language
+  module _ (classes : List ℕ) (stable : (p q : ℕ) → p ≤ states_of d → q ≤ states_of d → class_of classes p ≡ class_of classes q → AreAlike d classes p q) where
+    pub residual_from_class : (w : List ℕ) (p q : ℕ) → p ≤ states_of d → q ≤ states_of d → class_of classes p ≡ class_of classes q → IsWord (letters_of d) w → accepts_from d p w ≡ accepts_from d q w
+    residual_from_class [] p q small low same over = (stable p q small low same).accepting
+    residual_from_class (a ∷ w) p q small low same over =
+        accepts_from-next d p a w
+        ∙ residual_from_class w (next_of d p a) (next_of d q a) (next_within d table p a) (next_within d table q a) ((stable p q small low same).next a over.0) over.1
+        ∙ sym (accepts_from-next d q a w)
+
+  module _ (old new : List ℕ) (count more : ℕ) (coarse : AreCoarse d old count) (refined : AreRefined d old new more) where
+    -- a state of the new class, and its old one
+    abbrev IsOld : ℕ → ℕ → Type 0
+    IsOld k c = (q : ℕ) × (q ≤ states_of d) × (class_of new q ≡ k) × (c ≡ class_of old q)
+
+    olds : (xs : List ℕ) × (length xs ≡ more) × ((k : ℕ) → k < more → IsOld k (class_of xs k))
+    olds = choose IsOld more (λ k less. let there = refined.counted.onto k less in (class_of old there.0, (there.0, there.1, there.2, refl)))
+
+    old_class : (q : ℕ) → q ≤ states_of d → class_of olds.0 (class_of new q) ≡ class_of old q
+    old_class q within =
+        let at = olds.2 (class_of new q) (refined.counted.below q within) in
+        at.3 ∙ ((refined.same at.0 q at.1 within).0 at.2).own
+
+    all_stand : (k : ℕ) → k < count → StandsIn olds.0 k
+    all_stand k less =
+        let there = coarse.counted.onto k less in
+        (class_of new there.0, omega (arith, refined.counted.below there.0 there.1, olds.1), old_class there.0 there.1 ∙ there.2)
+
+    -- there are no fewer classes than before
+    pub count_grows : count ≤ more
+    count_grows = omega (arith, onto_least count olds.0 all_stand, olds.1)
+
+    -- where there are no more of them, states of one class are alike
+    stable_classes : more ≡ count → (p q : ℕ) → p ≤ states_of d → q ≤ states_of d → class_of old p ≡ class_of old q → AreAlike d old p q
+    stable_classes all p q small low same = (refined.same p q small low).0
+        (onto_one count olds.0 all_stand (olds.1 ∙ all) (class_of new p) (class_of new q) (omega (arith, refined.counted.below p small, olds.1)) (omega (arith, refined.counted.below q low, olds.1))
+        (old_class p small ∙ same ∙ sym (old_class q low)))
+
+    -- and the classes are the residual languages
+    pub AreResiduals-done : more ≡ count → AreResiduals d old
+    AreResiduals-done all p q small low = (
+      (λ same w over. residual_from_class old (stable_classes all) w p q small low same over),
+      (λ same. coarse.coarse p q small low same),
+    )
+
+-- classes are at most the number of the sink
+pub All-counted : (d : Automaton) (classes : List ℕ) (count : ℕ) → AreCounted d classes count → All (λ c. c ≤ states_of d) classes
+All-counted d classes count counted k z within =
+    let low = counted.below k (omega (arith, within, counted.width)) in
+    omega (arith, low, counted.small, get_or_default classes k z 0 within)

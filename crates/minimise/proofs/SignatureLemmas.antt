@@ -1,0 +1,170 @@
+-- Signatures of states.
+use Rattle.std.proofs.Common.{◌≡◌, ◌≢◌, ◌==◌, ℕ, zero, suc, ◌+◌, ◌<◌, ◌≤◌, Bool, true, false, List, [], ◌∷◌, ◌++◌, take, length, get_or, Option, None, Some, unwrap_or, if◌then◌else◌, ◌⊎◌, inl, inr, refl, sym, ap, ◌∙◌, subst, eq-eqb, append_assoc, arith}
+use Rattle.std.specs.List.{All, AllPairs}
+use Rattle.std.proofs.lemmas.Bool.{cases_eq, eqb-true, ne_eqb}
+use Rattle.std.proofs.lemmas.List.{take_more, append-nil}
+use Rattle.std.proofs.lemmas.List.Elements.{All-nil, All-cons}
+use Rattle.std.proofs.lemmas.List.Kept.{AllPairs-cons}
+use Rattle.std.proofs.lemmas.Option.{none-some, same_Some}
+use Rattle.digit_tuple.specs.declared.edges.Edge.{Edge}
+use Rattle.digit_tuple.specs.Deterministic.{Automaton, IsTable, IsByEarlier, letters_of, states_of, accepting_of, edges_of, target_by}
+use Rattle.digit_tuple.proofs.DfaLemmas.{target_by-other, target_by-first}
+use Rattle.minimise.specs.Classes.{class_of, next_of, dead_class, live_class}
+use Rattle.minimise.specs.Signatures.{class_edges, numbers_in, bit_of, signature_of}
+use Rattle.minimise.specs.Refinement.{AreAlike}
+use Rattle.minimise.proofs.EdgeLemmas.{rest_pairs, target_by-early, same_edges}
+use Rattle.minimise.proofs.SinkLemmas.{row_of, not_accepting_past, no_edges_past}
+
+-- the edge of the class that an edge leads to
+abbrev pub class_edge : List ℕ → Edge → Edge
+class_edge classes e = record { letter = e.letter; target = class_of classes e.target }
+
+-- an edge behind the others
+pub class_edges-push : (classes : List ℕ) (dead : ℕ) (es : List Edge) (e : Edge) → class_edges classes dead (es ++ e ∷ []) ≡ class_edges classes dead es ++ class_edges classes dead (e ∷ [])
+class_edges-push classes dead [] e = refl
+class_edges-push classes dead (f ∷ es) e = by (class_of classes f.target == dead) (class_edges-push classes dead es e)
+  where
+    by : (b : Bool) → class_edges classes dead (es ++ e ∷ []) ≡ class_edges classes dead es ++ class_edges classes dead (e ∷ [])
+        → (if b then class_edges classes dead (es ++ e ∷ []) else class_edge classes f ∷ class_edges classes dead (es ++ e ∷ []))
+        ≡ (if b then class_edges classes dead es else class_edge classes f ∷ class_edges classes dead es) ++ class_edges classes dead (e ∷ [])
+    by true rest = rest
+    by false rest = ap (λ (fs : List Edge). class_edge classes f ∷ fs) rest
+
+-- the next edge of a row
+module _ (classes : List ℕ) (dead : ℕ) (es : List Edge) (k : ℕ) (z : Edge) (within : k < length es) where
+  front : take (k + 1) es ≡ take k es ++ get_or es k z ∷ []
+  front = take_more es k z within
+
+  pub class_edges-dead : class_of classes (get_or es k z).target ≡ dead → class_edges classes dead (take k es) ≡ class_edges classes dead (take (k + 1) es)
+  class_edges-dead is = sym (ap (class_edges classes dead) front ∙ class_edges-push classes dead (take k es) (get_or es k z)
+      ∙ ap (λ (b : Bool). class_edges classes dead (take k es) ++ (if b then [] else class_edge classes (get_or es k z) ∷ [])) (eq-eqb (class_of classes (get_or es k z).target) dead is)
+      ∙ append-nil (class_edges classes dead (take k es)))
+
+  pub class_edges-live : class_of classes (get_or es k z).target ≢ dead → class_edges classes dead (take k es) ++ class_edge classes (get_or es k z) ∷ [] ≡ class_edges classes dead (take (k + 1) es)
+  class_edges-live other = sym (ap (class_edges classes dead) front ∙ class_edges-push classes dead (take k es) (get_or es k z)
+      ∙ ap (λ (b : Bool). class_edges classes dead (take k es) ++ (if b then [] else class_edge classes (get_or es k z) ∷ [])) (ne_eqb (class_of classes (get_or es k z).target) dead other))
+
+pub numbers_in-append : (es fs : List Edge) → numbers_in (es ++ fs) ≡ numbers_in es ++ numbers_in fs
+numbers_in-append [] fs = refl
+numbers_in-append (e ∷ es) fs = ap (λ ns. e.letter ∷ e.target ∷ ns) (numbers_in-append es fs)
+
+pub numbers_in-tells : (es fs : List Edge) → numbers_in es ≡ numbers_in fs → es ≡ fs
+numbers_in-tells [] [] same = refl
+numbers_in-tells [] (f ∷ fs) same = absurd (cc)
+numbers_in-tells (e ∷ es) [] same = absurd (cc)
+numbers_in-tells (e ∷ es) (f ∷ fs) same =
+    let one : e.letter ≡ f.letter = cc in
+    let two : e.target ≡ f.target = cc in
+    let left : numbers_in es ≡ numbers_in fs = cc in
+    let head : e ≡ f = ap (λ (x : ℕ). let g : Edge = record { letter = x; target = e.target } in g) one ∙ ap (λ (x : ℕ). let g : Edge = record { letter = f.letter; target = x } in g) two in
+    ap (λ (g : Edge). g ∷ es) head ∙ ap (λ (gs : List Edge). f ∷ gs) (numbers_in-tells es fs left)
+
+-- the numbers of the next edge
+module _ (classes : List ℕ) (dead : ℕ) (es : List Edge) (k : ℕ) (z : Edge) (within : k < length es) (x y : ℕ) (old : List ℕ) (so_far : old ≡ x ∷ y ∷ numbers_in (class_edges classes dead (take k es))) where
+  pub numbers_in-dead : class_of classes (get_or es k z).target ≡ dead → old ≡ x ∷ y ∷ numbers_in (class_edges classes dead (take (k + 1) es))
+  numbers_in-dead is = so_far ∙ ap (λ (fs : List Edge). x ∷ y ∷ numbers_in fs) (class_edges-dead classes dead es k z within is)
+
+  pub numbers_in-live : (mid new : List ℕ) → class_of classes (get_or es k z).target ≢ dead → mid ≡ old ++ (get_or es k z).letter ∷ [] → new ≡ mid ++ class_of classes (get_or es k z).target ∷ []
+      → new ≡ x ∷ y ∷ numbers_in (class_edges classes dead (take (k + 1) es))
+  numbers_in-live mid new other one two =
+      two ∙ ap (λ ns. ns ++ class_of classes (get_or es k z).target ∷ []) (one ∙ ap (λ ns. ns ++ (get_or es k z).letter ∷ []) so_far)
+      ∙ ap (λ ns. x ∷ y ∷ ns) (append_assoc (numbers_in (class_edges classes dead (take k es))) ((get_or es k z).letter ∷ []) (class_of classes (get_or es k z).target ∷ [])
+      ∙ sym (numbers_in-append (class_edges classes dead (take k es)) (class_edge classes (get_or es k z) ∷ []))
+      ∙ ap numbers_in (class_edges-live classes dead es k z within other))
+
+-- what holds of the letters still holds
+pub class_edges-all : (classes : List ℕ) (dead : ℕ) (P : ℕ → Type 0) (es : List Edge) → All (λ e. P e.letter) es → All (λ e. P e.letter) (class_edges classes dead es)
+class_edges-all classes dead P [] all = all
+class_edges-all classes dead P (e ∷ es) all = by (class_of classes e.target == dead) (class_edges-all classes dead P es (λ k z within. all (suc k) z (omega arith)))
+  where
+    by : (b : Bool) → All (λ e. P e.letter) (class_edges classes dead es) → All (λ e. P e.letter) (if b then class_edges classes dead es else class_edge classes e ∷ class_edges classes dead es)
+    by true rest = rest
+    by false rest = All-cons (λ (e : Edge). P e.letter) (class_edge classes e) (class_edges classes dead es) (all 0 e (omega arith)) rest
+
+pub class_edges-pairs : (classes : List ℕ) (dead : ℕ) (es : List Edge) → AllPairs IsByEarlier es → AllPairs IsByEarlier (class_edges classes dead es)
+class_edges-pairs classes dead [] pairs = pairs
+class_edges-pairs classes dead (e ∷ es) pairs = by (class_of classes e.target == dead) (class_edges-pairs classes dead es (rest_pairs e es pairs))
+  where
+    by : (b : Bool) → AllPairs IsByEarlier (class_edges classes dead es) → AllPairs IsByEarlier (if b then class_edges classes dead es else class_edge classes e ∷ class_edges classes dead es)
+    by true rest = rest
+    by false rest = AllPairs-cons IsByEarlier (class_edge classes e) (class_edges classes dead es)
+        (class_edges-all classes dead (λ a. e.letter < a) es (λ k z within. pairs 0 (suc k) z (omega arith) (omega arith))) rest
+
+module _ (d : Automaton) (classes : List ℕ) where
+  sink_not_live : live_class d classes (states_of d) ≡ None
+  sink_not_live = ap (λ (b : Bool). if b then None else Some (dead_class d classes)) (eq-eqb (dead_class d classes) (dead_class d classes) refl)
+
+  abbrev left : List Edge → List Edge
+  left es = class_edges classes (dead_class d classes) es
+
+  -- the edges lead to the classes that are not dead
+  pub class_edges-lead : (es : List Edge) (a : ℕ) → AllPairs IsByEarlier es → target_by (class_edges classes (dead_class d classes) es) a ≡ live_class d classes (unwrap_or (target_by es a) (states_of d))
+  class_edges-lead [] a pairs = sym sink_not_live
+  class_edges-lead (e ∷ es) a pairs = by (cases_eq e.letter a) (class_edges-lead es a (rest_pairs e es pairs))
+    where
+      first : e.letter ≡ a → target_by (left es) a ≡ live_class d classes (unwrap_or (target_by es a) (states_of d)) → (b : Bool)
+          → target_by (if b then (left es) else class_edge classes e ∷ (left es)) a ≡ (if b then None else Some (class_of classes e.target))
+      first is rest true = rest ∙ ap (λ (o : Option ℕ). live_class d classes (unwrap_or o (states_of d))) (target_by-early e es a pairs (omega arith)) ∙ sink_not_live
+      first is rest false = target_by-first (class_edge classes e) (left es) a is
+
+      other : e.letter ≢ a → target_by (left es) a ≡ live_class d classes (unwrap_or (target_by es a) (states_of d)) → (b : Bool)
+          → target_by (if b then (left es) else class_edge classes e ∷ (left es)) a ≡ live_class d classes (unwrap_or (target_by es a) (states_of d))
+      other differs rest true = rest
+      other differs rest false = target_by-other (class_edge classes e) (left es) a differs ∙ rest
+
+      by : (e.letter ≡ a) ⊎ (e.letter ≡ a → ⊥) → target_by (left es) a ≡ live_class d classes (unwrap_or (target_by es a) (states_of d))
+          → target_by (class_edges classes (dead_class d classes) (e ∷ es)) a ≡ live_class d classes (unwrap_or (target_by (e ∷ es) a) (states_of d))
+      by (inl is) rest = first is rest (class_of classes e.target == dead_class d classes) ∙ ap (λ (o : Option ℕ). live_class d classes (unwrap_or o (states_of d))) (sym (target_by-first e es a is))
+      by (inr differs) rest = other differs rest (class_of classes e.target == dead_class d classes) ∙ ap (λ (o : Option ℕ). live_class d classes (unwrap_or o (states_of d))) (sym (target_by-other e es a differs))
+
+  -- the live class tells the class
+  pub live_class-tells : (p q : ℕ) → live_class d classes p ≡ live_class d classes q → class_of classes p ≡ class_of classes q
+  live_class-tells p q = by (class_of classes p == dead_class d classes) refl (class_of classes q == dead_class d classes) refl
+    where
+      by : (b : Bool) → (class_of classes p == dead_class d classes) ≡ b → (c : Bool) → (class_of classes q == dead_class d classes) ≡ c
+          → (if b then None else Some (class_of classes p)) ≡ (if c then None else Some (class_of classes q)) → class_of classes p ≡ class_of classes q
+      by true one true two same = eqb-true (class_of classes p) (dead_class d classes) one ∙ sym (eqb-true (class_of classes q) (dead_class d classes) two)
+      by true one false two same = absurd (none-some (class_of classes q) same)
+      by false one true two same = absurd (none-some (class_of classes p) (sym same))
+      by false one false two same = same_Some (class_of classes p) (class_of classes q) same
+
+  module _ (table : IsTable (letters_of d) d.states) where
+    abbrev edges_at : ℕ → List Edge
+    edges_at q = class_edges classes (dead_class d classes) (edges_of d q)
+
+    leads_at : (q a : ℕ) → target_by (edges_at q) a ≡ live_class d classes (next_of d q a)
+    leads_at q a = class_edges-lead (edges_of d q) a (row_of d table q).ascending
+
+    bit_of-tells : (b c : Bool) → bit_of b ≡ bit_of c → b ≡ c
+    bit_of-tells true true same = refl
+    bit_of-tells true false same = absurd (omega arith)
+    bit_of-tells false true same = absurd (omega arith)
+    bit_of-tells false false same = refl
+
+    pub alike_from_signature : (p q : ℕ) → signature_of d classes p ≡ signature_of d classes q → AreAlike d classes p q
+    alike_from_signature p q same =
+        let bit : bit_of (accepting_of d p) ≡ bit_of (accepting_of d q) = cc in
+        let own : class_of classes p ≡ class_of classes q = cc in
+        let numbers : numbers_in (edges_at p) ≡ numbers_in (edges_at q) = cc in
+        let edges : edges_at p ≡ edges_at q = numbers_in-tells (edges_at p) (edges_at q) numbers in
+        record {
+          accepting = bit_of-tells (accepting_of d p) (accepting_of d q) bit;
+          own = own;
+          next = λ a small. live_class-tells (next_of d p a) (next_of d q a) (sym (leads_at p a) ∙ ap (λ (es : List Edge). target_by es a) edges ∙ leads_at q a);
+        }
+
+    pub signature_from_alike : (p q : ℕ) → AreAlike d classes p q → signature_of d classes p ≡ signature_of d classes q
+    signature_from_alike p q alike =
+        let small = λ (x : ℕ). class_edges-all classes (dead_class d classes) (λ a. a < letters_of d) (edges_of d x) (λ k z within. ((row_of d table x).in_range k z within).0) in
+        let pairs = λ (x : ℕ). class_edges-pairs classes (dead_class d classes) (edges_of d x) (row_of d table x).ascending in
+        let edges : edges_at p ≡ edges_at q = same_edges (letters_of d) (edges_at p) (edges_at q) (pairs p) (pairs q) (small p) (small q)
+        (λ a inside. leads_at p a ∙ ap (λ (c : ℕ). if c == dead_class d classes then None else Some c) (alike.next a inside) ∙ sym (leads_at q a)) in
+        ap (λ (b : Bool). bit_of b ∷ class_of classes p ∷ numbers_in (edges_at p)) alike.accepting
+        ∙ ap (λ (c : ℕ). bit_of (accepting_of d q) ∷ c ∷ numbers_in (edges_at p)) alike.own
+        ∙ ap (λ (es : List Edge). bit_of (accepting_of d q) ∷ class_of classes q ∷ numbers_in es) edges
+
+  -- the signature of the sink
+  pub signature_of-sink : signature_of d classes (states_of d) ≡ 0 ∷ dead_class d classes ∷ []
+  signature_of-sink =
+      ap (λ (b : Bool). bit_of b ∷ dead_class d classes ∷ numbers_in (class_edges classes (dead_class d classes) (edges_of d (states_of d)))) (not_accepting_past d (states_of d) (omega arith))
+      ∙ ap (λ (es : List Edge). 0 ∷ dead_class d classes ∷ numbers_in (class_edges classes (dead_class d classes) es)) (no_edges_past d (states_of d) (omega arith))

@@ -1,0 +1,24 @@
+use Rattle.std.proofs.Common.{◌≡◌, ℕ, List, sym, subst, arith}
+use Rattle.minimise.specs.Refinement.{AreRefined}
+use Rattle.minimise.proofs.ResidualLemmas.{AreCoarse-refined, AreResiduals-done, count_grows}
+use Rattle.minimise.proofs.classes.residual_classes.Goals as goal
+
+pub returns-then-next-count-clause-residuals : goal.returns-then-next-count-clause-residuals
+returns-then-next-count-clause-residuals c =
+    let d = c.args.dfa.now in
+    let refined = subst (λ (cs : List ℕ). AreRefined d cs c.in_ok-next.next.numbers.items c.in_ok-next.next.count) c.deref.ensures.value c.in_ok-next.ensures in
+    AreResiduals-done d c.states.ensures.table c.refine.classes.items c.in_ok-next.next.numbers.items c.refine.count c.in_ok-next.next.count c.refine.invariant refined c.if-next-count.true
+
+pub refine-smaller : goal.refine-smaller
+refine-smaller c =
+    let d = c.args.dfa.now in
+    let refined = subst (λ (cs : List ℕ). AreRefined d cs c.in_ok-next.next.numbers.items c.in_ok-next.next.count) c.deref.ensures.value c.in_ok-next.ensures in
+    let grows = count_grows d c.states.ensures.table c.refine.classes.items c.in_ok-next.next.numbers.items c.refine.count c.in_ok-next.next.count c.refine.invariant refined in
+    let most = refined.counted.small in
+    omega arith
+
+pub refine-preserved : goal.refine-preserved
+refine-preserved c =
+    let d = c.args.dfa.now in
+    let refined = subst (λ (cs : List ℕ). AreRefined d cs c.in_ok-next.next.numbers.items c.in_ok-next.next.count) c.deref.ensures.value c.in_ok-next.ensures in
+    AreCoarse-refined d c.states.ensures.table c.refine.classes.items c.in_ok-next.next.numbers.items c.refine.count c.in_ok-next.next.count c.refine.invariant refined

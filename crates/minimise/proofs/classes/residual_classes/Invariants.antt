@@ -1,0 +1,10 @@
+use Rattle.std.proofs.Common.{◌+◌, ◌-◌}
+use Rattle.digit_tuple.specs.Deterministic.{states_of}
+use Rattle.minimise.proofs.ResidualLemmas.{AreCoarse}
+use Rattle.minimise.proofs.classes.residual_classes.Given as goal
+
+abbrev pub invariant-refine : goal.invariant-refine
+invariant-refine l = AreCoarse l.dfa l.classes.items l.count
+
+abbrev pub decreases-refine : goal.decreases-refine
+decreases-refine l = (states_of l.dfa + 1) - l.count

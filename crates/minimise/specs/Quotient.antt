@@ -1,0 +1,44 @@
+-- The automaton whose states are classes.
+use Rattle.std.specs.Prelude.{◌≡◌, ℕ, ◌+◌, ◌<◌, ◌≤◌, Bool, List, [], ◌∷◌, length, Option}
+use Rattle.std.specs.Option.{option_map}
+use Rattle.digit_tuple.specs.Deterministic.{Automaton, IsTable, letters_of, states_of, accepting_of, edges_of}
+use Rattle.digit_tuple.specs.declared.edges.Edge.{Edge}
+use Rattle.explore.specs.Keys.{Step}
+use Rattle.minimise.specs.Classes.{AreResiduals, class_of, next_of, live_class}
+
+-- the first states of a table have states of their classes in the list, at their classes
+pub record AreLeaders (classes leaders : List ℕ) (count : ℕ) : Type 0 where
+  pub width : length leaders ≡ length classes
+  pub within : (q : ℕ) → q < count → class_of leaders (class_of classes q) < count
+  pub same : (q : ℕ) → q < count → class_of classes (class_of leaders (class_of classes q)) ≡ class_of classes q
+
+-- the classes are residual languages, and each has a state
+pub record IsQuotient (d : Automaton) (classes leaders : List ℕ) : Type 0 where
+  pub table : IsTable (letters_of d) d.states
+  pub width : length classes ≡ states_of d + 1
+  pub below : (q : ℕ) → q ≤ states_of d → class_of classes q ≤ states_of d
+  pub residuals : AreResiduals d classes
+  pub leaders_are : AreLeaders classes leaders (states_of d)
+
+-- the state of the class that is the key
+abbrev pub leader_of : List ℕ → List ℕ → ℕ
+leader_of leaders key = class_of leaders (class_of key 0)
+
+-- the key is the class of a state
+pub record IsClass (d : Automaton) (classes leaders key : List ℕ) : Type 0 where
+  pub one : length key ≡ 1
+  pub in_range : class_of key 0 ≤ states_of d
+  pub leader : leader_of leaders key < states_of d
+  pub itself : class_of classes (leader_of leaders key) ≡ class_of key 0
+
+-- the class of where a letter leads, unless nothing is accepted there
+abbrev pub class_after : Automaton → List ℕ → List ℕ → List ℕ → ℕ → Option (List ℕ)
+class_after d classes leaders key a = option_map (λ class. class ∷ []) (live_class d classes (next_of d (leader_of leaders key) a))
+
+-- whether the states of the class accept
+abbrev pub class_accepts : Automaton → List ℕ → List ℕ → Bool
+class_accepts d leaders key = accepting_of d (leader_of leaders key)
+
+-- the step by an edge to a class
+abbrev pub step_by : Edge → Step
+step_by edge = record { letter = edge.letter; key = edge.target ∷ [] }

@@ -1,0 +1,63 @@
+//! Classes of states, refined until they are the residual languages.
+
+ghost use Rattle.std.specs.Prelude.{◌≡◌, ◌+◌, ◌≤◌, length, IfOk};
+ghost use Rattle.std.specs.List.{All};
+ghost use Rattle.digit_tuple.specs.Deterministic.{states_of};
+ghost use Rattle.minimise.specs.Classes.{AreResiduals};
+ghost use Rattle.minimise.specs.Refinement.{AreRefined};
+
+use crate::signatures::signature;
+use digit_tuple::dfa::Dfa;
+use digit_tuple::faults::OutOfMemory;
+use explore::numbering::Numbering;
+use std::alloc::Global;
+
+/// The class of each state, and last that of the sink, where missing edges lead. States have one
+/// class exactly where the same words are accepted from them. Each round parts states by their
+/// acceptance and by the classes that letters lead to, in time linear in the table, until none is
+/// parted any more; there are at most as many rounds as states.
+pub fn residual_classes(alloc: Global, dfa: &Dfa) -> Result<Vec<u32>, OutOfMemory>
+    ensures width { IfOk result (λ classes. length classes.items ≡ states_of dfa.now + 1) }
+    ensures below { IfOk result (λ classes. All (λ class. class ≤ states_of dfa.now) classes.items) }
+    ensures residuals { IfOk result (λ classes. AreResiduals dfa.now classes.items) }
+{
+    let mut classes = vec![in alloc; 0; dfa.states() as usize + 1]?;
+    let mut count = 1;
+    'refine: loop {
+        let next = refined(alloc, dfa, &classes)?;
+        if next.count == count {
+            return Ok(classes);
+        }
+        classes = next.numbers;
+        count = next.count;
+    }
+}
+
+// Classes, and how many there are.
+#[derive(Drop)]
+struct Classes {
+    numbers: Vec<u32>,
+    count: usize,
+}
+
+// Parts states that are not alike.
+fn refined(alloc: Global, dfa: &Dfa, classes: &[u32]) -> Result<Classes, OutOfMemory>
+    requires { length classes.now ≡ states_of dfa.now + 1 }
+    ensures { IfOk result (λ new. AreRefined dfa.now classes.now new.numbers.items new.count) }
+{
+    let mut signatures = Numbering::new(alloc);
+    let mut numbers = Vec::with_capacity(alloc, classes.len())?;
+    let states = dfa.states();
+    for state in 0..states {
+        let signature = signature(alloc, dfa, classes, state)?;
+        let number = signatures.number_of(signature)?;
+        numbers.push(number as u32)?;
+    }
+    let sink = vec![in alloc; 0, classes[states as usize]]?;
+    let number = signatures.number_of(sink)?;
+    numbers.push(number as u32)?;
+    Ok(Classes {
+        numbers,
+        count: signatures.len(),
+    })
+}

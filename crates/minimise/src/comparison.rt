@@ -1,0 +1,42 @@
+//! Whether canonical automata have one language.
+
+ghost use Rattle.std.specs.Prelude.{◌≡◌, ◌<◌, ◌↔◌, IsTrue};
+ghost use Rattle.digit_tuple.specs.Deterministic.{states_of, state_of};
+ghost use Rattle.minimise.specs.Residuals.{SameLanguage};
+ghost use Rattle.minimise.specs.Canonical.{IsCanonical};
+
+use digit_tuple::dfa::Dfa;
+
+/// Whether the languages of two canonical automata over the same tracks are equal.
+pub fn same(a: &Dfa, b: &Dfa) -> bool
+    requires first { IsCanonical a.now }
+    requires second { IsCanonical b.now }
+    requires sizes { a.now.sizes ≡ b.now.sizes }
+    ensures { IsTrue result ↔ SameLanguage a.now b.now }
+{
+    have_equal_states(a, b)
+}
+
+// Whether the automata have equal states.
+fn have_equal_states(a: &Dfa, b: &Dfa) -> bool
+    ensures { IsTrue result ↔ (a.now.states ≡ b.now.states) }
+{
+    if a.states() != b.states() {
+        return false;
+    }
+    for state in 0..a.states() {
+        if !is_equal_state(a, b, state) {
+            return false;
+        }
+    }
+    true
+}
+
+// Whether the state is the same in both.
+fn is_equal_state(a: &Dfa, b: &Dfa, state: u32) -> bool
+    requires first { state < states_of a.now }
+    requires second { state < states_of b.now }
+    ensures { IsTrue result ↔ (state_of a.now state ≡ state_of b.now state) }
+{
+    a.accepting(state) == b.accepting(state) && a.edges(state) == b.edges(state)
+}

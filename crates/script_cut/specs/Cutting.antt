@@ -1,0 +1,54 @@
+-- What one call of a cutter gives.
+use Rattle.std.specs.Prelude.{◌≡◌, ℕ, ◌<◌, ◌≤◌, Bool, true, false, if◌then◌else◌, List, [], ◌++◌, length, Option, None, Some, Result, Ok, Err, ⊤}
+use Rattle.std.specs.Io.KnownBytes.{Consumes, IsAtEnd as HasGivenAll}
+use Rattle.script_cut.specs.Cuts.{Ended, Terminated, Unterminated, PastLimit, Place, Next, IsAtEnd, HasNoCommand}
+use Rattle.script_cut.specs.Kept.{Kept}
+use Rattle.script_cut.specs.declared.cut.Cut.{Cut}
+use Rattle.script_cut.specs.declared.cut.Cut.TheVariants as cuts
+use Rattle.script_cut.specs.declared.cut.CutFault.{CutFault}
+use Rattle.script_cut.specs.declared.cut.CutFault.TheVariants as faults
+
+-- Where a cutter stands in the script, if these bytes are still to come: what it holds is left, and then they
+-- are. Once the source has ended nothing is left.
+abbrev pub place_of : Kept → List ℕ → Place
+place_of kept more = record { left = if kept.over then [] else kept.held ++ more; room = kept.room; line = kept.line }
+
+-- these bytes may still come: all that the source tells, any where it tells nothing, and none behind its end
+abbrev pub MayCome : Bool → Option (List ℕ) → List ℕ → Type 0
+MayCome true told more = more ≡ []
+MayCome false None more = ⊤
+MayCome false (Some left) more = more ≡ left
+
+-- what is answered of the next item
+abbrev pub GivesItem : Place → Result Cut CutFault → Place → Type 0
+GivesItem old (Ok (cuts.Command text shown line)) new =
+    Next old (record { text = text.items; line = line; ended = Terminated shown }) new × (length text.items ≤ 65536)
+GivesItem old (Ok cuts.End) new = IsAtEnd old
+GivesItem old (Err (faults.Syntax line len)) new =
+    (text : List ℕ) × Next old (record { text = text; line = line; ended = Unterminated }) new × (len ≡ length text) × (len ≤ 65536)
+GivesItem old (Err (faults.Long line)) new =
+    (text : List ℕ) × (ended : Ended) × Next old (record { text = text; line = line; ended = ended }) new × (65536 < length text)
+GivesItem old (Err (faults.ScriptLimit line)) new =
+    (last : Place) × Next old (record { text = []; line = line; ended = PastLimit }) last
+GivesItem old (Err faults.Failed) new = ⊤
+GivesItem old (Err faults.Memory) new = ⊤
+
+-- One call. The source gave some bytes. Whatever comes behind those that were held and those that were given,
+-- the item is the next one of all these bytes, and what is left is what stands behind it. Where the source
+-- failed, no command has its terminator in the bytes that were held and given.
+pub record HasCut (old : Kept) (told : Option (List ℕ)) (result : Result Cut CutFault) (new : Kept) (now : Option (List ℕ)) : Type 0 where
+  pub given : List ℕ
+  pub taken : Consumes told now given
+  pub ended : old.over ≡ false → new.over ≡ true → HasGivenAll now
+  pub item : (more : List ℕ) → MayCome new.over now more → GivesItem (place_of old (given ++ more)) result (place_of new more)
+  pub failed : result ≡ Err faults.Failed → HasNoCommand (old.held ++ given)
+
+-- the answers with which a script has ended, and none other
+abbrev pub EndsScript : Result Cut CutFault → Kept → Type 0
+EndsScript (Ok cuts.End) new = new.over ≡ true
+EndsScript (Err (faults.Syntax line len)) new = new.over ≡ true
+EndsScript (Ok (cuts.Command text shown line)) new = ⊤
+EndsScript (Err (faults.Long line)) new = ⊤
+EndsScript (Err (faults.ScriptLimit line)) new = ⊤
+EndsScript (Err faults.Failed) new = ⊤
+EndsScript (Err faults.Memory) new = ⊤
