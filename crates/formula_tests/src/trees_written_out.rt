@@ -1,0 +1,295 @@
+//! Texts and their trees. A tree is written with each part in parentheses, and each atom in braces behind its system.
+
+use formula_parse::parse;
+use formula_parse::tree::{Connective, Fact, Formula, Index, Quantifier, Relation, Sign, Term};
+use std::alloc::{AllocError, Global};
+use std::test::Fail;
+
+fn write_name(name: &[u8], out: &mut String) -> Result<(), AllocError> {
+    for byte in name {
+        out.push(char::from(*byte))?;
+    }
+    Ok(())
+}
+
+fn write_names(names: &[Vec<u8>], between: char, out: &mut String) -> Result<(), AllocError> {
+    let mut first = true;
+    for name in names {
+        if !first {
+            out.push(between)?;
+        }
+        write_name(name, out)?;
+        first = false;
+    }
+    Ok(())
+}
+
+fn relation_text(relation: Relation) -> &'static str {
+    match relation {
+        Relation::Equal => "=",
+        Relation::Unequal => "!=",
+        Relation::Less => "<",
+        Relation::Greater => ">",
+        Relation::AtMost => "<=",
+        Relation::AtLeast => ">=",
+    }
+}
+
+fn connective_text(connective: Connective) -> &'static str {
+    match connective {
+        Connective::And => " & ",
+        Connective::Or => " | ",
+        Connective::Xor => " ^ ",
+        Connective::Implies => " => ",
+        Connective::Iff => " <=> ",
+    }
+}
+
+fn quantifier_text(quantifier: Quantifier) -> &'static str {
+    match quantifier {
+        Quantifier::Exists => "(E",
+        Quantifier::ForAll => "(A",
+    }
+}
+
+fn sign_text(sign: Sign) -> &'static str {
+    match sign {
+        Sign::Plus => "+",
+        Sign::Minus => "-",
+    }
+}
+
+fn write_opening(times: usize, out: &mut String) -> Result<(), AllocError> {
+    for _ in 0..times {
+        out.push('(')?;
+    }
+    Ok(())
+}
+
+fn write_term(alloc: Global, term: &Term, out: &mut String) -> Result<(), AllocError> {
+    match term {
+        Term::Variable(name) => write_name(name, out),
+        Term::Numeral(value) => {
+            let digits = value.to_string(alloc)?;
+            out.push_str(&digits)
+        }
+        Term::Product(factors) => {
+            let mut before = '(';
+            for factor in factors {
+                out.push(before)?;
+                write_term(alloc, factor, out)?;
+                before = '*';
+            }
+            out.push(')')
+        }
+        Term::Sum(addends, last) => {
+            write_opening(addends.len(), out)?;
+            let mut closing = "";
+            for addend in addends {
+                write_term(alloc, &addend.term, out)?;
+                out.push_str(closing)?;
+                out.push_str(sign_text(addend.sign))?;
+                closing = ")";
+            }
+            write_term(alloc, last, out)?;
+            out.push(')')
+        }
+    }
+}
+
+fn write_index(alloc: Global, index: &Index, out: &mut String) -> Result<(), AllocError> {
+    write_name(&index.word, out)?;
+    for place in &index.places {
+        out.push('[')?;
+        write_term(alloc, place, out)?;
+        out.push(']')?;
+    }
+    Ok(())
+}
+
+fn write_letter(alloc: Global, letter: i32, out: &mut String) -> Result<(), AllocError> {
+    let digits = letter.to_string(alloc)?;
+    out.push('@')?;
+    out.push_str(&digits)
+}
+
+fn write_fact(alloc: Global, fact: &Fact, out: &mut String) -> Result<(), AllocError> {
+    match fact {
+        Fact::Compare(left, relation, right) => {
+            write_term(alloc, left, out)?;
+            out.push_str(relation_text(*relation))?;
+            write_term(alloc, right, out)
+        }
+        Fact::Words(left, relation, right) => {
+            write_index(alloc, left, out)?;
+            out.push_str(relation_text(*relation))?;
+            write_index(alloc, right, out)
+        }
+        Fact::WordLetter(word, relation, letter) => {
+            write_index(alloc, word, out)?;
+            out.push_str(relation_text(*relation))?;
+            write_letter(alloc, *letter, out)
+        }
+        Fact::LetterWord(letter, relation, word) => {
+            write_letter(alloc, *letter, out)?;
+            out.push_str(relation_text(*relation))?;
+            write_index(alloc, word, out)
+        }
+        Fact::Call(name, arguments) => {
+            out.push('$')?;
+            write_name(name, out)?;
+            out.push('(')?;
+            let mut between = "";
+            for argument in arguments {
+                out.push_str(between)?;
+                write_term(alloc, argument, out)?;
+                between = ",";
+            }
+            out.push(')')
+        }
+    }
+}
+
+fn write_formula(alloc: Global, formula: &Formula, out: &mut String) -> Result<(), AllocError> {
+    match formula {
+        Formula::Atom(atom) => {
+            out.push('{')?;
+            write_name(&atom.system, out)?;
+            out.push(' ')?;
+            write_fact(alloc, &atom.fact, out)?;
+            out.push('}')
+        }
+        Formula::Negated(inner) => {
+            out.push_str("(~")?;
+            write_formula(alloc, inner, out)?;
+            out.push(')')
+        }
+        Formula::Chain(operands, last) => {
+            write_opening(operands.len(), out)?;
+            let mut closing = "";
+            for operand in operands {
+                write_formula(alloc, &operand.formula, out)?;
+                out.push_str(closing)?;
+                out.push_str(connective_text(operand.connective))?;
+                closing = ")";
+            }
+            write_formula(alloc, last, out)?;
+            out.push(')')
+        }
+        Formula::Quantified(quantifier, names, inner) => {
+            out.push_str(quantifier_text(*quantifier))?;
+            write_names(names, ',', out)?;
+            out.push(' ')?;
+            write_formula(alloc, inner, out)?;
+            out.push(')')
+        }
+        Formula::Marked(systems, inner) => {
+            out.push_str("(?")?;
+            write_names(systems, '?', out)?;
+            out.push(' ')?;
+            write_formula(alloc, inner, out)?;
+            out.push(')')
+        }
+    }
+}
+
+const TREES: [(&str, &str); 41] = [
+    // A quantifier takes all that follows.
+    ("Ax Ey x=y+y", "(Ax (Ey {msd_2 x=(y+y)}))"),
+    (
+        "x=1 & Ey y=2 & z=3",
+        "({msd_2 x=1} & (Ey ({msd_2 y=2} & {msd_2 z=3})))",
+    ),
+    ("(Ey y=2) & z=3", "((Ey {msd_2 y=2}) & {msd_2 z=3})"),
+    ("~Ex x=1 & y=2", "(~(Ex ({msd_2 x=1} & {msd_2 y=2})))"),
+    (
+        "?msd_fib Ei,n n>=1 & At t<2*n => F[i+t]=F[i+n+t]",
+        "(?msd_fib (Ei,n ({msd_fib n>=1} & (At ({msd_fib t<(2*n)} => {msd_fib F[(i+t)]=F[((i+n)+t)]})))))",
+    ),
+    // What binds tighter.
+    ("~x=1 & y=2", "((~{msd_2 x=1}) & {msd_2 y=2})"),
+    ("~(x=1 & y=2)", "(~({msd_2 x=1} & {msd_2 y=2}))"),
+    (
+        "x=1 & y=2 <=> z=3 => x=1",
+        "(({msd_2 x=1} & {msd_2 y=2}) <=> ({msd_2 z=3} => {msd_2 x=1}))",
+    ),
+    (
+        "x=1 => y=2 & z=3",
+        "({msd_2 x=1} => ({msd_2 y=2} & {msd_2 z=3}))",
+    ),
+    (
+        "x=1 & (y=2 | z=3)",
+        "({msd_2 x=1} & ({msd_2 y=2} | {msd_2 z=3}))",
+    ),
+    ("2*x+3*y=z", "{msd_2 ((2*x)+(3*y))=z}"),
+    // From the left.
+    ("x-1+y-2=z", "{msd_2 (((x-1)+y)-2)=z}"),
+    ("x-(1+y)=z", "{msd_2 (x-(1+y))=z}"),
+    (
+        "x=1 | y=2 | z=3",
+        "(({msd_2 x=1} | {msd_2 y=2}) | {msd_2 z=3})",
+    ),
+    (
+        "x=1 & y=2 ^ z=3",
+        "(({msd_2 x=1} & {msd_2 y=2}) ^ {msd_2 z=3})",
+    ),
+    (
+        "x=1 & y=2 | z=3",
+        "(({msd_2 x=1} & {msd_2 y=2}) | {msd_2 z=3})",
+    ),
+    (
+        "x=1 <=> y=2 <=> z=3",
+        "(({msd_2 x=1} <=> {msd_2 y=2}) <=> {msd_2 z=3})",
+    ),
+    (
+        "x=1 => (y=2 => z=3)",
+        "({msd_2 x=1} => ({msd_2 y=2} => {msd_2 z=3}))",
+    ),
+    (
+        "(x=1 => y=2) => z=3",
+        "(({msd_2 x=1} => {msd_2 y=2}) => {msd_2 z=3})",
+    ),
+    // How far a system holds.
+    ("(?lsd_2 x=1) & y=2", "((?lsd_2 {lsd_2 x=1}) & {msd_2 y=2})"),
+    ("?lsd_2 x=1 & y=2", "((?lsd_2 {lsd_2 x=1}) & {lsd_2 y=2})"),
+    (
+        "x=1&?msd_fib y=2",
+        "({msd_2 x=1} & (?msd_fib {msd_fib y=2}))",
+    ),
+    ("?lsd_2 ?msd_2 x=1", "(?lsd_2?msd_2 {msd_2 x=1})"),
+    (
+        "?lsd_2 (?msd_fib x=1) & y=2",
+        "((?lsd_2 (?msd_fib {msd_fib x=1})) & {lsd_2 y=2})",
+    ),
+    ("Ex ?lsd_2 x=1", "(Ex (?lsd_2 {lsd_2 x=1}))"),
+    ("~?lsd_3 ~x=1", "(~(?lsd_3 (~{lsd_3 x=1})))"),
+    // Parentheses of a term and of a formula.
+    ("((x)+y=z)", "{msd_2 (x+y)=z}"),
+    ("(((x=y)))", "{msd_2 x=y}"),
+    ("2*(x+y)=z", "{msd_2 (2*(x+y))=z}"),
+    ("(x+y)*2=z", "{msd_2 ((x+y)*2)=z}"),
+    ("2*x*3=z", "{msd_2 (2*x*3)=z}"),
+    // Letters, words and calls.
+    ("@-1!=T[0][1]", "{msd_2 @-1!=T[0][1]}"),
+    ("T[0]=@-2147483648", "{msd_2 T[0]=@-2147483648}"),
+    ("T[x][y]<U[z]", "{msd_2 T[x][y]<U[z]}"),
+    ("$f(x,2*y)", "{msd_2 $f(x,(2*y))}"),
+    ("$Even()", "{msd_2 $Even()}"),
+    // Relations, names and numerals.
+    ("x<=y", "{msd_2 x<=y}"),
+    ("x>y", "{msd_2 x>y}"),
+    ("x!=y", "{msd_2 x!=y}"),
+    ("x_1 >= 007", "{msd_2 x_1>=7}"),
+    ("18446744073709551615<x", "{msd_2 18446744073709551615<x}"),
+];
+
+#[test]
+fn texts_have_these_trees(rt: HostRuntime) -> Result<(), Fail> {
+    for (text, expected) in TREES {
+        let tree = parse(rt.alloc(), text.as_bytes())?;
+        let mut written = String::new(rt.alloc());
+        write_formula(rt.alloc(), &tree, &mut written)?;
+        assert_eq!(rt; written.as_str(), expected, "of {text}");
+    }
+    Ok(())
+}
