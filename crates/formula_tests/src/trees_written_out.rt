@@ -84,12 +84,14 @@ fn write_term(alloc: Global, term: &Term, out: &mut String) -> Result<(), AllocE
         }
         Term::Sum(addends, last) => {
             write_opening(addends.len(), out)?;
-            let mut closing = "";
+            let mut first = true;
             for addend in addends {
                 write_term(alloc, &addend.term, out)?;
-                out.push_str(closing)?;
+                if !first {
+                    out.push(')')?;
+                }
                 out.push_str(sign_text(addend.sign))?;
-                closing = ")";
+                first = false;
             }
             write_term(alloc, last, out)?;
             out.push(')')
@@ -139,11 +141,13 @@ fn write_fact(alloc: Global, fact: &Fact, out: &mut String) -> Result<(), AllocE
             out.push('$')?;
             write_name(name, out)?;
             out.push('(')?;
-            let mut between = "";
+            let mut first = true;
             for argument in arguments {
-                out.push_str(between)?;
+                if !first {
+                    out.push(',')?;
+                }
                 write_term(alloc, argument, out)?;
-                between = ",";
+                first = false;
             }
             out.push(')')
         }
@@ -166,12 +170,14 @@ fn write_formula(alloc: Global, formula: &Formula, out: &mut String) -> Result<(
         }
         Formula::Chain(operands, last) => {
             write_opening(operands.len(), out)?;
-            let mut closing = "";
+            let mut first = true;
             for operand in operands {
                 write_formula(alloc, &operand.formula, out)?;
-                out.push_str(closing)?;
+                if !first {
+                    out.push(')')?;
+                }
                 out.push_str(connective_text(operand.connective))?;
-                closing = ")";
+                first = false;
             }
             write_formula(alloc, last, out)?;
             out.push(')')

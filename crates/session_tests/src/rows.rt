@@ -423,7 +423,7 @@ pub static ROWS: [Row; 61] = [
     },
     Row {
         script: "\"# a;\n\" :#\nreg b {0} \"0\"",
-        printed: "error 1: F01 Command\nerror 3: F02 Syntax in command at 12\n",
+        printed: "error 1: F01 Command\nerror 3: F02 Syntax in command at 13\n",
         code: 1,
         name: "",
         text: "",
