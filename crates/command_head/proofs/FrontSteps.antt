@@ -1,11 +1,11 @@
 -- The front of a text that is of one class.
-use Rattle.std.proofs.Common.{◌≡◌, ℕ, suc, ◌+◌, ◌<◌, ◌≤◌, Bool, true, false, cond, List, [], ◌∷◌, ◌++◌, length, drop, take, refl, ap, arith, length-drop, length-take}
+use Rattle.std.proofs.Common.{◌≡◌, ℕ, suc, ◌+◌, ◌≤◌, Bool, true, false, cond, List, [], ◌∷◌, ◌++◌, length, drop, take, refl, ap, arith, length-drop}
 use Rattle.std.specs.List.{AllByRecursion}
 use Rattle.std.proofs.lemmas.List.{take_at, drop_at, take-append-drop}
 use Rattle.std.proofs.lemmas.Bool.{eqb-true}
 use Rattle.text_grammar.specs.declared.class.Class.{Class}
 use Rattle.text_grammar.specs.Fronts.{is_in, front_len, front_of, behind_front}
-use Rattle.command_head.specs.Numbers.{begins_with, unsigned}
+use Rattle.command_head.specs.Numbers.{begins_with}
 
 pub front_len-le : (class : Class) (bytes : List ℕ) → front_len class bytes ≤ length bytes
 front_len-le class [] = omega arith
@@ -14,14 +14,6 @@ front_len-le class (b ∷ bs) = let more = front_len-le class bs in
 
 pub length-behind_front : (class : Class) (bytes : List ℕ) → length (behind_front class bytes) + front_len class bytes ≡ length bytes
 length-behind_front class bytes = let le = front_len-le class bytes in omega (arith, length-drop (front_len class bytes) bytes)
-
--- a byte that stands first is a byte
-pub begins_with-some : (byte : ℕ) (bytes : List ℕ) → begins_with byte bytes ≡ true → 0 < length bytes
-begins_with-some byte [] h = cc
-begins_with-some byte (b ∷ bs) h = omega arith
-
-pub length-unsigned-le : (bytes : List ℕ) → length (unsigned bytes) ≤ length bytes
-length-unsigned-le bytes = elim (begins_with 45 bytes) as (λ t. length (cond t (drop 1 bytes) bytes) ≤ length bytes) [ true ↦ omega (arith, length-drop 1 bytes) | false ↦ omega arith ]
 
 -- all bytes of the front are of the class
 pub front_of-all : (class : Class) (bytes : List ℕ) → AllByRecursion (λ b. is_in class b ≡ true) (front_of class bytes)
@@ -62,6 +54,3 @@ front_split class bytes = take-append-drop (front_len class bytes) bytes
 pub begins_with-split : (byte : ℕ) (bytes : List ℕ) → begins_with byte bytes ≡ true → bytes ≡ byte ∷ drop 1 bytes
 begins_with-split byte [] h = cc
 begins_with-split byte (b ∷ bs) h = ap (λ (x : ℕ). x ∷ bs) (eqb-true b byte h)
-
-pub length-front_of : (class : Class) (bytes : List ℕ) → length (front_of class bytes) ≡ front_len class bytes
-length-front_of class bytes = let le = front_len-le class bytes in omega (arith, length-take (front_len class bytes) bytes)

@@ -68,7 +68,7 @@ none_there : (mentions : List ℤ) → AllByRecursion (λ y. has [] y ≡ false)
 none_there [] = tt
 none_there (n ∷ ns) = (refl, none_there ns)
 
-sorted_none : IsStrictlySortedBy int_cmp []
+pub sorted_none : IsStrictlySortedBy int_cmp []
 unfolding IsStrictlySortedBy
 sorted_none = tt
 

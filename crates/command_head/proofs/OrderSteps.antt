@@ -55,12 +55,12 @@ has-put (m ∷ ms) n k = by_order (has-put ms n k) (int_cmp n m) refl
         twice (is_eq (int_cmp k m)) (has ms k) ∙ ap (λ (z : ℤ). is_eq (int_cmp k z) || (is_eq (int_cmp k m) || has ms k)) same
     by_order more Greater e = ap (λ (t : Bool). is_eq (int_cmp k m) || t) more ∙ swapped (is_eq (int_cmp k m)) (is_eq (int_cmp k n)) (has ms k)
 
-all_put : (P : ℤ → Type 0) (members : List ℤ) (n : ℤ) → P n → AllByRecursion P members → AllByRecursion P (put members n)
+pub all_put : (P : ℤ → Type 0) (members : List ℤ) (n : ℤ) → P n → AllByRecursion P members → AllByRecursion P (put members n)
 all_put P [] n here all = (here, tt)
 all_put P (m ∷ ms) n here all = elim (int_cmp n m) as (λ o. AllByRecursion P (match_ordering o (n ∷ m ∷ ms) (m ∷ ms) (m ∷ put ms n)))
     [ Less ↦ (here, all) | Equal ↦ all | Greater ↦ (all.0, all_put P ms n here all.1) ]
 
-all_above : (n m : ℤ) (ms : List ℤ) → int_cmp n m ≡ Less → AllByRecursion (λ y. int_cmp m y ≡ Less) ms → AllByRecursion (λ y. int_cmp n y ≡ Less) ms
+pub all_above : (n m : ℤ) (ms : List ℤ) → int_cmp n m ≡ Less → AllByRecursion (λ y. int_cmp m y ≡ Less) ms → AllByRecursion (λ y. int_cmp n y ≡ Less) ms
 all_above n m [] low all = tt
 all_above n m (k ∷ ms) low all = (int_cmp_total.trans n m k low all.0, all_above n m ms low all.1)
 
@@ -76,7 +76,7 @@ sorted-put (m ∷ ms) n sorted = by_order (sorted-put ms n sorted.1) (int_cmp n 
     by_order more Greater e = (all_put (λ y. int_cmp m y ≡ Less) ms n (int_cmp_total.antisymm m n ∙ ap ordering_reverse e) sorted.0, more)
 
 -- a number below all is none of them
-below_all : (k : ℤ) (members : List ℤ) → AllByRecursion (λ y. int_cmp k y ≡ Less) members → has members k ≡ false
+pub below_all : (k : ℤ) (members : List ℤ) → AllByRecursion (λ y. int_cmp k y ≡ Less) members → has members k ≡ false
 below_all k [] all = refl
 below_all k (m ∷ ms) all = or_from (is_eq (int_cmp k m)) (has ms k) (ap is_eq all.0) (below_all k ms all.1)
 

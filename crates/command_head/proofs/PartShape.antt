@@ -1,73 +1,131 @@
--- What is known of a word, a name or a quoted text that was read.
-use Rattle.std.proofs.Common.{◌≡◌, ℕ, zero, suc, ◌<◌, true, false, List, [], ◌∷◌, IsAscii, length, arith, tests, ◌||◌, ◌&&◌, ◌-◌, not, ltb, drop, Ok, refl, ap, bytes_eq}
+-- What is known of parts of each kind.
+use Rattle.std.proofs.Common.{◌≡◌, ◌≢◌, ℕ, zero, suc, ◌<◌, ◌≤◌, Bool, true, false, ◌||◌, ◌&&◌, nat_le, List, [], ◌∷◌, ◌++◌, IsAscii, length, take, drop, refl, sym, ◌∙◌, ap, subst, arith, tests, codes, bytes_eq, ◌⊎◌, inl, inr, ⊎_elim}
 use Rattle.std.specs.List.{AllByRecursion}
+use Rattle.std.proofs.lemmas.List.{take_all, take-append-drop}
 use Rattle.std.proofs.lemmas.Slice.Eq.{bytes_eq-Decides}
-use Rattle.std.proofs.lemmas.Bool.{not-false, or_parts, and_parts}
-use Rattle.text_grammar.specs.declared.class.Class.TheVariants.{NameByte, Unquoted, Word}
-use Rattle.text_grammar.specs.Bytes.{is_name_byte}
+use Rattle.std.proofs.lemmas.Bool.{and_parts, or_cases, eqb-true, ne_eqb, false≢true, leb-true}
+use Rattle.text_grammar.specs.declared.class.Class.{Class}
+use Rattle.text_grammar.specs.declared.class.Class.TheVariants.{NameByte, Unquoted}
+use Rattle.text_grammar.specs.Bytes.{is_letter, is_digit, is_name_byte}
 use Rattle.text_grammar.specs.Fronts.{is_in, front_len, front_of, behind_front}
-use Rattle.command_head.specs.declared.fault.HeadFault.TheVariants.{Syntax}
-use Rattle.command_head.specs.Numbers.{begins_with}
-use Rattle.command_head.specs.Parts.{begins_with_letter, goes_on, first_word_of, name_at, quoted_at}
-use Rattle.command_head.specs.Heads.{word_at}
-use Rattle.command_head.proofs.ReadingSteps.{else_ok, then_ok, ok_is}
-use Rattle.command_head.proofs.FrontSteps.{front_of-all}
+use Rattle.command_head.specs.Numbers.{begins_with, all_in}
+use Rattle.command_head.specs.Parts.{begins_with_letter, is_name, all_alphanumeric, is_direction, is_system, is_quoted, unquoted}
+use Rattle.command_head.specs.Grammar.{AreUnquoted, quoted}
+use Rattle.command_head.proofs.FrontSteps.{begins_with-split, front_split, front_of-all, front_of-append, behind_front-append}
+
+-- what holds of each where another thing does
+pub AllByRecursion-weaker : (P Q : ℕ → Type 0) → ((b : ℕ) → P b → Q b) → (bytes : List ℕ) → AllByRecursion P bytes → AllByRecursion Q bytes
+AllByRecursion-weaker P Q f [] all = tt
+AllByRecursion-weaker P Q f (b ∷ bs) all = (f b all.0, AllByRecursion-weaker P Q f bs all.1)
+
+pub all-append : (P : ℕ → Type 0) (xs ys : List ℕ) → AllByRecursion P xs → AllByRecursion P ys → AllByRecursion P (xs ++ ys)
+all-append P [] ys a b = b
+all-append P (x ∷ xs) ys a b = (a.0, all-append P xs ys a.1 b)
+
+pub letter-high : (b : ℕ) → is_letter b ≡ true → 65 ≤ b
+letter-high b h =
+    ⊎_elim (λ p. leb-true 65 b (and_parts (nat_le 65 b) (nat_le b 90) p).0)
+    (λ p. let high : 97 ≤ b = leb-true 97 b (and_parts (nat_le 97 b) (nat_le b 122) p).0 in omega arith)
+    (or_cases (nat_le 65 b && nat_le b 90) (nat_le 97 b && nat_le b 122) h)
+
+pub letter-name_byte : (b : ℕ) → is_letter b ≡ true → is_name_byte b ≡ true
+letter-name_byte b h = rw h refl
 
 name_byte-low : (b : ℕ) → is_name_byte b ≡ true → b < 128
 name_byte-low b h = grind (arith, tests)
 
-low : (bytes : List ℕ) → AllByRecursion (λ b. is_in NameByte b ≡ true) bytes → IsAscii bytes
+alphanumeric-low : (b : ℕ) → (is_letter b || is_digit b) ≡ true → b < 128
+alphanumeric-low b h = grind (arith, tests)
+
+low : (bytes : List ℕ) → AllByRecursion (λ b. b < 128) bytes → IsAscii bytes
 low [] all i = omega arith
-low (b ∷ bs) all zero = name_byte-low b all.0
+low (b ∷ bs) all zero = all.0
 low (b ∷ bs) all (suc i) = low bs all.1 i
 
--- the bytes of names are those of ASCII text
-pub IsAscii-name : (bytes : List ℕ) → IsAscii (front_of NameByte bytes)
-IsAscii-name bytes = low _ (front_of-all NameByte bytes)
+-- bytes that are all of a class
+pub all_in-all : (class : Class) (bytes : List ℕ) → all_in class bytes ≡ true → AllByRecursion (λ b. is_in class b ≡ true) bytes
+all_in-all class bytes h =
+    let same : front_of class bytes ≡ bytes = take_all (front_len class bytes) bytes (let whole = eqb-true (front_len class bytes) (length bytes) h in omega arith) in
+    subst (λ (l : List ℕ). AllByRecursion (λ b. is_in class b ≡ true) l) same (front_of-all class bytes)
 
-pub record IsNameRead (bytes name rest : List ℕ) : Type 0 where
-  pub letter : begins_with_letter bytes ≡ true
-  pub short : ltb 64 (front_len NameByte bytes) ≡ false
-  pub alone : goes_on (behind_front NameByte bytes) ≡ false
-  pub name_is : front_of NameByte bytes ≡ name
-  pub rest_is : behind_front NameByte bytes ≡ rest
+-- names are ASCII
+pub IsAscii-name : (part : List ℕ) → is_name part ≡ true → IsAscii part
+IsAscii-name part h =
+    let tests = and_parts (begins_with_letter part) (all_in NameByte part && nat_le (length part) 64) h in
+    let all = all_in-all NameByte part (and_parts (all_in NameByte part) (nat_le (length part) 64) tests.1).0 in
+    low part (AllByRecursion-weaker (λ b. is_in NameByte b ≡ true) (λ b. b < 128) name_byte-low part all)
 
-pub name_at-ok : (whole : ℕ) (bytes name rest : List ℕ) → name_at whole bytes ≡ Ok (name, rest) → IsNameRead bytes name rest
-unfolding name_at
-name_at-ok whole bytes name rest h =
-    let p = else_ok (not (begins_with_letter bytes) || (ltb 64 (front_len NameByte bytes) || goes_on (behind_front NameByte bytes))) (Syntax (whole - length bytes)) (Ok (front_of NameByte bytes, behind_front NameByte bytes)) (name, rest) h in
-    let tests = or_parts _ _ p.0 in
-    let others = or_parts _ _ tests.1 in
-    let r = ok_is _ _ _ refl p.1 in
-    record {
-      letter = not-false _ tests.0;
-      short = others.0;
-      alone = others.1;
-      name_is = ap (λ (x : List ℕ × List ℕ). x.0) r;
-      rest_is = ap (λ (x : List ℕ × List ℕ). x.1) r;
-    }
+alphanumeric_all : (bytes : List ℕ) → all_alphanumeric bytes ≡ true → AllByRecursion (λ b. b < 128) bytes
+alphanumeric_all [] h = tt
+alphanumeric_all (b ∷ bs) h = let p = and_parts (is_letter b || is_digit b) (all_alphanumeric bs) h in (alphanumeric-low b p.0, alphanumeric_all bs p.1)
 
-pub record IsQuoteRead (bytes body rest : List ℕ) : Type 0 where
-  pub opens : begins_with 34 bytes ≡ true
-  pub closes : begins_with 34 (behind_front Unquoted (drop 1 bytes)) ≡ true
-  pub body_is : front_of Unquoted (drop 1 bytes) ≡ body
-  pub rest_is : drop 1 (behind_front Unquoted (drop 1 bytes)) ≡ rest
+-- what is known of the name of a system
+pub record IsSystemRead (part : List ℕ) : Type 0 where
+  pub direction : is_direction (take 4 part) ≡ true
+  pub others : all_alphanumeric (drop 4 part) ≡ true
 
-pub quoted_at-ok : (whole : ℕ) (bytes body rest : List ℕ) → quoted_at whole bytes ≡ Ok (body, rest) → IsQuoteRead bytes body rest
-unfolding quoted_at
-quoted_at-ok whole bytes body rest h =
-    let p = then_ok (begins_with 34 bytes && begins_with 34 (behind_front Unquoted (drop 1 bytes))) (Syntax (whole - length bytes))
-    (Ok (front_of Unquoted (drop 1 bytes), drop 1 (behind_front Unquoted (drop 1 bytes)))) (body, rest) h in
-    let tests = and_parts _ _ p.0 in
-    let r = ok_is _ _ _ refl p.1 in
-    record { opens = tests.0; closes = tests.1; body_is = ap (λ (x : List ℕ × List ℕ). x.0) r; rest_is = ap (λ (x : List ℕ × List ℕ). x.1) r }
+pub system_read : (part : List ℕ) → is_system part ≡ true → IsSystemRead part
+system_read part h =
+    let p = and_parts (nat_le 5 (length part)) (nat_le (length part) 62 && (is_direction (take 4 part) && all_alphanumeric (drop 4 part))) h in
+    let q = and_parts (nat_le (length part) 62) (is_direction (take 4 part) && all_alphanumeric (drop 4 part)) p.1 in
+    let r = and_parts (is_direction (take 4 part)) (all_alphanumeric (drop 4 part)) q.1 in
+    record { direction = r.0; others = r.1 }
 
-pub record IsWordRead (word text rest : List ℕ) : Type 0 where
-  pub word_is : first_word_of text ≡ word
-  pub rest_is : behind_front Word text ≡ rest
+pub direction_is : (bytes : List ℕ) → is_direction bytes ≡ true → (bytes ≡ codes "msd_") ⊎ (bytes ≡ codes "lsd_")
+direction_is bytes h = ⊎_elim (λ e. inl ((bytes_eq-Decides bytes (codes "msd_")).0 e)) (λ e. inr ((bytes_eq-Decides bytes (codes "lsd_")).0 e))
+    (or_cases (bytes_eq bytes (codes "msd_")) (bytes_eq bytes (codes "lsd_")) h)
 
-pub word_at-ok : (word text rest : List ℕ) → word_at word text ≡ Ok rest → IsWordRead word text rest
-unfolding word_at
-word_at-ok word text rest h =
-    let p = then_ok (bytes_eq (first_word_of text) word) (Syntax (length text - length text)) (Ok (behind_front Word text)) rest h in
-    record { word_is = (bytes_eq-Decides (first_word_of text) word).0 p.0; rest_is = ok_is _ _ _ refl p.1 }
+direction_low : (bytes : List ℕ) → is_direction bytes ≡ true → AllByRecursion (λ b. b < 128) bytes
+direction_low bytes h =
+    let P : List ℕ → Type 0 = λ l. AllByRecursion (λ b. b < 128) l in
+    ⊎_elim (λ e. subst P (sym e) (omega arith, (omega arith, (omega arith, (omega arith, tt))))) (λ e. subst P (sym e) (omega arith, (omega arith, (omega arith, (omega arith, tt))))) (direction_is bytes h)
+
+-- systems are ASCII
+pub IsAscii-system : (part : List ℕ) → is_system part ≡ true → IsAscii part
+IsAscii-system part h =
+    let read = system_read part h in
+    let all = all-append (λ b. b < 128) (take 4 part) (drop 4 part) (direction_low (take 4 part) read.direction) (alphanumeric_all (drop 4 part) read.others) in
+    low part (subst (λ (l : List ℕ). AllByRecursion (λ b. b < 128) l) (take-append-drop 4 part) all)
+
+pub unquoted_in : (b : ℕ) → b ≢ 34 → is_in Unquoted b ≡ true
+unquoted_in b h = rw (ne_eqb b 34 h) refl
+
+-- a text in quotes is one, with what stands in them
+pub record IsQuoted (part body : List ℕ) : Type 0 where
+  pub test : is_quoted part ≡ true
+  pub inside : unquoted part ≡ body
+
+pub quoted_is : (body : List ℕ) → AreUnquoted body → IsQuoted (quoted body) body
+quoted_is body all =
+    let in_body = AllByRecursion-weaker (λ b. b ≢ 34) (λ b. is_in Unquoted b ≡ true) unquoted_in body all in
+    let back = behind_front-append Unquoted body (34 ∷ []) in_body refl in
+    record { test = rw back refl; inside = front_of-append Unquoted body (34 ∷ []) in_body refl }
+
+quote_refused : (b : ℕ) → is_in Unquoted b ≡ true → b ≢ 34
+quote_refused b h e = false≢true (subst (λ (x : ℕ). is_in Unquoted x ≡ true) e h)
+
+-- a part that is one is what stands in its quotes, between quotes
+pub is_quoted-part : (part : List ℕ) → is_quoted part ≡ true → (part ≡ quoted (unquoted part)) × AreUnquoted (unquoted part)
+is_quoted-part part h =
+    let p = and_parts (begins_with 34 part) (bytes_eq (behind_front Unquoted (drop 1 part)) (codes "\"")) h in
+    let closes : behind_front Unquoted (drop 1 part) ≡ codes "\"" = (bytes_eq-Decides (behind_front Unquoted (drop 1 part)) (codes "\"")).0 p.1 in (
+      begins_with-split 34 part p.0 ∙ ap (λ (l : List ℕ). 34 ∷ l) (sym (front_split Unquoted (drop 1 part)) ∙ ap (λ (l : List ℕ). unquoted part ++ l) closes),
+      AllByRecursion-weaker (λ b. is_in Unquoted b ≡ true) (λ b. b ≢ 34) quote_refused (unquoted part) (front_of-all Unquoted (drop 1 part)),
+    )
+
+and_false : (a b : Bool) → (a && (b && false)) ≡ false
+and_false true true = refl
+and_false true false = refl
+and_false false b = refl
+
+-- a text in quotes is no system
+pub quoted-system : (bs : List ℕ) → is_system (34 ∷ bs) ≡ false
+quoted-system bs = and_false (nat_le 5 (length (34 ∷ bs))) (nat_le (length (34 ∷ bs)) 62)
+
+-- nor is a brace
+pub system-brace : (part : List ℕ) → is_system part ≡ true → bytes_eq part (codes "{") ≡ false
+system-brace part h = by_test (bytes_eq part (codes "{")) refl
+  where
+    by_test : (t : Bool) → bytes_eq part (codes "{") ≡ t → t ≡ false
+    by_test false e = refl
+    by_test true e = absurd (false≢true (subst (λ (l : List ℕ). is_system l ≡ true) ((bytes_eq-Decides part (codes "{")).0 e) h))

@@ -1,145 +1,316 @@
 -- A head that was read is spelled so.
-use Rattle.std.proofs.Common.{◌≡◌, ◌≢◌, ℕ, suc, ◌-◌, ◌≤◌, true, false, ◌==◌, List, [], ◌∷◌, ◌++◌, ℤ, length, drop, Ok, refl, sym, ◌∙◌, ap, subst, arith, codes, nat_lt}
-use Rattle.std.proofs.lemmas.List.{append-nil}
-use Rattle.std.proofs.lemmas.Bool.{ltb-false, eqb-true, false≢true}
-use Rattle.text_grammar.specs.declared.class.Class.TheVariants.{Blank, NameByte, Unquoted, Word}
-use Rattle.text_grammar.specs.Fronts.{is_in, front_len, front_of, behind_front}
-use Rattle.command_head.specs.declared.fault.HeadFault.TheVariants.{Syntax}
-use Rattle.command_head.specs.Members.{behind_blanks, set_at}
-use Rattle.command_head.specs.Parts.{begins_with_letter, name_at, quoted_at}
-use Rattle.command_head.specs.Heads.{RegHead, word_at, reg_at}
-use Rattle.command_head.specs.Grammar.{IsName, AreUnquoted, SpellsReg}
-use Rattle.command_head.proofs.ReadingSteps.{bind_ok, then_ok, ok_is}
-use Rattle.command_head.proofs.FrontSteps.{Stops, begins_with-split, front_split, front_of-all, length-front_of, behind_front-stops}
-use Rattle.command_head.proofs.ByteSteps.{AllByRecursion-weaker, letter_goes_on, letter-name_byte}
-use Rattle.command_head.proofs.PartShape.{IsNameRead, name_at-ok, IsQuoteRead, quoted_at-ok, IsWordRead, word_at-ok}
-use Rattle.command_head.proofs.ReadParts.{joined, set_spelled}
+use Rattle.std.proofs.Common.{◌≡◌, ◌≢◌, ℕ, zero, suc, ◌<◌, ◌≤◌, true, false, List, [], ◌∷◌, ◌++◌, ℤ, length, Result, Ok, Err, refl, sym, ◌∙◌, ap, subst, arith, codes, bytes_eq, ⊎_elim, ◌⊎◌, inl, inr}
+use Rattle.std.specs.List.{AllByRecursion}
+use Rattle.std.proofs.lemmas.List.{append_assoc}
+use Rattle.std.proofs.lemmas.Slice.Eq.{bytes_eq-Decides}
+use Rattle.command_head.specs.Readings.{Refusal, Form, Range}
+use Rattle.command_head.specs.Numbers.{is_number, is_short, number_of}
+use Rattle.command_head.specs.Members.{has, put, with_member}
+use Rattle.command_head.specs.Parts.{is_name, is_system, is_quoted, unquoted}
+use Rattle.command_head.specs.Heads.{Tracks, Sets, Systems, RegHead, Stage, AtWord, AtName, BehindName, AtNumber, BehindNumber, BehindSet, BehindSystem, AtEnd, body_step, step}
+use Rattle.command_head.specs.Grammar.{SpellsNumber, SpellsMentions, SpellsSet, SpellSets, SpellTracks, AreUnquoted, quoted, SpellsReg}
+use Rattle.command_head.proofs.ReadingSteps.{bind_ok, then_ok, else_ok, chosen, ok_is}
+use Rattle.command_head.proofs.PartShape.{is_quoted-part}
+use Rattle.command_head.proofs.Gathering.{Gathers, gathered_set}
+use Rattle.command_head.proofs.Walks.{goes, came, goes_first, goes_at}
 
--- a letter first, in the front too
-letter_front : (bytes : List ℕ) → begins_with_letter bytes ≡ true → begins_with_letter (front_of NameByte bytes) ≡ true
-letter_front [] h = h
-letter_front (b ∷ bs) h = rw (letter-name_byte b h) h
+-- what is known of a number that was put to the members
+pub record IsMemberRead (members : List ℤ) (part : List ℕ) (more : List ℤ) : Type 0 where
+  pub n : ℤ
+  pub spells : SpellsNumber part n
+  pub new : has members n ≡ false
+  pub more_is : put members n ≡ more
 
-name_spelled : (bytes name rest : List ℕ) → IsNameRead bytes name rest → IsName name
-name_spelled bytes name rest read = subst IsName read.name_is record {
-  letter = letter_front bytes read.letter;
-  bytes = front_of-all NameByte bytes;
-  short = short_front bytes read.short;
-}
-  where
-    short_front : (bytes : List ℕ) → (nat_lt 64 (front_len NameByte bytes)) ≡ false → length (front_of NameByte bytes) ≤ 64
-    short_front bytes h = let low = ltb-false _ _ h in omega (arith, length-front_of NameByte bytes)
+pub member_spelled : (members : List ℤ) (part : List ℕ) (more : List ℤ) → with_member members part ≡ Ok more → IsMemberRead members part more
+unfolding with_member
+member_spelled members part more h =
+    let a = then_ok (is_number part) Form _ more h in
+    let b = then_ok (is_short (number_of part)) Range _ more a.1 in
+    let c = else_ok (has members (number_of part)) Form (Ok (put members (number_of part))) more b.1 in
+    record { n = number_of part; spells = record { number = a.0; value = refl; short = b.0 }; new = c.0; more_is = ok_is _ _ _ refl c.1 }
 
-quote_refused : (b : ℕ) → is_in Unquoted b ≡ true → b ≡ 34 → ⊥
-quote_refused b h e = false≢true (subst (λ (x : ℕ). is_in Unquoted x ≡ true) e h)
+is_part : (part text : List ℕ) → bytes_eq part text ≡ true → part ≡ text
+is_part part text h = (bytes_eq-Decides part text).0 h
 
--- the quoted body
-body_spelled : (bytes : List ℕ) → AreUnquoted (front_of Unquoted bytes)
-body_spelled bytes = AllByRecursion-weaker (λ b. is_in Unquoted b ≡ true) (λ b. b ≢ 34) (λ b h e. quote_refused b h e) _ (front_of-all Unquoted bytes)
+-- behind the text in quotes nothing comes
+end_spelled : (parts : List (List ℕ)) (end head : RegHead) → goes (AtEnd end) parts ≡ Ok head → (parts ≡ []) × (end ≡ head)
+unfolding step
+end_spelled [] end head h = (refl, ok_is _ _ _ refl h)
+end_spelled (part ∷ parts) end head h = cc
 
--- nothing stands behind the blanks at the end
-nothing_behind : (bytes : List ℕ) → (length bytes == 0) ≡ true → bytes ≡ []
-nothing_behind [] h = refl
-nothing_behind (b ∷ bs) h = absurd (not_zero (length bs) h)
-  where
-    not_zero : (n : ℕ) → (suc n == 0) ≡ true → ⊥
-    not_zero n h = let zero_is = eqb-true (suc n) 0 h in absurd (omega arith)
-
--- where a letter stands behind the blanks and a first word stopped before them, there is a blank
-some_blank : (bytes : List ℕ) → Stops Word bytes → begins_with_letter (behind_blanks bytes) ≡ true → front_of Blank bytes ≢ []
-some_blank bytes stops letter none =
-    let same : behind_blanks bytes ≡ bytes = sym (ap (λ (l : List ℕ). l ++ behind_blanks bytes) none) ∙ front_split Blank bytes in
-    letter_goes_on bytes (subst (λ (l : List ℕ). begins_with_letter l ≡ true) same letter) stops
-
--- the parts that were read one behind another
-record IsRegRead (text : List ℕ) (head : RegHead) : Type 0 where
-  behind_word : List ℕ
-  name : List ℕ
-  behind_name : List ℕ
-  set : List ℤ
-  behind_set : List ℕ
+record IsBodyRead (name : List ℕ) (tracks : Tracks) (parts : List (List ℕ)) (head : RegHead) : Type 0 where
   body : List ℕ
-  behind_body : List ℕ
-  word_read : word_at (codes "reg") text ≡ Ok behind_word
-  name_read : name_at (length text) (behind_blanks behind_word) ≡ Ok (name, behind_name)
-  set_read : set_at (length text) (behind_blanks behind_name) ≡ Ok (set, behind_set)
-  body_read : quoted_at (length text) (behind_blanks behind_set) ≡ Ok (body, behind_body)
-  ended : (length (behind_blanks behind_body) == 0) ≡ true
-  head_is : record { name = name; sets = set ∷ []; body = body } ≡ head
+  parts_are : parts ≡ quoted body ∷ []
+  all : AreUnquoted body
+  head_is : record { name = name; tracks = tracks; body = body } ≡ head
 
-reg_at-ok : (text : List ℕ) (head : RegHead) → reg_at text ≡ Ok head → IsRegRead text head
-unfolding reg_at
-reg_at-ok text head h =
-    let w = bind_ok (word_at (codes "reg") text) _ _ h in
-    let n = bind_ok (name_at (length text) (behind_blanks w.0)) _ _ w.2 in
-    let s = bind_ok (set_at (length text) (behind_blanks n.0.1)) _ _ n.2 in
-    let q = bind_ok (quoted_at (length text) (behind_blanks s.0.1)) _ _ s.2 in
-    let e = then_ok (length (behind_blanks q.0.1) == 0) (Syntax (length text - length (behind_blanks q.0.1))) (Ok (record { name = n.0.0; sets = s.0.0 ∷ []; body = q.0.0 })) head q.2 in
+body_spelled : (name : List ℕ) (tracks : Tracks) (part : List ℕ) (parts : List (List ℕ)) (head : RegHead) (next : Stage) → body_step name tracks part ≡ Ok next → goes next parts ≡ Ok head → IsBodyRead name tracks (part ∷ parts) head
+unfolding body_step
+body_spelled name tracks part parts head next step_is h =
+    let end : RegHead = record { name = name; tracks = tracks; body = unquoted part } in
+    let t = then_ok (is_quoted part) Form (Ok (AtEnd end)) next step_is in
+    let q = is_quoted-part part t.0 in
+    let e = end_spelled parts end head (goes_at (AtEnd end) next parts head t.1 h) in
+    record { body = unquoted part; parts_are = ap (λ (l : List (List ℕ)). part ∷ l) e.0 ∙ ap (λ (l : List ℕ). l ∷ []) q.0; all = q.1; head_is = e.1 }
+
+record AreSystemsRead (name : List ℕ) (names : List (List ℕ)) (parts : List (List ℕ)) (head : RegHead) : Type 0 where
+  more : List (List ℕ)
+  body : List ℕ
+  parts_are : parts ≡ more ++ quoted body ∷ []
+  systems : AllByRecursion (λ n. is_system n ≡ true) more
+  all : AreUnquoted body
+  head_is : record { name = name; tracks = Systems (names ++ more); body = body } ≡ head
+
+pub system_step : (name : List ℕ) (names : List (List ℕ)) (part : List ℕ) (next : Stage) → step (BehindSystem name names) part ≡ Ok next →
+    ((is_system part ≡ true) × (came (BehindSystem name (names ++ part ∷ [])) ≡ Ok next)) ⊎ ((is_system part ≡ false) × (body_step name (Systems names) part ≡ Ok next))
+unfolding step
+system_step name names part next h = chosen (is_system part) _ _ _ h
+
+systems_spelled : (parts : List (List ℕ)) (name : List ℕ) (names : List (List ℕ)) (head : RegHead) → goes (BehindSystem name names) parts ≡ Ok head → AreSystemsRead name names parts head
+systems_spelled [] name names head h = cc
+systems_spelled (part ∷ parts) name names head h =
+    let f = goes_first (BehindSystem name names) part parts head h in
+    ⊎_elim
+    (λ g. let read = systems_spelled parts name (names ++ part ∷ []) head (goes_at (BehindSystem name (names ++ part ∷ [])) f.0 parts head g.1 f.2) in
     record {
-      behind_word = w.0;
-      name = n.0.0;
-      behind_name = n.0.1;
-      set = s.0.0;
-      behind_set = s.0.1;
-      body = q.0.0;
-      behind_body = q.0.1;
-      word_read = w.1;
-      name_read = n.1;
-      set_read = s.1;
-      body_read = q.1;
-      ended = e.0;
-      head_is = ok_is _ _ _ refl e.1;
-    }
-
--- the quoted text is what stands between quotes
-quote_split : (bytes body rest : List ℕ) → IsQuoteRead bytes body rest → bytes ≡ 34 ∷ (body ++ (34 ∷ rest))
-quote_split bytes body rest read =
-    begins_with-split 34 bytes read.opens
-    ∙ ap (λ (l : List ℕ). 34 ∷ l) (sym (front_split Unquoted (drop 1 bytes))
-    ∙ ap (λ (l : List ℕ). front_of Unquoted (drop 1 bytes) ++ l) (begins_with-split 34 (behind_front Unquoted (drop 1 bytes)) read.closes ∙ ap (λ (l : List ℕ). 34 ∷ l) read.rest_is)
-    ∙ ap (λ (l : List ℕ). l ++ (34 ∷ rest)) read.body_is)
-
-name_split : (bytes name rest : List ℕ) → IsNameRead bytes name rest → bytes ≡ name ++ rest
-name_split bytes name rest read = sym (front_split NameByte bytes) ∙ ap (λ (l : List ℕ). l ++ behind_front NameByte bytes) read.name_is ∙ ap (λ (l : List ℕ). name ++ l) read.rest_is
-
-word_split : (word text rest : List ℕ) → IsWordRead word text rest → text ≡ word ++ rest
-word_split word text rest read = sym (front_split Word text) ∙ ap (λ (l : List ℕ). l ++ behind_front Word text) read.word_is ∙ ap (λ (l : List ℕ). word ++ l) read.rest_is
-
-blanks_split : (bytes rest : List ℕ) → behind_blanks bytes ≡ rest → bytes ≡ front_of Blank bytes ++ rest
-blanks_split bytes rest h = joined bytes (front_of Blank bytes) (behind_blanks bytes) rest (sym (front_split Blank bytes)) h
-
-end_split : (bytes : List ℕ) → behind_blanks bytes ≡ [] → bytes ≡ front_of Blank bytes
-end_split bytes h = blanks_split bytes [] h ∙ append-nil (front_of Blank bytes)
-
-spelled_so : (text : List ℕ) (behind_word name behind_name : List ℕ) (set : List ℤ) (behind_set body behind_body : List ℕ) → word_at (codes "reg") text ≡ Ok behind_word →
-    name_at (length text) (behind_blanks behind_word) ≡ Ok (name, behind_name) → set_at (length text) (behind_blanks behind_name) ≡ Ok (set, behind_set) →
-    quoted_at (length text) (behind_blanks behind_set) ≡ Ok (body, behind_body) → (length (behind_blanks behind_body) == 0) ≡ true → SpellsReg text (record { name = name; sets = set ∷ []; body = body })
-spelled_so text r0 name r1 set r2 body r3 word_read name_read set_read body_read ended =
-    let word_is = word_at-ok (codes "reg") text r0 word_read in
-    let name_is = name_at-ok (length text) (behind_blanks r0) name r1 name_read in
-    let set_is = set_spelled (length text) (behind_blanks r1) set r2 set_read in
-    let body_is = quoted_at-ok (length text) (behind_blanks r2) body r3 body_read in
-    let e4 = end_split r3 (nothing_behind _ ended) in
-    let e3 = blanks_split r2 _ (quote_split (behind_blanks r2) body r3 body_is ∙ ap (λ (l : List ℕ). 34 ∷ (body ++ (34 ∷ l))) e4) in
-    let e2 = blanks_split r1 _ (set_is.1 ∙ ap (λ (l : List ℕ). set_is.0 ++ l) e3) in
-    let e1 = blanks_split r0 _ (name_split (behind_blanks r0) name r1 name_is ∙ ap (λ (l : List ℕ). name ++ l) e2) in
+      more = part ∷ read.more;
+      body = read.body;
+      parts_are = ap (λ (l : List (List ℕ)). part ∷ l) read.parts_are;
+      systems = (g.0, read.systems);
+      all = read.all;
+      head_is = ap (λ (l : List (List ℕ)). record { name = name; tracks = Systems l; body = read.body }) (sym (append_assoc names (part ∷ []) read.more)) ∙ read.head_is;
+    })
+    (λ g. let read = body_spelled name (Systems names) part parts head f.0 g.1 f.2 in
     record {
-      first = front_of Blank r0;
-      second = front_of Blank r1;
-      set_text = set_is.0;
-      third = front_of Blank r2;
-      last = front_of Blank r3;
-      text_is = word_split (codes "reg") text r0 word_is ∙ ap (λ (l : List ℕ). codes "reg" ++ l) e1;
-      some = some_blank r0 (subst (Stops Word) word_is.rest_is (behind_front-stops Word text)) name_is.letter;
-      blanks = (front_of-all Blank r0, front_of-all Blank r1, front_of-all Blank r2, front_of-all Blank r3);
-      name = name_spelled (behind_blanks r0) name r1 name_is;
-      set = set;
-      set_is = set_is.2;
-      sets_are = refl;
-      body = subst AreUnquoted body_is.body_is (body_spelled (drop 1 (behind_blanks r2)));
-    }
+      more = [];
+      body = read.body;
+      parts_are = read.parts_are;
+      systems = tt;
+      all = read.all;
+      head_is = ap (λ (l : List (List ℕ)). record { name = name; tracks = Systems l; body = read.body }) (append_nil names) ∙ read.head_is;
+    })
+    (system_step name names part f.0 f.1)
+  where
+    append_nil : (xs : List (List ℕ)) → xs ++ [] ≡ xs
+    append_nil [] = refl
+    append_nil (x ∷ xs) = ap (λ (l : List (List ℕ)). x ∷ l) (append_nil xs)
 
-pub reg_spelled : (text : List ℕ) (head : RegHead) → reg_at text ≡ Ok head → SpellsReg text head
-reg_spelled text head h =
-    let r = reg_at-ok text head h in
-    subst (SpellsReg text) r.head_is (spelled_so text r.behind_word r.name r.behind_name r.set r.behind_set r.body r.behind_body r.word_read r.name_read r.set_read r.body_read r.ended)
+-- the numbers of a set up to its brace, and what is left
+record IsSetRead (name : List ℕ) (sets : List (List ℤ)) (members : List ℤ) (parts : List (List ℕ)) (head : RegHead) : Type 0 where
+  inside : List (List ℕ)
+  mentions : List ℤ
+  out : List ℤ
+  rest : List (List ℕ)
+  parts_are : parts ≡ inside ++ codes "}" ∷ rest
+  spelled : SpellsMentions inside mentions
+  gathers : Gathers members mentions out
+  goes_on : goes (BehindSet name (sets ++ out ∷ [])) rest ≡ Ok head
+  shorter : length rest < length parts
+
+pub number_step : (name : List ℕ) (sets : List (List ℤ)) (members : List ℤ) (part : List ℕ) (next : Stage) → step (AtNumber name sets members) part ≡ Ok next →
+    (more : List ℤ) × (with_member members part ≡ Ok more) × (came (BehindNumber name sets more) ≡ Ok next)
+unfolding step
+number_step name sets members part next h = bind_ok (with_member members part) (λ more. Ok (BehindNumber name sets more)) next h
+
+pub divider_step : (name : List ℕ) (sets : List (List ℤ)) (members : List ℤ) (part : List ℕ) (next : Stage) → step (BehindNumber name sets members) part ≡ Ok next →
+    ((part ≡ codes ",") × (came (AtNumber name sets members) ≡ Ok next)) ⊎ ((part ≡ codes "}") × (came (BehindSet name (sets ++ members ∷ [])) ≡ Ok next))
+unfolding step
+divider_step name sets members part next h =
+    ⊎_elim (λ g. inl (is_part part (codes ",") g.0, g.1))
+    (λ g. let t = then_ok (bytes_eq part (codes "}")) Form (Ok (BehindSet name (sets ++ members ∷ []))) next g.1 in inr (is_part part (codes "}") t.0, t.1))
+    (chosen (bytes_eq part (codes ",")) _ _ _ h)
+
+-- a number before others
+mentions_more : (number : List ℕ) (others : List (List ℕ)) (n : ℤ) (ns : List ℤ) → SpellsNumber number n → SpellsMentions others ns → SpellsMentions (number ∷ codes "," ∷ others) (n ∷ ns)
+mentions_more number others n [] first rest = absurd rest
+mentions_more number others n (m ∷ ns) first rest = (number, others, refl, first, rest)
+
+with_others : (part mark : List ℕ) (parts inside rest : List (List ℕ)) → mark ≡ codes "," → parts ≡ inside ++ codes "}" ∷ rest → part ∷ mark ∷ parts ≡ (part ∷ codes "," ∷ inside) ++ codes "}" ∷ rest
+with_others part mark parts inside rest e h = ap (λ (l : List ℕ). part ∷ l ∷ parts) e ∙ ap (λ (l : List (List ℕ)). part ∷ codes "," ∷ l) h
+
+set_spelled : (parts : List (List ℕ)) (name : List ℕ) (sets : List (List ℤ)) (members : List ℤ) (head : RegHead) → goes (AtNumber name sets members) parts ≡ Ok head → IsSetRead name sets members parts head
+set_spelled [] name sets members head h = cc
+set_spelled (part ∷ []) name sets members head h =
+    let f = goes_first (AtNumber name sets members) part [] head h in
+    let m = number_step name sets members part f.0 f.1 in
+    absurd (none (goes (BehindNumber name sets m.0) []) refl (goes_at (BehindNumber name sets m.0) f.0 [] head m.2 f.2))
+  where
+    none : (r : Result RegHead Refusal) → r ≡ Err Form → r ≡ Ok head → ⊥
+    none r e g = cc
+set_spelled (part ∷ mark ∷ parts) name sets members head h =
+    let f = goes_first (AtNumber name sets members) part (mark ∷ parts) head h in
+    let m = number_step name sets members part f.0 f.1 in
+    let d = goes_first (BehindNumber name sets m.0) mark parts head (goes_at (BehindNumber name sets m.0) f.0 (mark ∷ parts) head m.2 f.2) in
+    let member = member_spelled members part m.0 m.1 in
+    ⊎_elim
+    (λ g. let read = set_spelled parts name sets m.0 head (goes_at (AtNumber name sets m.0) d.0 parts head g.1 d.2) in
+    record {
+      inside = part ∷ codes "," ∷ read.inside;
+      mentions = member.n ∷ read.mentions;
+      out = read.out;
+      rest = read.rest;
+      parts_are = with_others part mark parts read.inside read.rest g.0 read.parts_are;
+      spelled = mentions_more part read.inside member.n read.mentions member.spells read.spelled;
+      gathers = (member.new, subst (λ (l : List ℤ). Gathers l read.mentions read.out) (sym member.more_is) read.gathers);
+      goes_on = read.goes_on;
+      shorter = let less = read.shorter in omega arith;
+    })
+    (λ g. record {
+      inside = part ∷ [];
+      mentions = member.n ∷ [];
+      out = m.0;
+      rest = parts;
+      parts_are = ap (λ (l : List ℕ). part ∷ l ∷ parts) g.0;
+      spelled = (part, refl, member.spells);
+      gathers = (member.new, member.more_is);
+      goes_on = goes_at (BehindSet name (sets ++ m.0 ∷ [])) d.0 parts head g.1 d.2;
+      shorter = omega arith;
+    })
+    (divider_step name sets m.0 mark d.0 d.1)
+
+-- a set that was read
+set_is : (name : List ℕ) (sets : List (List ℤ)) (parts : List (List ℕ)) (head : RegHead) (read : IsSetRead name sets [] parts head) → SpellsSet (codes "{" ∷ (read.inside ++ codes "}" ∷ [])) read.out
+set_is name sets parts head read = record { inside = read.inside; mentions = read.mentions; parts_are = refl; spelled = read.spelled; members = gathered_set read.mentions read.out read.gathers }
+
+record AreSetsRead (name : List ℕ) (sets : List (List ℤ)) (parts : List (List ℕ)) (head : RegHead) : Type 0 where
+  tracks : List (List ℕ)
+  more : List (List ℤ)
+  body : List ℕ
+  parts_are : parts ≡ tracks ++ quoted body ∷ []
+  spelled : SpellSets tracks more
+  all : AreUnquoted body
+  head_is : record { name = name; tracks = Sets (sets ++ more); body = body } ≡ head
+
+pub set_step : (name : List ℕ) (sets : List (List ℤ)) (part : List ℕ) (next : Stage) → step (BehindSet name sets) part ≡ Ok next →
+    ((part ≡ codes "{") × (came (AtNumber name sets []) ≡ Ok next)) ⊎ (body_step name (Sets sets) part ≡ Ok next)
+unfolding step
+set_step name sets part next h = ⊎_elim (λ g. inl (is_part part (codes "{") g.0, g.1)) (λ g. inr g.1) (chosen (bytes_eq part (codes "{")) _ _ _ h)
+
+-- the parts of a set, and then those of others
+regrouped : (parts rest inside tracks end : List (List ℕ)) → parts ≡ inside ++ codes "}" ∷ rest → rest ≡ tracks ++ end →
+    codes "{" ∷ parts ≡ ((codes "{" ∷ (inside ++ codes "}" ∷ [])) ++ tracks) ++ end
+regrouped parts rest inside tracks end parts_are rest_is =
+    ap (λ (l : List (List ℕ)). codes "{" ∷ l) (parts_are ∙ ap (λ (l : List (List ℕ)). inside ++ codes "}" ∷ l) rest_is ∙ sym (append_assoc inside (codes "}" ∷ []) (tracks ++ end)))
+    ∙ sym (append_assoc (codes "{" ∷ (inside ++ codes "}" ∷ [])) tracks end)
+
+sets_spelled : (bound : ℕ) (parts : List (List ℕ)) (name : List ℕ) (sets : List (List ℤ)) (head : RegHead) → length parts ≤ bound → goes (BehindSet name sets) parts ≡ Ok head → AreSetsRead name sets parts head
+sets_spelled bound [] name sets head room h = cc
+sets_spelled zero (part ∷ parts) name sets head room h = absurd (omega arith)
+sets_spelled (suc bound) (part ∷ parts) name sets head room h =
+    let f = goes_first (BehindSet name sets) part parts head h in
+    ⊎_elim
+    (λ g. let set = set_spelled parts name sets [] head (goes_at (AtNumber name sets []) f.0 parts head g.1 f.2) in
+    let others = sets_spelled bound set.rest name (sets ++ set.out ∷ []) head (let less = set.shorter in omega arith) set.goes_on in
+    record {
+      tracks = (codes "{" ∷ (set.inside ++ codes "}" ∷ [])) ++ others.tracks;
+      more = set.out ∷ others.more;
+      body = others.body;
+      parts_are = ap (λ (l : List ℕ). l ∷ parts) g.0 ∙ regrouped parts set.rest set.inside others.tracks (quoted others.body ∷ []) set.parts_are others.parts_are;
+      spelled = (codes "{" ∷ (set.inside ++ codes "}" ∷ []), others.tracks, refl, set_is name sets parts head set, others.spelled);
+      all = others.all;
+      head_is = ap (λ (l : List (List ℤ)). record { name = name; tracks = Sets l; body = others.body }) (sym (append_assoc sets (set.out ∷ []) others.more)) ∙ others.head_is;
+    })
+    (λ g. let read = body_spelled name (Sets sets) part parts head f.0 g f.2 in
+    record {
+      tracks = [];
+      more = [];
+      body = read.body;
+      parts_are = read.parts_are;
+      spelled = refl;
+      all = read.all;
+      head_is = ap (λ (l : List (List ℤ)). record { name = name; tracks = Sets l; body = read.body }) (append_nil sets) ∙ read.head_is;
+    })
+    (set_step name sets part f.0 f.1)
+  where
+    append_nil : (xs : List (List ℤ)) → xs ++ [] ≡ xs
+    append_nil [] = refl
+    append_nil (x ∷ xs) = ap (λ (l : List (List ℤ)). x ∷ l) (append_nil xs)
+
+record AreTracksRead (name : List ℕ) (parts : List (List ℕ)) (head : RegHead) : Type 0 where
+  tracks : List (List ℕ)
+  over : Tracks
+  body : List ℕ
+  parts_are : parts ≡ tracks ++ quoted body ∷ []
+  spelled : SpellTracks tracks over
+  all : AreUnquoted body
+  head_is : record { name = name; tracks = over; body = body } ≡ head
+
+pub name_step : (name part : List ℕ) (next : Stage) → step (BehindName name) part ≡ Ok next →
+    ((part ≡ codes "{") × (came (AtNumber name [] []) ≡ Ok next)) ⊎ ((is_system part ≡ true) × (came (BehindSystem name (part ∷ [])) ≡ Ok next))
+unfolding step
+name_step name part next h =
+    ⊎_elim (λ g. inl (is_part part (codes "{") g.0, g.1)) (λ g. inr (then_ok (is_system part) Form (Ok (BehindSystem name (part ∷ []))) next g.1))
+    (chosen (bytes_eq part (codes "{")) _ _ _ h)
+
+some : {X : Type 0} (x : X) (xs : List X) → x ∷ xs ≢ []
+some x xs e = cc
+
+tracks_spelled : (parts : List (List ℕ)) (name : List ℕ) (head : RegHead) → goes (BehindName name) parts ≡ Ok head → AreTracksRead name parts head
+tracks_spelled [] name head h = cc
+tracks_spelled (part ∷ parts) name head h =
+    let f = goes_first (BehindName name) part parts head h in
+    ⊎_elim
+    (λ g. let set = set_spelled parts name [] [] head (goes_at (AtNumber name [] []) f.0 parts head g.1 f.2) in
+    let others = sets_spelled (length set.rest) set.rest name (set.out ∷ []) head (omega arith) set.goes_on in
+    record {
+      tracks = (codes "{" ∷ (set.inside ++ codes "}" ∷ [])) ++ others.tracks;
+      over = Sets (set.out ∷ others.more);
+      body = others.body;
+      parts_are = ap (λ (l : List ℕ). l ∷ parts) g.0 ∙ regrouped parts set.rest set.inside others.tracks (quoted others.body ∷ []) set.parts_are others.parts_are;
+      spelled = (some set.out others.more, (codes "{" ∷ (set.inside ++ codes "}" ∷ []), others.tracks, refl, set_is name [] parts head set, others.spelled));
+      all = others.all;
+      head_is = others.head_is;
+    })
+    (λ g. let read = systems_spelled parts name (part ∷ []) head (goes_at (BehindSystem name (part ∷ [])) f.0 parts head g.1 f.2) in
+    record {
+      tracks = part ∷ read.more;
+      over = Systems (part ∷ read.more);
+      body = read.body;
+      parts_are = ap (λ (l : List (List ℕ)). part ∷ l) read.parts_are;
+      spelled = (some part read.more, refl, (g.0, read.systems));
+      all = read.all;
+      head_is = read.head_is;
+    })
+    (name_step name part f.0 f.1)
+
+pub word_step : (part : List ℕ) (next : Stage) → step AtWord part ≡ Ok next → (part ≡ codes "reg") × (came AtName ≡ Ok next)
+unfolding step
+word_step part next h = let t = then_ok (bytes_eq part (codes "reg")) Form (Ok AtName) next h in (is_part part (codes "reg") t.0, t.1)
+
+pub first_name_step : (part : List ℕ) (next : Stage) → step AtName part ≡ Ok next → (is_name part ≡ true) × (came (BehindName part) ≡ Ok next)
+unfolding step
+first_name_step part next h = then_ok (is_name part) Form (Ok (BehindName part)) next h
+
+record IsNameRead (parts : List (List ℕ)) (head : RegHead) : Type 0 where
+  name : List ℕ
+  tracks : List (List ℕ)
+  over : Tracks
+  body : List ℕ
+  parts_are : parts ≡ name ∷ (tracks ++ quoted body ∷ [])
+  name_is : is_name name ≡ true
+  spelled : SpellTracks tracks over
+  all : AreUnquoted body
+  head_is : record { name = name; tracks = over; body = body } ≡ head
+
+name_spelled : (parts : List (List ℕ)) (head : RegHead) → goes AtName parts ≡ Ok head → IsNameRead parts head
+name_spelled [] head h = cc
+name_spelled (part ∷ parts) head h =
+    let f = goes_first AtName part parts head h in
+    let n = first_name_step part f.0 f.1 in
+    let t = tracks_spelled parts part head (goes_at (BehindName part) f.0 parts head n.1 f.2) in
+    record { name = part; tracks = t.tracks; over = t.over; body = t.body; parts_are = ap (λ (l : List (List ℕ)). part ∷ l) t.parts_are; name_is = n.0; spelled = t.spelled; all = t.all; head_is = t.head_is }
+
+-- parts that lead to a head spell it
+pub reg_spelled : (parts : List (List ℕ)) (head : RegHead) → goes AtWord parts ≡ Ok head → SpellsReg parts head
+reg_spelled [] head h = cc
+reg_spelled (part ∷ parts) head h =
+    let f = goes_first AtWord part parts head h in
+    let w = word_step part f.0 f.1 in
+    let n = name_spelled parts head (goes_at AtName f.0 parts head w.1 f.2) in
+    subst (SpellsReg (part ∷ parts)) n.head_is record {
+      tracks = n.tracks;
+      parts_are = ap (λ (l : List ℕ). l ∷ parts) w.0 ∙ ap (λ (l : List (List ℕ)). codes "reg" ∷ l) n.parts_are;
+      name = n.name_is;
+      spelled = n.spelled;
+      body = n.all;
+    }

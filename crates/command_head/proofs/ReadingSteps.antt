@@ -12,16 +12,16 @@ Fails-handed_on (Number at) part whole on h = on (Number at) h
 Fails-handed_on Memory part whole on h = tt
 
 -- both of two readings went well
-pub bind_ok : {A B : Type 0} (r : Result A HeadFault) (f : A → Result B HeadFault) (y : B) → (r >>= f) ≡ Ok y → (x : A) × (r ≡ Ok x) × (f x ≡ Ok y)
+pub bind_ok : {A B E : Type 0} (r : Result A E) (f : A → Result B E) (y : B) → (r >>= f) ≡ Ok y → (x : A) × (r ≡ Ok x) × (f x ≡ Ok y)
 bind_ok (Ok x) f y h = (x, refl, h)
 bind_ok (Err e) f y h = cc
 
 -- the one of two readings that is no fault
-pub else_ok : {A : Type 0} (b : Bool) (e : HeadFault) (r : Result A HeadFault) (y : A) → cond b (Err e) r ≡ Ok y → (b ≡ false) × (r ≡ Ok y)
+pub else_ok : {A E : Type 0} (b : Bool) (e : E) (r : Result A E) (y : A) → cond b (Err e) r ≡ Ok y → (b ≡ false) × (r ≡ Ok y)
 else_ok true e r y h = cc
 else_ok false e r y h = (refl, h)
 
-pub then_ok : {A : Type 0} (b : Bool) (e : HeadFault) (r : Result A HeadFault) (y : A) → cond b r (Err e) ≡ Ok y → (b ≡ true) × (r ≡ Ok y)
+pub then_ok : {A E : Type 0} (b : Bool) (e : E) (r : Result A E) (y : A) → cond b r (Err e) ≡ Ok y → (b ≡ true) × (r ≡ Ok y)
 then_ok true e r y h = (refl, h)
 then_ok false e r y h = cc
 
@@ -30,9 +30,5 @@ pub chosen : {A : Type 0} (b : Bool) (x y z : A) → cond b x y ≡ z → ((b �
 chosen true x y z h = inl (refl, h)
 chosen false x y z h = inr (refl, h)
 
-pub ok_is : {A : Type 0} (r : Result A HeadFault) (x y : A) → r ≡ Ok x → r ≡ Ok y → x ≡ y
+pub ok_is : {A E : Type 0} (r : Result A E) (x y : A) → r ≡ Ok x → r ≡ Ok y → x ≡ y
 ok_is r x y g h = cc
-
--- a reading that passes two tests
-pub passes : {A : Type 0} (a b : Bool) (broken x other : A) → a ≡ false → b ≡ true → cond a broken (cond b x other) ≡ x
-passes a b broken x other h g = rw (h, g) refl

@@ -1,66 +1,156 @@
 -- A head that is spelled so is read.
-use Rattle.std.proofs.Common.{◌≡◌, ◌≢◌, ℕ, true, false, ◌==◌, List, [], ◌∷◌, ◌++◌, ℤ, length, Ok, refl, sym, ◌∙◌, ap, subst, arith, codes, bytes_eq}
+use Rattle.std.proofs.Common.{◌≡◌, ℕ, Bool, true, false, cond, List, [], ◌∷◌, ◌++◌, ℤ, Ok, refl, sym, ◌∙◌, ap, subst, codes, bytes_eq}
 use Rattle.std.specs.List.{AllByRecursion}
-use Rattle.std.proofs.lemmas.List.{append-nil}
-use Rattle.std.proofs.lemmas.Slice.Eq.{bytes_eq-Decides}
-use Rattle.text_grammar.specs.declared.class.Class.TheVariants.{Blank, NameByte, Word}
-use Rattle.command_head.specs.Members.{behind_blanks, set_at}
-use Rattle.command_head.specs.Parts.{first_word_of, goes_on, name_at, quoted_at}
-use Rattle.command_head.specs.Heads.{RegHead, word_at, reg_at}
-use Rattle.command_head.specs.Grammar.{AreBlanks, IsName, SpellsSet, SpellsReg}
-use Rattle.command_head.proofs.FrontSteps.{Stops, front_of-append, behind_front-append}
-use Rattle.command_head.proofs.ByteSteps.{blank-name_byte, blank-word, Stops-blanks, begins_with-blanks}
-use Rattle.command_head.proofs.SpelledParts.{set_read, name_read, name_no_blank, quoted_read}
+use Rattle.std.proofs.lemmas.List.{append-nil, append_assoc}
+use Rattle.command_head.specs.Numbers.{is_number, is_short, number_of}
+use Rattle.command_head.specs.Members.{has, put, with_member}
+use Rattle.command_head.specs.Parts.{is_name, is_system, is_quoted}
+use Rattle.command_head.specs.Heads.{Tracks, Sets, Systems, RegHead, AtWord, AtName, BehindName, AtNumber, BehindSet, BehindSystem, AtEnd, body_step, step}
+use Rattle.command_head.specs.Grammar.{SpellsNumber, SpellsMentions, SpellSets, SpellTracks, AreUnquoted, quoted, SpellsReg}
+use Rattle.command_head.proofs.PartShape.{quoted_is, quoted-system, system-brace}
+use Rattle.command_head.proofs.Gathering.{Gathers, set_gathered}
+use Rattle.command_head.proofs.Walks.{goes, goes_step}
 
--- behind the word `reg` a blank follows
-word_read : (first rest : List ℕ) → first ≢ [] → AreBlanks first → word_at (codes "reg") (codes "reg" ++ (first ++ rest)) ≡ Ok (first ++ rest)
-unfolding word_at
-word_read [] rest some blanks = absurd (some refl)
-word_read (b ∷ bs) rest some blanks =
-    let stops : Stops Word ((b ∷ bs) ++ rest) = blank-word b blanks.0 in
-    let front = front_of-append Word (codes "reg") ((b ∷ bs) ++ rest) (refl, (refl, (refl, tt))) stops in
-    let back = behind_front-append Word (codes "reg") ((b ∷ bs) ++ rest) (refl, (refl, (refl, tt))) stops in
-    let same : bytes_eq (first_word_of (codes "reg" ++ ((b ∷ bs) ++ rest))) (codes "reg") ≡ true = (bytes_eq-Decides _ _).1 front in
-    rw (same, back) refl
+-- a new number is put to the members
+pub member_read : (members : List ℤ) (part : List ℕ) (n : ℤ) → SpellsNumber part n → has members n ≡ false → with_member members part ≡ Ok (put members n)
+unfolding with_member
+member_read members part n s new =
+    let short : is_short (number_of part) ≡ true = subst (λ (m : ℤ). is_short m ≡ true) (sym s.value) s.short in
+    let new' : has members (number_of part) ≡ false = subst (λ (m : ℤ). has members m ≡ false) (sym s.value) new in
+    by_tests (is_number part) (is_short (number_of part)) (has members (number_of part)) _ _ _ _ s.number short new' ∙ ap (λ (m : ℤ). Ok (put members m)) s.value
+  where
+    by_tests : {A : Type 0} (a b c : Bool) (x y z w : A) → a ≡ true → b ≡ true → c ≡ false → cond a (cond b (cond c x y) z) w ≡ y
+    by_tests a b c x y z w h g k = rw (h, g, k) refl
 
-reg_at-from : (text r0 name r1 : List ℕ) (set : List ℤ) (r2 body r3 : List ℕ) → word_at (codes "reg") text ≡ Ok r0 → name_at (length text) (behind_blanks r0) ≡ Ok (name, r1) →
-    set_at (length text) (behind_blanks r1) ≡ Ok (set, r2) → quoted_at (length text) (behind_blanks r2) ≡ Ok (body, r3) → (length (behind_blanks r3) == 0) ≡ true →
-    reg_at text ≡ Ok (record { name = name; sets = set ∷ []; body = body })
-unfolding reg_at
-reg_at-from text r0 name r1 set r2 body r3 word_is name_is set_is body_is ended = rw (word_is, name_is, set_is, body_is, ended) refl
+pub last_number : (name : List ℕ) (sets : List (List ℤ)) (members more : List ℤ) (part : List ℕ) (parts : List (List ℕ)) → with_member members part ≡ Ok more →
+    goes (AtNumber name sets members) (part ∷ codes "}" ∷ parts) ≡ goes (BehindSet name (sets ++ more ∷ [])) parts
+unfolding step
+last_number name sets members more part parts h = rw h refl
 
--- behind a name, blanks and a brace make no longer part of it
-alone : (second rest : List ℕ) → AreBlanks second → goes_on (second ++ (123 ∷ rest)) ≡ false
-alone second rest blanks = rw (begins_with-blanks 61 second (123 ∷ rest) blanks (omega arith) refl, begins_with-blanks 46 second (123 ∷ rest) blanks (omega arith) refl) refl
+number_more : (name : List ℕ) (sets : List (List ℤ)) (members more : List ℤ) (part : List ℕ) (parts : List (List ℕ)) → with_member members part ≡ Ok more →
+    goes (AtNumber name sets members) (part ∷ codes "," ∷ parts) ≡ goes (AtNumber name sets more) parts
+unfolding step
+number_more name sets members more part parts h = rw h refl
 
-end_read : (last : List ℕ) → AreBlanks last → (length (behind_blanks last) == 0) ≡ true
-end_read last blanks =
-    let none : behind_blanks last ≡ [] = sym (ap behind_blanks (append-nil last)) ∙ behind_front-append Blank last [] blanks tt in
-    ap (λ (l : List ℕ). length l == 0) none
+-- the numbers of a set
+mentions_read : (mentions : List ℤ) (name : List ℕ) (sets : List (List ℤ)) (members out : List ℤ) (inside parts : List (List ℕ)) → SpellsMentions inside mentions → Gathers members mentions out →
+    goes (AtNumber name sets members) (inside ++ codes "}" ∷ parts) ≡ goes (BehindSet name (sets ++ out ∷ [])) parts
+mentions_read [] name sets members out inside parts spelled gathers = absurd spelled
+mentions_read (n ∷ []) name sets members out inside parts spelled gathers =
+    ap (λ (l : List (List ℕ)). goes (AtNumber name sets members) (l ++ codes "}" ∷ parts)) spelled.1
+    ∙ last_number name sets members (put members n) spelled.0 parts (member_read members spelled.0 n spelled.2 gathers.0)
+    ∙ ap (λ (l : List ℤ). goes (BehindSet name (sets ++ l ∷ [])) parts) gathers.1
+mentions_read (n ∷ m ∷ ns) name sets members out inside parts spelled gathers =
+    ap (λ (l : List (List ℕ)). goes (AtNumber name sets members) (l ++ codes "}" ∷ parts)) spelled.2
+    ∙ number_more name sets members (put members n) spelled.0 (spelled.1 ++ codes "}" ∷ parts) (member_read members spelled.0 n spelled.3 gathers.0)
+    ∙ mentions_read (m ∷ ns) name sets (put members n) out spelled.1 parts spelled.4 gathers.1
 
-read_so : (text first name second set_text third body last : List ℕ) (set : List ℤ) → text ≡ codes "reg" ++ (first ++ (name ++ (second ++ (set_text ++ (third ++ (34 ∷ (body ++ (34 ∷ last)))))))) →
-    first ≢ [] → AreBlanks first → AreBlanks second → AreBlanks third → AreBlanks last → IsName name → SpellsSet set_text set →
-    AllByRecursion (λ b. b ≢ 34) body → reg_at text ≡ Ok (record { name = name; sets = set ∷ []; body = body })
-read_so text first name second set_text third body last set text_is some b1 b2 b3 b4 name_is set_is unquoted =
-    let quote = 34 ∷ (body ++ (34 ∷ last)) in
-    let r2 = third ++ quote in
-    let r1 = second ++ (set_text ++ r2) in
-    let r0 = first ++ (name ++ r1) in
-    let whole = length text in
-    let braced : set_text ++ r2 ≡ 123 ∷ ((set_is.inside ++ (125 ∷ [])) ++ r2) = ap (λ (l : List ℕ). l ++ r2) set_is.text_is in
-    let brace_stops : Stops NameByte r1 = subst (λ (l : List ℕ). Stops NameByte (second ++ l)) (sym braced) (Stops-blanks NameByte second (123 ∷ ((set_is.inside ++ (125 ∷ [])) ++ r2)) b2 blank-name_byte refl) in
-    let stands_alone : goes_on r1 ≡ false = ap (λ (l : List ℕ). goes_on (second ++ l)) braced ∙ alone second ((set_is.inside ++ (125 ∷ [])) ++ r2) b2 in
-    let set_begins : Stops Blank (set_text ++ r2) = subst (Stops Blank) (sym braced) refl in
-    reg_at-from text r0 name r1 set r2 body last
-    (ap (word_at (codes "reg")) text_is ∙ word_read first (name ++ r1) some b1)
-    (ap (name_at whole) (behind_front-append Blank first (name ++ r1) b1 (name_no_blank name r1 name_is.letter)) ∙ name_read whole name r1 name_is brace_stops stands_alone)
-    (ap (set_at whole) (behind_front-append Blank second (set_text ++ r2) b2 set_begins) ∙ set_read whole set_text set r2 set_is)
-    (ap (quoted_at whole) (behind_front-append Blank third quote b3 refl) ∙ quoted_read whole body last unquoted)
-    (end_read last b4)
+-- the text in quotes
+body_read : (name : List ℕ) (tracks : Tracks) (body : List ℕ) → AreUnquoted body → body_step name tracks (quoted body) ≡ Ok (AtEnd (record { name = name; tracks = tracks; body = body }))
+unfolding body_step
+body_read name tracks body all = let q = quoted_is body all in
+    taken (is_quoted (quoted body)) _ _ q.test ∙ ap (λ (l : List ℕ). Ok (AtEnd (record { name = name; tracks = tracks; body = l }))) q.inside
+  where
+    taken : {A : Type 0} (a : Bool) (x y : A) → a ≡ true → cond a x y ≡ x
+    taken a x y h = rw h refl
 
-pub reg_read : (text : List ℕ) (head : RegHead) → SpellsReg text head → reg_at text ≡ Ok head
-reg_read text head s =
-    let same : RegHead = record { name = head.name; sets = s.set ∷ []; body = head.body } in
-    let sets : same ≡ head = ap (λ (l : List (List ℤ)). record { name = head.name; sets = l; body = head.body }) (sym s.sets_are) in
-    read_so text s.first head.name s.second s.set_text s.third head.body s.last s.set s.text_is s.some s.blanks.0 s.blanks.1 s.blanks.2 s.blanks.3 s.name s.set_is s.body
-    ∙ ap (λ (h : RegHead). Ok h) sets
+set_opens : (name : List ℕ) (sets : List (List ℤ)) (parts : List (List ℕ)) → goes (BehindSet name sets) (codes "{" ∷ parts) ≡ goes (AtNumber name sets []) parts
+unfolding step
+set_opens name sets parts = refl
+
+first_set_opens : (name : List ℕ) (parts : List (List ℕ)) → goes (BehindName name) (codes "{" ∷ parts) ≡ goes (AtNumber name [] []) parts
+unfolding step
+first_set_opens name parts = refl
+
+set_closes : (name : List ℕ) (sets : List (List ℤ)) (body : List ℕ) → step (BehindSet name sets) (quoted body) ≡ body_step name (Sets sets) (quoted body)
+unfolding step
+set_closes name sets body = refl
+
+-- the parts of a set and others
+regrouped : (first others parts inside : List (List ℕ)) → first ≡ codes "{" ∷ (inside ++ codes "}" ∷ []) → (first ++ others) ++ parts ≡ codes "{" ∷ (inside ++ codes "}" ∷ (others ++ parts))
+regrouped first others parts inside first_is =
+    ap (λ (l : List (List ℕ)). (l ++ others) ++ parts) first_is
+    ∙ append_assoc (codes "{" ∷ (inside ++ codes "}" ∷ [])) others parts
+    ∙ ap (λ (l : List (List ℕ)). codes "{" ∷ l) (append_assoc inside (codes "}" ∷ []) (others ++ parts))
+
+sets_read : (more : List (List ℤ)) (name : List ℕ) (sets : List (List ℤ)) (parts : List (List ℕ)) (body : List ℕ) → SpellSets parts more → AreUnquoted body →
+    goes (BehindSet name sets) (parts ++ quoted body ∷ []) ≡ Ok (record { name = name; tracks = Sets (sets ++ more); body = body })
+sets_read [] name sets parts body spelled all =
+    ap (λ (l : List (List ℕ)). goes (BehindSet name sets) (l ++ quoted body ∷ [])) spelled
+    ∙ goes_step (BehindSet name sets) _ (quoted body) [] (set_closes name sets body ∙ body_read name (Sets sets) body all)
+    ∙ ap (λ (l : List (List ℤ)). Ok (record { name = name; tracks = Sets l; body = body })) (sym (append-nil sets))
+sets_read (set ∷ more) name sets parts body spelled all =
+    let s = spelled.3 in
+    ap (λ (l : List (List ℕ)). goes (BehindSet name sets) (l ++ quoted body ∷ [])) spelled.2
+    ∙ ap (goes (BehindSet name sets)) (regrouped spelled.0 spelled.1 (quoted body ∷ []) s.inside s.parts_are)
+    ∙ set_opens name sets (s.inside ++ codes "}" ∷ (spelled.1 ++ quoted body ∷ []))
+    ∙ mentions_read s.mentions name sets [] set s.inside (spelled.1 ++ quoted body ∷ []) s.spelled (set_gathered s.mentions set s.members)
+    ∙ sets_read more name (sets ++ set ∷ []) spelled.1 body spelled.4 all
+    ∙ ap (λ (l : List (List ℤ)). Ok (record { name = name; tracks = Sets l; body = body })) (append_assoc sets (set ∷ []) more)
+
+system_more : (name : List ℕ) (names : List (List ℕ)) (part : List ℕ) → is_system part ≡ true → step (BehindSystem name names) part ≡ Ok (BehindSystem name (names ++ part ∷ []))
+unfolding step
+system_more name names part h = taken (is_system part) _ _ h
+  where
+    taken : {A : Type 0} (a : Bool) (x y : A) → a ≡ true → cond a x y ≡ x
+    taken a x y h = rw h refl
+
+first_system : (name part : List ℕ) → is_system part ≡ true → step (BehindName name) part ≡ Ok (BehindSystem name (part ∷ []))
+unfolding step
+first_system name part h = other (bytes_eq part (codes "{")) (is_system part) _ _ _ (system-brace part h) h
+  where
+    other : {A : Type 0} (a b : Bool) (x y z : A) → a ≡ false → b ≡ true → cond a x (cond b y z) ≡ y
+    other a b x y z h g = rw (h, g) refl
+
+systems_close : (name : List ℕ) (names : List (List ℕ)) (body : List ℕ) → step (BehindSystem name names) (quoted body) ≡ body_step name (Systems names) (quoted body)
+unfolding step
+systems_close name names body = passed (is_system (quoted body)) _ _ (quoted-system (body ++ 34 ∷ []))
+  where
+    passed : {A : Type 0} (a : Bool) (x y : A) → a ≡ false → cond a x y ≡ y
+    passed a x y h = rw h refl
+
+systems_read : (more : List (List ℕ)) (name : List ℕ) (names : List (List ℕ)) (body : List ℕ) → AllByRecursion (λ n. is_system n ≡ true) more → AreUnquoted body →
+    goes (BehindSystem name names) (more ++ quoted body ∷ []) ≡ Ok (record { name = name; tracks = Systems (names ++ more); body = body })
+systems_read [] name names body systems all =
+    goes_step (BehindSystem name names) _ (quoted body) [] (systems_close name names body ∙ body_read name (Systems names) body all)
+    ∙ ap (λ (l : List (List ℕ)). Ok (record { name = name; tracks = Systems l; body = body })) (sym (append-nil names))
+systems_read (part ∷ more) name names body systems all =
+    goes_step (BehindSystem name names) _ part (more ++ quoted body ∷ []) (system_more name names part systems.0)
+    ∙ systems_read more name (names ++ part ∷ []) body systems.1 all
+    ∙ ap (λ (l : List (List ℕ)). Ok (record { name = name; tracks = Systems l; body = body })) (append_assoc names (part ∷ []) more)
+
+tracks_read : (name : List ℕ) (tracks : Tracks) (parts : List (List ℕ)) (body : List ℕ) → SpellTracks parts tracks → AreUnquoted body →
+    goes (BehindName name) (parts ++ quoted body ∷ []) ≡ Ok (record { name = name; tracks = tracks; body = body })
+tracks_read name (Sets []) parts body spelled all = absurd (spelled.0 refl)
+tracks_read name (Sets (set ∷ sets)) parts body spelled all =
+    let sets_are = spelled.1 in
+    let s = sets_are.3 in
+    ap (λ (l : List (List ℕ)). goes (BehindName name) (l ++ quoted body ∷ [])) sets_are.2
+    ∙ ap (goes (BehindName name)) (regrouped sets_are.0 sets_are.1 (quoted body ∷ []) s.inside s.parts_are)
+    ∙ first_set_opens name (s.inside ++ codes "}" ∷ (sets_are.1 ++ quoted body ∷ []))
+    ∙ mentions_read s.mentions name [] [] set s.inside (sets_are.1 ++ quoted body ∷ []) s.spelled (set_gathered s.mentions set s.members)
+    ∙ sets_read sets name (set ∷ []) sets_are.1 body sets_are.4 all
+tracks_read name (Systems []) parts body spelled all = absurd (spelled.0 refl)
+tracks_read name (Systems (first ∷ more)) parts body spelled all =
+    ap (λ (l : List (List ℕ)). goes (BehindName name) (l ++ quoted body ∷ [])) spelled.1
+    ∙ goes_step (BehindName name) _ first (more ++ quoted body ∷ []) (first_system name first spelled.2.0)
+    ∙ systems_read more name (first ∷ []) body spelled.2.1 all
+
+word_read : (parts : List (List ℕ)) → goes AtWord (codes "reg" ∷ parts) ≡ goes AtName parts
+unfolding step
+word_read parts = refl
+
+name_read : (name : List ℕ) → is_name name ≡ true → step AtName name ≡ Ok (BehindName name)
+unfolding step
+name_read name h = taken (is_name name) _ _ h
+  where
+    taken : {A : Type 0} (a : Bool) (x y : A) → a ≡ true → cond a x y ≡ x
+    taken a x y h = rw h refl
+
+-- the parts of a head lead to it
+pub reg_goes : (parts : List (List ℕ)) (head : RegHead) → SpellsReg parts head → goes AtWord parts ≡ Ok head
+reg_goes parts head s =
+    ap (goes AtWord) s.parts_are
+    ∙ word_read (head.name ∷ (s.tracks ++ quoted head.body ∷ []))
+    ∙ goes_step AtName _ head.name (s.tracks ++ quoted head.body ∷ []) (name_read head.name s.name)
+    ∙ tracks_read head.name head.tracks s.tracks head.body s.spelled s.body

@@ -1,48 +1,23 @@
--- The grammar of a `reg` with one set: which texts spell which parts.
-use Rattle.std.specs.Prelude.{◌≡◌, ◌≢◌, ℕ, ◌≤◌, Bool, true, if◌then◌else◌, List, [], ◌∷◌, ◌++◌, length, ℤ, codes, ◌↔◌, Ok}
+-- The grammar of a `reg`: which parts, one behind another, spell which head.
+use Rattle.std.specs.Prelude.{◌≡◌, ◌≢◌, ℕ, true, List, [], ◌∷◌, ◌++◌, ℤ, codes, ◌↔◌, Ok}
 use Rattle.std.specs.List.{AllByRecursion, AllPairs}
-use Rattle.text_grammar.specs.Bytes.{is_blank, is_digit, is_name_byte}
 use Rattle.digit_tuple.specs.Sets.{IsAscending}
-use Rattle.command_head.specs.Numbers.{value_of, signed, is_short}
+use Rattle.command_head.specs.Numbers.{is_number, number_of, is_short}
 use Rattle.command_head.specs.Members.{has}
-use Rattle.command_head.specs.Parts.{begins_with_letter}
-use Rattle.command_head.specs.Heads.{RegHead, reg_at}
+use Rattle.command_head.specs.Parts.{parts_of, texts_of, is_name, is_system}
+use Rattle.command_head.specs.Heads.{Tracks, Sets, Systems, RegHead, reg_at}
 
--- blanks, or nothing
-abbrev pub AreBlanks : List ℕ → Type 0
-AreBlanks bytes = AllByRecursion (λ b. is_blank b ≡ true) bytes
-
--- a letter, and then letters, digits and `_`, at most 64 bytes in all
-pub record IsName (name : List ℕ) : Type 0 where
-  pub letter : begins_with_letter name ≡ true
-  pub bytes : AllByRecursion (λ b. is_name_byte b ≡ true) name
-  pub short : length name ≤ 64
-
--- digits, with an optional `-` directly before them, spell a number of 32 bits, signed
-pub record SpellsNumber (text : List ℕ) (n : ℤ) : Type 0 where
-  pub negative : Bool
-  pub digits : List ℕ
-  pub text_is : text ≡ (if negative then 45 ∷ digits else digits)
-  pub some : digits ≢ []
-  pub all : AllByRecursion (λ b. is_digit b ≡ true) digits
-  pub value : signed negative (value_of digits) ≡ n
+-- a part spells a number of 32 bits, signed
+pub record SpellsNumber (part : List ℕ) (n : ℤ) : Type 0 where
+  pub number : is_number part ≡ true
+  pub value : number_of part ≡ n
   pub short : is_short n ≡ true
 
--- a number, with blanks before and behind it
-pub record SpellsMention (text : List ℕ) (n : ℤ) : Type 0 where
-  pub before : List ℕ
-  pub number : List ℕ
-  pub behind : List ℕ
-  pub text_is : text ≡ before ++ (number ++ behind)
-  pub blanks_before : AreBlanks before
-  pub blanks_behind : AreBlanks behind
-  pub number_is : SpellsNumber number n
-
 -- one or more numbers, divided by commas
-abbrev pub SpellsMentions : List ℕ → List ℤ → Type 0
-SpellsMentions text [] = ⊥
-SpellsMentions text (n ∷ []) = SpellsMention text n
-SpellsMentions text (n ∷ m ∷ ns) = (first : List ℕ) × (others : List ℕ) × (text ≡ first ++ (44 ∷ others)) × SpellsMention first n × SpellsMentions others (m ∷ ns)
+abbrev pub SpellsMentions : List (List ℕ) → List ℤ → Type 0
+SpellsMentions parts [] = ⊥
+SpellsMentions parts (n ∷ []) = (number : List ℕ) × (parts ≡ number ∷ []) × SpellsNumber number n
+SpellsMentions parts (n ∷ m ∷ ns) = (number : List ℕ) × (others : List (List ℕ)) × (parts ≡ number ∷ codes "," ∷ others) × SpellsNumber number n × SpellsMentions others (m ∷ ns)
 
 -- The set of some numbers: each is mentioned once, and the members are just these, in ascending order.
 pub record IsSetOf (mentions set : List ℤ) : Type 0 where
@@ -51,33 +26,43 @@ pub record IsSetOf (mentions set : List ℤ) : Type 0 where
   pub once : AllPairs (λ m n. m ≢ n) mentions
 
 -- a set in braces: its members in any order, each once
-pub record SpellsSet (text : List ℕ) (set : List ℤ) : Type 0 where
-  pub inside : List ℕ
+pub record SpellsSet (parts : List (List ℕ)) (set : List ℤ) : Type 0 where
+  pub inside : List (List ℕ)
   pub mentions : List ℤ
-  pub text_is : text ≡ 123 ∷ (inside ++ (125 ∷ []))
+  pub parts_are : parts ≡ codes "{" ∷ (inside ++ codes "}" ∷ [])
   pub spelled : SpellsMentions inside mentions
   pub members : IsSetOf mentions set
+
+-- sets, one behind another
+abbrev pub SpellSets : List (List ℕ) → List (List ℤ) → Type 0
+SpellSets parts [] = parts ≡ []
+SpellSets parts (set ∷ sets) = (first : List (List ℕ)) × (others : List (List ℕ)) × (parts ≡ first ++ others) × SpellsSet first set × SpellSets others sets
+
+-- one or more sets, or one or more systems
+abbrev pub SpellTracks : List (List ℕ) → Tracks → Type 0
+SpellTracks parts (Sets sets) = (sets ≢ []) × SpellSets parts sets
+SpellTracks parts (Systems names) = (names ≢ []) × (parts ≡ names) × AllByRecursion (λ name. is_system name ≡ true) names
 
 -- any bytes but a quote
 abbrev pub AreUnquoted : List ℕ → Type 0
 AreUnquoted bytes = AllByRecursion (λ b. b ≢ 34) bytes
 
--- The word `reg`, the name, a set, and a text in quotes. A blank stands before the name; other blanks are optional.
-pub record SpellsReg (text : List ℕ) (head : RegHead) : Type 0 where
-  pub first : List ℕ
-  pub second : List ℕ
-  pub set_text : List ℕ
-  pub third : List ℕ
-  pub last : List ℕ
-  pub text_is : text ≡ codes "reg" ++ (first ++ (head.name ++ (second ++ (set_text ++ (third ++ (34 ∷ (head.body ++ (34 ∷ last))))))))
-  pub some : first ≢ []
-  pub blanks : AreBlanks first × AreBlanks second × AreBlanks third × AreBlanks last
-  pub name : IsName head.name
-  pub set : List ℤ
-  pub set_is : SpellsSet set_text set
-  pub sets_are : head.sets ≡ set ∷ []
+-- a text in quotes
+abbrev pub quoted : List ℕ → List ℕ
+quoted body = 34 ∷ (body ++ 34 ∷ [])
+
+-- the word `reg`, the name, the sets or systems of the tracks, and a text in quotes
+pub record SpellsReg (parts : List (List ℕ)) (head : RegHead) : Type 0 where
+  pub tracks : List (List ℕ)
+  pub parts_are : parts ≡ codes "reg" ∷ head.name ∷ (tracks ++ quoted head.body ∷ [])
+  pub name : is_name head.name ≡ true
+  pub spelled : SpellTracks tracks head.tracks
   pub body : AreUnquoted head.body
 
--- what is read is what is spelled
+-- what is read of a text is what its parts spell
 abbrev pub ReadsGrammar : Type 0
-ReadsGrammar = (text : List ℕ) (head : RegHead) → (reg_at text ≡ Ok head) ↔ SpellsReg text head
+ReadsGrammar = (text : List ℕ) (head : RegHead) → (reg_at text ≡ Ok head) ↔ SpellsReg (texts_of (parts_of text)) head
+
+-- The parts that spell a head are those of a text. So a law of parts is a law of texts.
+abbrev pub PartsOfTexts : Type 0
+PartsOfTexts = (parts : List (List ℕ)) (head : RegHead) → SpellsReg parts head → (text : List ℕ) × (texts_of (parts_of text) ≡ parts)

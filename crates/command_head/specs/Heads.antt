@@ -1,28 +1,90 @@
--- The heads of commands. This is what reading a `reg` with one set gives.
-use Rattle.std.specs.Prelude.{ℕ, ◌==◌, if◌then◌else◌, List, [], ◌∷◌, length, ℤ, Result, Ok, codes}
+-- The heads of commands. This is what reading a `reg` gives, part by part.
+use Rattle.std.specs.Prelude.{ℕ, if◌then◌else◌, List, [], ◌∷◌, ◌++◌, length, ℤ, Result, Ok, Err, codes}
 use Rattle.std.specs.Str.{bytes_eq}
-use Rattle.text_grammar.specs.declared.class.Class.TheVariants.{Word}
-use Rattle.text_grammar.specs.Fronts.{behind_front}
 use Rattle.command_head.specs.declared.fault.HeadFault.{HeadFault}
-use Rattle.command_head.specs.Readings.{◌>>=◌, breaks}
-use Rattle.command_head.specs.Members.{behind_blanks, set_at}
-use Rattle.command_head.specs.Parts.{first_word_of, name_at, quoted_at}
+use Rattle.command_head.specs.Readings.{Refusal, Form, placed, ◌>>=◌}
+use Rattle.command_head.specs.Members.{with_member}
+use Rattle.command_head.specs.Parts.{Part, parts_of, is_name, is_system, is_quoted, unquoted}
 
--- the parts of a `reg`: the name, the set of each track, and the text in quotes
+-- what the tracks of a `reg` are over: a set each, or a system each
+pub data Tracks : Type 0 where
+  Sets : List (List ℤ) → Tracks
+  Systems : List (List ℕ) → Tracks
+
+-- the parts of a `reg`: the name, the tracks, and the text in quotes
 pub record RegHead : Type 0 where
   pub name : List ℕ
-  pub sets : List (List ℤ)
+  pub tracks : Tracks
   pub body : List ℕ
 
--- behind the first word, which is this one
-unfoldable pub word_at : List ℕ → List ℕ → Result (List ℕ) HeadFault
-word_at word text = if bytes_eq (first_word_of text) word then Ok (behind_front Word text) else breaks (length text) text
+-- What was read of a `reg`, by the place in it.
+pub data Stage : Type 0 where
+  -- before the first word
+  AtWord : Stage
+  -- before the name
+  AtName : Stage
+  -- behind the name
+  BehindName : List ℕ → Stage
+  -- in a set, before a number: the name, the sets before, and the members so far
+  AtNumber : List ℕ → List (List ℤ) → List ℤ → Stage
+  -- in a set, behind a number
+  BehindNumber : List ℕ → List (List ℤ) → List ℤ → Stage
+  -- behind a set
+  BehindSet : List ℕ → List (List ℤ) → Stage
+  -- behind a system
+  BehindSystem : List ℕ → List (List ℕ) → Stage
+  -- behind the text in quotes
+  AtEnd : RegHead → Stage
 
--- the parts of a `reg`, one behind another, with blanks between them; or the first fault and its byte
+-- how many members were read of the set that is open
+abbrev pub open_count : Stage → ℕ
+open_count (AtNumber name sets members) = length members
+open_count (BehindNumber name sets members) = length members
+open_count AtWord = 0
+open_count AtName = 0
+open_count (BehindName name) = 0
+open_count (BehindSet name sets) = 0
+open_count (BehindSystem name names) = 0
+open_count (AtEnd head) = 0
+
+-- a text in quotes, which ends the head
+unfoldable pub body_step : List ℕ → Tracks → List ℕ → Result Stage Refusal
+body_step name tracks part = if is_quoted part then Ok (AtEnd (record { name = name; tracks = tracks; body = unquoted part })) else Err Form
+
+-- the stage behind a part
+unfoldable pub step : Stage → List ℕ → Result Stage Refusal
+step AtWord part = if bytes_eq part (codes "reg") then Ok AtName else Err Form
+step AtName part = if is_name part then Ok (BehindName part) else Err Form
+step (BehindName name) part =
+    if bytes_eq part (codes "{") then Ok (AtNumber name [] []) else if is_system part then Ok (BehindSystem name (part ∷ [])) else Err Form
+step (AtNumber name sets members) part = do
+  more ← with_member members part
+  Ok (BehindNumber name sets more)
+step (BehindNumber name sets members) part =
+    if bytes_eq part (codes ",") then Ok (AtNumber name sets members)
+    else if bytes_eq part (codes "}") then Ok (BehindSet name (sets ++ members ∷ [])) else Err Form
+step (BehindSet name sets) part = if bytes_eq part (codes "{") then Ok (AtNumber name sets []) else body_step name (Sets sets) part
+step (BehindSystem name names) part = if is_system part then Ok (BehindSystem name (names ++ part ∷ [])) else body_step name (Systems names) part
+step (AtEnd head) part = Err Form
+
+-- the head, where the text may end
+abbrev pub ended : Stage → Result RegHead Refusal
+ended (AtEnd head) = Ok head
+ended AtWord = Err Form
+ended AtName = Err Form
+ended (BehindName name) = Err Form
+ended (AtNumber name sets members) = Err Form
+ended (BehindNumber name sets members) = Err Form
+ended (BehindSet name sets) = Err Form
+ended (BehindSystem name names) = Err Form
+
+-- the head of the further parts of a text that has `whole` bytes; or the first fault and its byte
+unfoldable pub run : ℕ → Stage → List Part → Result RegHead HeadFault
+run whole stage [] = placed whole (ended stage)
+run whole stage (part ∷ parts) = do
+  next ← placed part.at (step stage part.bytes)
+  run whole next parts
+
+-- the head of a text
 unfoldable pub reg_at : List ℕ → Result RegHead HeadFault
-reg_at text = do
-  rest ← word_at (codes "reg") text
-  name ← name_at (length text) (behind_blanks rest)
-  set ← set_at (length text) (behind_blanks name.1)
-  body ← quoted_at (length text) (behind_blanks set.1)
-  if length (behind_blanks body.1) == 0 then Ok (record { name = name.0; sets = set.0 ∷ []; body = body.0 }) else breaks (length text) (behind_blanks body.1)
+reg_at text = run (length text) AtWord (parts_of text)

@@ -5,3 +5,5 @@ pub mod Parts
 pub mod Heads
 pub mod HeadViews
 pub mod Grammar
+pub mod Formed
+pub mod Breaks

@@ -1,9 +1,12 @@
 -- Whole numbers: digits, with an optional `-` directly before them.
-use Rattle.std.specs.Prelude.{ℕ, ◌+◌, ◌*◌, ◌-◌, ◌==◌, nat_lt, Bool, false, if◌then◌else◌, List, [], ◌∷◌, length, drop, ℤ, pos, negsuc, neg_ℤ, Ok, Err}
+use Rattle.std.specs.Prelude.{ℕ, ◌+◌, ◌*◌, ◌-◌, ◌==◌, nat_lt, Bool, false, not, ◌&&◌, if◌then◌else◌, List, [], ◌∷◌, length, drop, ℤ, pos, negsuc, neg_ℤ}
+use Rattle.text_grammar.specs.declared.class.Class.{Class}
 use Rattle.text_grammar.specs.declared.class.Class.TheVariants.{Digit}
-use Rattle.text_grammar.specs.Fronts.{front_len, front_of, behind_front}
-use Rattle.command_head.specs.declared.fault.HeadFault.TheVariants.{Number}
-use Rattle.command_head.specs.Readings.{Reading, breaks}
+use Rattle.text_grammar.specs.Fronts.{front_len}
+
+-- whether all bytes are of a class
+abbrev pub all_in : Class → List ℕ → Bool
+all_in class bytes = front_len class bytes == length bytes
 
 -- the number that digits spell, behind those that spell the number so far
 abbrev pub value_behind : ℕ → List ℕ → ℕ
@@ -32,13 +35,10 @@ begins_with byte (b ∷ bs) = b == byte
 abbrev pub unsigned : List ℕ → List ℕ
 unsigned bytes = if begins_with 45 bytes then drop 1 bytes else bytes
 
--- the number that the digits at the front spell, with the sign before them
-abbrev pub number_of : List ℕ → ℤ
-number_of bytes = signed (begins_with 45 bytes) (value_of (front_of Digit (unsigned bytes)))
+-- whether these bytes are a number
+abbrev pub is_number : List ℕ → Bool
+is_number bytes = not (length (unsigned bytes) == 0) && all_in Digit (unsigned bytes)
 
--- the number at the front
-unfoldable pub number_at : ℕ → List ℕ → Reading ℤ
-number_at whole bytes =
-    if front_len Digit (unsigned bytes) == 0 then breaks whole bytes
-    else if is_short (number_of bytes) then Ok (number_of bytes, behind_front Digit (unsigned bytes))
-    else Err (Number (whole - length bytes))
+-- the number that they spell
+abbrev pub number_of : List ℕ → ℤ
+number_of bytes = signed (begins_with 45 bytes) (value_of (unsigned bytes))

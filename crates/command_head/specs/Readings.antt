@@ -1,20 +1,26 @@
--- What reading a part gives: a value and the bytes behind it, or the first fault and the byte where it is.
-use Rattle.std.specs.Prelude.{◌≡◌, ℕ, ◌-◌, List, length, Result, Ok, Err, ⊤}
+-- What reading gives: a value, or the first fault and the byte where it is.
+use Rattle.std.specs.Prelude.{◌≡◌, ℕ, Result, Ok, Err, ⊤}
 use Rattle.command_head.specs.declared.fault.HeadFault.{HeadFault}
 use Rattle.command_head.specs.declared.fault.HeadFault.TheVariants.{Syntax, Number, Memory}
 
--- a value and what stands behind it, or a fault
-abbrev pub Reading : Type 0 → Type 0
-Reading X = Result (X × List ℕ) HeadFault
+-- Why a part is refused: no form goes on with it, or it is a number that does not fit 32 bits, signed.
+pub data Refusal : Type 0 where
+  Form : Refusal
+  Range : Refusal
+
+-- a part that is refused, told by the byte where it begins
+abbrev pub fault_at : ℕ → Refusal → HeadFault
+fault_at at Form = Syntax at
+fault_at at Range = Number at
+
+abbrev pub placed : {A : Type 0} → ℕ → Result A Refusal → Result A HeadFault
+placed at (Ok x) = Ok x
+placed at (Err refusal) = Err (fault_at at refusal)
 
 infixl 10 ◌>>=◌
-abbrev pub ◌>>=◌ : {A B : Type 0} → Result A HeadFault → (A → Result B HeadFault) → Result B HeadFault
+abbrev pub ◌>>=◌ : {A B E : Type 0} → Result A E → (A → Result B E) → Result B E
 (Ok x) >>= f = f x
 (Err e) >>= f = Err e
-
--- no form goes on with the part at the front of the rest of a text that is so long
-abbrev pub breaks : {A : Type 0} → ℕ → List ℕ → Result A HeadFault
-breaks whole rest = Err (Syntax (whole - length rest))
 
 -- The fault that a function answered is the one that is read, its byte as well. Memory may run out at any time.
 abbrev pub Fails : {Y : Type 0} → HeadFault → Result Y HeadFault → Type 0

@@ -1,6 +1,6 @@
 ghost use Rattle.std.specs.Prelude.{◌≡◌, ◌-◌, length};
-ghost use Rattle.command_head.specs.Numbers.{begins_with as begins_with_byte};
-ghost use Rattle.command_head.specs.Members.{behind_blanks as rest_behind_blanks};
+ghost use Rattle.command_head.specs.Numbers.{begins_with as begins_with_byte, all_in as all_in_class};
+ghost use Rattle.command_head.specs.Parts.{behind_blanks as rest_behind_blanks};
 
 use text_grammar::{Class, front_len};
 
@@ -19,6 +19,13 @@ pub(crate) fn begins_with(byte: u8, bytes: &[u8]) -> bool
         [first, ..] => *first == byte,
         [] => false,
     }
+}
+
+/// Whether all bytes are of the class.
+pub(crate) fn all_in(class: Class, bytes: &[u8]) -> bool
+    ensures { result ≡ all_in_class class bytes.now }
+{
+    front_len(class, bytes) == bytes.len()
 }
 
 /// The bytes behind the blanks at the front.

@@ -1,5 +1,5 @@
-//! The heads of commands: the first word, and the parts of a `reg NAME {a,b,..} "R"`, read exactly, with the
-//! first fault and the byte where it is.
+//! The heads of commands: the first word, and the parts of a `reg` over sets, `reg NAME {a,b,..} .. "R"`, or over
+//! systems, `reg NAME SYSTEM .. "R"`. A head is read part by part, with the first fault and the byte where it is.
 #![tactic(auto)]
 
 // the faults of a head
@@ -8,17 +8,20 @@ mod fault;
 mod bytes;
 // whole numbers
 mod numbers;
-// the members of a set
-mod members;
-// names and quoted texts
+// how long the parts of a text are, and of which kind they are
 mod parts;
+// what a head has
+mod head;
+// reading a head part by part
+mod stage;
 // the heads of commands
 mod heading;
 // laws of the grammar
 pub mod laws;
 
 pub use fault::HeadFault;
-pub use heading::{RegParts, first_word, reg_parts};
+pub use head::{Alphabets, RegParts};
+pub use heading::{first_word, reg_parts};
 
 #[cfg(test)]
 mod tests;

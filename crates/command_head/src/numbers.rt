@@ -1,10 +1,8 @@
-ghost use Rattle.std.specs.Prelude.{◌≡◌, ◌<◌, ◌≤◌, MatchOption, ℤ, pos, true, false};
-ghost use Rattle.command_head.specs.Readings.{Reads};
-ghost use Rattle.command_head.specs.Numbers.{value_of, signed as signed_number, is_short, unsigned as behind_sign, number_at};
+ghost use Rattle.std.specs.Prelude.{◌≡◌, ◌<◌, ◌≤◌, MatchOption, true, false};
+ghost use Rattle.command_head.specs.Numbers.{value_of, signed as signed_number, is_short, unsigned as behind_sign, is_number as is_number_part, number_of as number_of_part};
 
-use crate::bytes::{begins_with, place};
-use crate::fault::HeadFault;
-use text_grammar::{Class, front_len};
+use crate::bytes::{all_in, begins_with};
+use text_grammar::Class;
 
 /// The greatest distance of a number of 32 bits from 0.
 const FARTHEST: u64 = 2147483648;
@@ -45,22 +43,21 @@ pub(crate) fn unsigned(bytes: &[u8]) -> &[u8]
     }
 }
 
-/// The number at the front of the rest of a text of `whole` bytes, and what stands behind it.
-#[tactic(auto, unfolding(crate::specs::Numbers::number_at))]
-pub(crate) fn read_number(whole: usize, bytes: &[u8]) -> Result<(i32, &[u8]), HeadFault>
-    ensures { Reads (λ x. (x.0, x.1.now)) result (number_at whole bytes.now) }
+/// Whether a part is a number.
+pub(crate) fn is_number(part: &[u8]) -> bool
+    ensures { result ≡ is_number_part part.now }
 {
-    let digits = unsigned(bytes);
-    let len = front_len(Class::Digit, digits);
-    if len == 0 {
-        return Err(HeadFault::Syntax(place(whole, bytes)));
-    }
-    let number = match magnitude(&digits[..len]) {
-        Some(magnitude) => signed(begins_with(b'-', bytes), magnitude),
+    let digits = unsigned(part);
+    !digits.is_empty() && all_in(Class::Digit, digits)
+}
+
+/// The number that a part spells, if it fits 32 bits, signed.
+pub(crate) fn number_of(part: &[u8]) -> Option<i32>
+    ensures { MatchOption result (is_short (number_of_part part.now) ≡ false)
+        (λ n. (n ≡ number_of_part part.now) × (is_short n ≡ true)) }
+{
+    match magnitude(unsigned(part)) {
+        Some(magnitude) => signed(begins_with(b'-', part), magnitude),
         None => None,
-    };
-    match number {
-        Some(number) => Ok((number, &digits[len..])),
-        None => Err(HeadFault::Number(place(whole, bytes))),
     }
 }

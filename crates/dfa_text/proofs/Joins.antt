@@ -1,9 +1,10 @@
 -- Texts joined by a separator.
-use Rattle.std.proofs.Common.{◌≡◌, ℕ, ◌+◌, ◌<◌, ◌≤◌, List, [], ◌∷◌, ◌++◌, length, take, drop, get_or, cond, eqb, sym, ap, ◌∙◌, append_assoc, arith}
+use Rattle.std.proofs.Common.{◌≡◌, ℕ, ◌+◌, ◌<◌, ◌≤◌, List, [], ◌∷◌, ◌++◌, length, take, drop, get_or, cond, eqb, sym, ap, ◌∙◌, append_assoc, arith, codes}
 use Rattle.std.specs.List.{flat_map, join_by}
 use Rattle.std.proofs.lemmas.Bool.{ne_eqb}
 use Rattle.std.proofs.lemmas.List.{append-nil, take_more, take_all, flat_map_more}
 use Rattle.std.proofs.lemmas.List.Concat.{flat_map-append}
+use Rattle.dfa_text.specs.Parts.{text_of_lines}
 
 -- one piece more
 pub join_push : {X A : Type 0} (f : X → List A) (sep : List A) (xs : List X) (x : X) → join_by f sep (xs ++ x ∷ []) ≡ join_by f sep xs ++ (cond (eqb (length xs) 0) [] sep ++ f x)
@@ -23,3 +24,7 @@ pub joined_all : {X A : Type 0} (f : X → List A) (sep old start out : List A) 
 joined_all f sep old start out [] others i d some rest first done h = absurd (omega arith)
 joined_all f sep old start out (x ∷ xs) others i d some rest first done h =
     h ∙ ap (λ ys. start ++ flat_map (λ y. sep ++ f y) ys) (take_all i others done ∙ rest) ∙ ap (λ t. t ++ flat_map (λ y. sep ++ f y) xs) first ∙ append_assoc old (f x) (flat_map (λ y. sep ++ f y) xs)
+
+-- the lines of two lists, one behind the other
+pub text_of_lines-append : (xs ys : List (List ℕ)) → text_of_lines (xs ++ ys) ≡ text_of_lines xs ++ text_of_lines ys
+text_of_lines-append xs ys = flat_map-append (λ line. line ++ codes "\n") xs ys

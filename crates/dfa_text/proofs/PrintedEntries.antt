@@ -13,10 +13,14 @@ use Rattle.text_grammar.specs.Bytes.{is_blank, is_line_end}
 use Rattle.dfa_text.specs.Numbers.{integer_of}
 use Rattle.dfa_text.specs.Lines.{parts_of, is_passed, arrow_at}
 use Rattle.dfa_text.specs.Entries.{State, Line, is_star, member_among, digit_of, digits_of, state_number, targets_of, state_of, line_of, entry_by, entry_of}
-use Rattle.dfa_text.specs.Listing.{target_text, state_text}
+use Rattle.dfa_text.specs.Parts.{state_text}
 use Rattle.dfa_text.proofs.PrintedNumbers.{number_below-decimal, integer_of-signed}
 use Rattle.dfa_text.proofs.PrintedParts.{Avoids, Avoids-append, Spares, spares_byte, avoids_decimal, avoids_signed, IsPart, part_decimal, part_signed, parts_of-append, parts_of-one, parts_of-joined, not_passed_part, no_arrow, arrow_behind}
 use Rattle.dfa_text.proofs.PrintedHeaders.{each_of-map, all_map}
+
+-- a target, behind a blank
+abbrev pub target_text : ℕ → List ℕ
+target_text target = codes " " ++ decimal target
 
 abbrev pub output_of : Bool → ℤ
 output_of accepting = if accepting then pos 1 else pos 0

@@ -9,7 +9,7 @@ use mir.Syntax.{w32}
 use Rattle.digit_tuple.specs.Sets.{IsAscending}
 use Rattle.dfa_text.specs.Lines.{◌>>=◌, each_of, is_passed}
 use Rattle.dfa_text.specs.Headers.{in_order, only_integer, member_of, members_of, open_set_of, sets_between, header_of}
-use Rattle.dfa_text.specs.Listing.{set_text, header_text}
+use Rattle.dfa_text.specs.Parts.{set_text, header_text}
 use Rattle.dfa_text.proofs.PrintedNumbers.{integer_of-signed}
 use Rattle.dfa_text.proofs.PrintedParts.{Avoids, Avoids-append, Spares, spares_byte, avoids_signed, split-append, split-one, split_some, split_joined, part_signed, parts_of-one, not_passed}
 

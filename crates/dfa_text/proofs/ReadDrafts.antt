@@ -14,7 +14,7 @@ use Rattle.dfa_text.specs.Reading.{Draft, has_state, stray_line, add_entry, with
 use Rattle.dfa_text.specs.EntryViews.{entry_view}
 use Rattle.dfa_text.specs.DraftViews.{numbered_view, numbered_in, draft_view}
 use Rattle.dfa_text.proofs.PrintedParts.{split_some}
-use Rattle.dfa_text.proofs.PrintedStates.{add_lines-step}
+use Rattle.dfa_text.proofs.Drafts.{add_lines-step}
 
 pub stray_drop : (states : List ListedState) (lines : List (ℕ × LineRead)) (i : ℕ) (x : ℕ × LineRead) → i < length lines → x ≡ get_or lines i x → stray_line states (numbered_in (drop i lines)) ≡ cond (list_all (λ n. has_state n states) x.1.targets.items) (stray_line states (numbered_in (drop (i + 1) lines))) (Some x.0)
 stray_drop states lines i x h at = ap (λ ls. stray_line states (numbered_in ls)) (drop_more lines i x h ∙ ap (λ y. y ∷ drop (i + 1) lines) (sym at))

@@ -14,7 +14,7 @@ use Rattle.dfa_text.specs.Listed.{ListedState, ListedLine, Listed, TakesMember, 
 use Rattle.dfa_text.specs.Reading.{listed_of}
 use Rattle.dfa_text.specs.Meaning.{FileAccepts}
 use Rattle.dfa_text.specs.Stepping.{takes_member, takes_tuple, line_leads, reached_from, reached_along, accepts_at, some_accepts, first_numbers, accepts_by}
-use Rattle.dfa_text.proofs.ListedPaths.{contains_none, contains_only, contains_cases, contains_here, bool_cases}
+use Rattle.dfa_text.proofs.ListedParts.{contains_none, contains_only, contains_cases, contains_here, bool_cases}
 
 any_decides : {X : Type 0} (p : X → Bool) (x : X) → ((y : X) → Decides (p y) (y ≡ x)) → (xs : List X) → Decides (list_any p xs) (Contains xs x)
 any_decides {X} p x tells xs = (

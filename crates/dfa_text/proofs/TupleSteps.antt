@@ -1,11 +1,11 @@
 -- Tuples of members, in the order of their letters.
-use Rattle.std.proofs.Common.{◌≡◌, ℕ, zero, suc, ◌+◌, ◌*◌, ◌<◌, ◌≤◌, List, [], ◌∷◌, ◌++◌, map, length, get_or, take, ℤ, pos, refl, sym, ap, ◌∙◌, arith}
+use Rattle.std.proofs.Common.{◌≡◌, ℕ, zero, suc, ◌+◌, ◌*◌, ◌<◌, ◌≤◌, List, [], ◌∷◌, ◌++◌, map, length, get_or, take, ℤ, pos, refl, sym, ap, ◌∙◌, subst, arith}
 use Rattle.std.proofs.Math.Nat.{mul-le-mul_right}
 use Rattle.std.specs.List.{flat_map}
 use Rattle.std.proofs.lemmas.List.{get_or_append_left, get_or-append-add, get_or-map, length-map, length-append, get_or_read, take_more}
 use Rattle.digit_tuple.specs.Letters.{product, code_of, AreDigits}
 use Rattle.digit_tuple.specs.Sets.{sizes_of, members_at}
-use Rattle.dfa_text.specs.Listing.{tuples_of}
+use Rattle.dfa_text.specs.Parts.{tuples_of}
 
 -- the rows of a table, one for each member
 pub length-rows : (tuples : List (List ℤ)) (set : List ℤ) → length (flat_map (λ m. map (λ t. m ∷ t) tuples) set) ≡ length set * length tuples
@@ -55,7 +55,7 @@ tuple_at_code (set ∷ sets) (d ∷ ds) h =
     ∙ ap (λ t. get_or set d (pos 0) ∷ t) (tuple_at_code sets ds h.1)
 
 -- places, and the members at them
-length-places : (sets : List (List ℤ)) (places : List ℕ) → AreDigits (sizes_of sets) places → length places ≡ length sets
+pub length-places : (sets : List (List ℤ)) (places : List ℕ) → AreDigits (sizes_of sets) places → length places ≡ length sets
 length-places [] [] h = refl
 length-places [] (d ∷ ds) h = absurd h
 length-places (set ∷ sets) [] h = absurd h
@@ -95,3 +95,14 @@ module _ (sets : List (List ℤ)) (places : List ℕ) (k : ℕ) (set members : L
   -- the tuple with one member more
   pub tuple_more : (m : ℤ) → m ≡ get_or members (get_or places k 0) (pos 0) → take (k + 1) (members_at sets places) ≡ take k (members_at sets places) ++ m ∷ []
   tuple_more m e = take_more (members_at sets places) k (pos 0) (has_member sets places k fit lt).in_tuple ∙ ap (λ x. take k (members_at sets places) ++ x ∷ []) ((has_member sets places k fit lt).member ∙ ap (λ s. get_or s (get_or places k 0) (pos 0)) (sym is_set) ∙ sym e)
+
+-- the members at places, one more
+pub members_more : (sets : List (List ℤ)) (places : List ℕ) (k : ℕ) → AreDigits (sizes_of sets) places → k < length places → take (k + 1) (members_at sets places) ≡ take k (members_at sets places) ++ get_or (get_or sets k []) (get_or places k 0) (pos 0) ∷ []
+members_more sets places k fit lt =
+    let there = has_member sets places k fit (omega (arith, length-places sets places fit)) in
+    take_more (members_at sets places) k (pos 0) there.in_tuple ∙ ap (λ x. take k (members_at sets places) ++ x ∷ []) there.member
+
+-- the tuple of a letter has the members at the letter's digits
+pub tuple_of_code : (sets : List (List ℤ)) (sizes places : List ℕ) (letter : ℕ) → sizes ≡ sizes_of sets → AreDigits sizes places → code_of sizes places ≡ letter → get_or (tuples_of sets) letter [] ≡ members_at sets places
+tuple_of_code sets sizes places letter same fit code =
+    ap (λ l. get_or (tuples_of sets) l []) (sym code ∙ ap (λ s. code_of s places) same) ∙ tuple_at_code sets places (subst (λ (s : List ℕ). AreDigits s places) same fit)

@@ -4,8 +4,10 @@ pub mod Headers
 pub mod Entries
 pub mod Listed
 pub mod Reading
-pub mod Listing
+pub mod Parts
+pub mod RelationText
 pub mod Meaning
+pub mod RelationLaws
 pub mod Views
 pub mod EntryViews
 pub mod DraftViews

@@ -1,10 +1,20 @@
 //! Laws of the definitions, each a call that does nothing.
 
-ghost use Rattle.dfa_text.specs.Meaning.{ListingAcceptsWords, ListingAcceptsOnlyCodes};
+ghost use Rattle.dfa_text.specs.RelationLaws.{TextAcceptsWords, TextAcceptsOnlyCodes, EqualLanguagesHaveEqualTexts, EqualTextsHaveEqualLanguages};
 
-/// The listing of a table over sets, read as a file, accepts a word of tuples exactly where the table accepts the word
-/// of their letters, and no word of anything else.
-pub fn listing_accepts_as_table()
-    ensures words { ListingAcceptsWords }
-    ensures only { ListingAcceptsOnlyCodes }
+/// The text of an automaton over sets, read as a file, accepts a word of tuples exactly where the automaton accepts the
+/// word of their letters, and no word of anything else.
+pub fn text_accepts_as_automaton()
+    ensures words { TextAcceptsWords }
+    ensures only { TextAcceptsOnlyCodes }
+{}
+
+/// Two canonical automata over the same tracks with the same language have the same text over a header.
+pub fn equal_languages_have_equal_texts()
+    ensures { EqualLanguagesHaveEqualTexts }
+{}
+
+/// Two automata over sets with the same text have the same sets and the same language.
+pub fn equal_texts_have_equal_languages()
+    ensures { EqualTextsHaveEqualLanguages }
 {}

@@ -1,10 +1,12 @@
-//! The texts of automata: what an automaton file means, and the listing of a table.
+//! The texts of automata: what an automaton file means, and the text that an automaton is printed as.
 #![tactic(auto)]
 
 // numbers and lists of numbers
 mod numbers;
-// the listing of an automaton
-mod listing_text;
+// the line of a header
+mod header_text;
+// the text of a deterministic automaton
+mod relation_text;
 // what a file lists, and the faults of files
 pub mod listed;
 // numbers read from a file
@@ -25,9 +27,13 @@ mod accepting;
 mod laws;
 
 pub use accepting::accepts;
-pub use laws::listing_accepts_as_table;
-pub use listing_text::print_listed;
+pub use laws::{
+    equal_languages_have_equal_texts, equal_texts_have_equal_languages, text_accepts_as_automaton,
+};
 pub use reading::read_listed;
+pub use relation_text::print_relation;
 
+#[cfg(test)]
+mod relation_tests;
 #[cfg(test)]
 mod tests;

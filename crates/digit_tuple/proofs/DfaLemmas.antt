@@ -1,15 +1,14 @@
 -- What edges of deterministic states tell.
-use Rattle.std.proofs.Common.{◌≡◌, ◌≢◌, ◌==◌, ℕ, ◌<◌, ◌≤◌, ◌+◌, zero, suc, Bool, true, false, List, [], ◌∷◌, length, get_or, Option, None, Some, if◌then◌else◌, refl, sym, ap, ◌∙◌, subst, eq-eqb, ◌⊎◌, inl, inr, arith}
+use Rattle.std.proofs.Common.{◌≡◌, ◌≢◌, ◌==◌, ℕ, ◌<◌, ◌≤◌, ◌+◌, zero, suc, Bool, true, false, List, [], ◌∷◌, length, get_or, None, Some, if◌then◌else◌, refl, sym, ap, ◌∙◌, subst, eq-eqb, ◌⊎◌, inl, inr, arith}
 use Rattle.std.proofs.lemmas.Bool.{ne_eqb, cases_order}
 use Rattle.std.proofs.lemmas.List.{get_or_default}
-use Rattle.std.proofs.lemmas.List.Elements.{All-get_or}
 use Rattle.std.specs.List.{All, AllPairs, AllWithin}
 use Rattle.std.specs.Option.{IfSome}
 use Rattle.std.proofs.lemmas.List.{get_or-map, length-map}
 use Rattle.digit_tuple.specs.declared.edges.Edge.{Edge}
 use Rattle.digit_tuple.specs.declared.dfa.DfaState.{DfaState}
 use Rattle.digit_tuple.specs.DfaRows.{state_in, states_in}
-use Rattle.digit_tuple.specs.Deterministic.{Automaton, IsTable, IsRow, IsByEarlier, target_by, no_state, state_of, edges_of, step_of, letters_of, states_of}
+use Rattle.digit_tuple.specs.Deterministic.{Automaton, IsTable, IsRow, IsByEarlier, target_by, no_state, edges_of, letters_of, states_of}
 
 -- the edges of a state of a table
 pub row_at : (d : Automaton) (q : ℕ) → IsTable (letters_of d) d.states → q < states_of d → IsRow (letters_of d) (states_of d) (edges_of d q)

@@ -3,6 +3,9 @@ pub mod ZipLemmas
 pub mod SetLemmas
 pub mod LetterLemmas
 pub mod TupleLemmas
+pub mod PartLemmas
+pub mod NameLemmas
+pub mod SystemLemmas
 pub mod TableLemmas
 pub mod PathLemmas
 pub mod DfaLemmas

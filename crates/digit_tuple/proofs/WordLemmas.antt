@@ -1,8 +1,8 @@
 -- Words over an alphabet, and where they lead in a deterministic automaton.
-use Rattle.std.proofs.Common.{◌≡◌, ℕ, ◌<◌, Bool, false, true, List, [], ◌∷◌, ◌++◌, Option, None, Some, refl, sym, ap, ◌∙◌, subst, arith}
+use Rattle.std.proofs.Common.{◌≡◌, ℕ, ◌<◌, false, List, [], ◌∷◌, ◌++◌, Option, None, Some, refl, ap, ◌∙◌}
 use Rattle.std.specs.Option.{option_map_or, option_and_then}
 use Rattle.digit_tuple.specs.Letters.{IsWord}
-use Rattle.digit_tuple.specs.Deterministic.{Automaton, step_of, run_of, accepts_from, accepting_of}
+use Rattle.digit_tuple.specs.Deterministic.{Automaton, step_of, run_of, accepts_from}
 
 pub IsWord-push : (letters : ℕ) (w : List ℕ) (a : ℕ) → IsWord letters w → a < letters → IsWord letters (w ++ a ∷ [])
 IsWord-push letters [] a over within = (within, tt)

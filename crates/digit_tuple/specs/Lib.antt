@@ -1,6 +1,9 @@
 pub mod Letters
+pub mod Parts
+pub mod Names
 pub mod Sets
 pub mod Tuples
+pub mod Systems
 pub mod Headers
 pub mod Automaton
 pub mod Rows
@@ -9,3 +12,5 @@ pub mod DfaRows
 pub mod Width
 pub mod Shortlex
 pub mod FirstWords
+pub mod Kinds
+pub mod Steps

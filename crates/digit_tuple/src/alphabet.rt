@@ -4,11 +4,14 @@ ghost use Rattle.std.specs.Prelude.{◌≡◌, ℕ, ◌<◌, ◌↔◌, List, le
 ghost use Rattle.std.specs.Result.{IsErrOf};
 ghost use Rattle.digit_tuple.specs.Letters.{product, code_of, AreDigits, IsAlphabet, IsTooLarge};
 ghost use Rattle.digit_tuple.specs.Sets.{sizes_of};
+ghost use Rattle.digit_tuple.specs.Systems.{digit_sets};
 ghost use Rattle.digit_tuple.specs.Headers.{sets_of};
 
 use crate::faults::{OpFault, OutOfMemory};
 use crate::header::Header;
 use crate::letter_set::LetterSet;
+use crate::sets::Sets;
+use crate::systems::SystemTrack;
 use std::alloc::Global;
 use std::marker::Model;
 
@@ -62,11 +65,24 @@ impl Alphabet {
         ensures states { ¬ IsErrOf result OpFault.States }
     {
         match header {
-            Header::Sets(sets) => {
-                let sizes = sizes_in(alloc, sets.as_slice())?;
+            Header::Sets(sets) => Alphabet::of_sets(alloc, sets),
+            Header::Systems(systems) => {
+                let sizes = digit_counts(alloc, systems.as_slice())?;
                 Alphabet::new(alloc, &sizes)
             }
         }
+    }
+
+    /// The letters of tracks over these sets. `Letters` comes exactly where there are more than 16
+    /// tracks or more than 65,536 letters, and `States` never.
+    pub fn of_sets(alloc: Global, sets: &Sets) -> Result<Self, OpFault>
+        ensures value { IfOk result (λ alphabet. alphabet ≡ sizes_of sets.now) }
+        ensures fits { OnOk result (IsAlphabet (sizes_of sets.now)) }
+        ensures too_large { IsErrOf result OpFault.Letters → IsTooLarge (sizes_of sets.now) }
+        ensures states { ¬ IsErrOf result OpFault.States }
+    {
+        let sizes = sizes_in(alloc, sets.as_slice())?;
+        Alphabet::new(alloc, &sizes)
     }
 
     /// How many tracks there are.
@@ -176,6 +192,17 @@ fn sizes_in(alloc: Global, sets: &[LetterSet]) -> Result<Vec<u32>, OutOfMemory>
     let mut sizes = Vec::new(alloc);
     for set in sets {
         sizes.push(set.len())?;
+    }
+    Ok(sizes)
+}
+
+// How many digits each track's system has.
+fn digit_counts(alloc: Global, systems: &[SystemTrack]) -> Result<Vec<u32>, OutOfMemory>
+    ensures { IfOk result (λ sizes. sizes.items ≡ sizes_of (digit_sets systems.now)) }
+{
+    let mut sizes = Vec::new(alloc);
+    for track in systems {
+        sizes.push(track.digits)?;
     }
     Ok(sizes)
 }

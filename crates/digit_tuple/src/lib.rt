@@ -13,11 +13,23 @@ pub mod letter_set;
 /// Lists of sets, one for each track.
 pub mod sets;
 
+/// Directions: which digit of a number is read first.
+pub mod direction;
+
+/// Lists of numeration systems, one for each track.
+pub mod systems;
+
 /// Headers: what the tracks of an automaton stand for.
 pub mod header;
 
 /// Alphabets: letters of several tracks.
 pub mod alphabet;
+
+/// Names of tracks, and their places.
+pub mod names;
+
+/// Parts of letters on some of their tracks.
+pub mod letter_parts;
 
 /// Edges and states of nondeterministic automata.
 pub mod edges;
@@ -33,6 +45,12 @@ pub mod dfa_builder;
 
 /// Results of one step of a construction.
 pub mod stepped;
+
+/// Kinds of steps.
+pub mod kind;
+
+/// The steps that were done under a limit.
+pub mod steps;
 
 /// Laws of the definitions.
 pub mod laws;

@@ -6,10 +6,15 @@ use crate::alphabet::Alphabet;
 use crate::edges::{Edge, NfaState};
 use crate::faults::OpFault;
 use crate::header::Header;
+use crate::kind::Kind;
+use crate::letter_parts::letter_parts;
 use crate::letter_set::LetterSet;
 use crate::name::Name;
+use crate::names::{are_distinct, find_name};
 use crate::nfa::Nfa;
 use crate::sets::Sets;
+use crate::steps::Steps;
+use crate::systems::Systems;
 use std::test::Fail;
 
 #[test]
@@ -52,6 +57,65 @@ fn a_header_has_the_alphabet_of_its_sets(rt: HostRuntime) -> Result<(), Fail> {
     let alphabet = Alphabet::of_header(rt.alloc(), &header)?;
     assert_eq!(rt; alphabet.sizes(), [2, 3].as_slice());
     assert_eq!(rt; alphabet.letters(), 6);
+    Ok(())
+}
+
+#[test]
+fn a_header_of_systems_has_their_digits(rt: HostRuntime) -> Result<(), Fail> {
+    let mut systems = Systems::new(rt.alloc());
+    assert!(rt; systems.is_empty());
+    systems.push(Name::new(rt.alloc(), "msd_2")?, 2)?;
+    systems.push(Name::new(rt.alloc(), "msd_3")?, 3)?;
+    assert_eq!(rt; systems.len(), 2);
+    let copy = systems.copy(rt.alloc())?;
+    for system in copy.as_slice() {
+        assert!(rt; system.name.as_str().starts_with("msd_"));
+        assert!(rt; system.digits < 4);
+    }
+    let header = Header::Systems(systems).copy(rt.alloc())?;
+    let sets = header.sets(rt.alloc())?;
+    let members: Vec<i32> = sets.as_slice()[1].members().to_vec(rt.alloc())?;
+    assert_eq!(rt; members.as_slice(), [0, 1, 2].as_slice());
+    assert_eq!(rt; Alphabet::of_header(rt.alloc(), &header)?.letters(), 6);
+    assert_eq!(rt; Alphabet::of_sets(rt.alloc(), &sets)?.letters(), 6);
+    Ok(())
+}
+
+#[test]
+fn steps_are_kept_in_order(rt: HostRuntime) -> Result<(), Fail> {
+    let mut steps = Steps::new(rt.alloc(), 1000);
+    assert_eq!(rt; steps.limit(), 1000);
+    steps.done(Kind::Product, 6, 4)?;
+    steps.done(Kind::Project, 9, 2)?;
+    assert_eq!(rt; steps.count(), 2);
+    assert_eq!(rt; steps.line(0).kind.name(), "product");
+    assert_eq!(rt; steps.line(1).width, 9);
+    assert_eq!(rt; steps.line(1).size, 2);
+    Ok(())
+}
+
+#[test]
+fn names_are_found_at_their_places(rt: HostRuntime) -> Result<(), Fail> {
+    let mut names = Vec::new(rt.alloc());
+    names.push(Name::new(rt.alloc(), "y")?)?;
+    names.push(Name::new(rt.alloc(), "x")?)?;
+    assert!(rt; are_distinct(&names));
+    assert_eq!(rt; find_name(&names, &Name::new(rt.alloc(), "x")?), Some(1));
+    assert_eq!(rt; find_name(&names, &Name::new(rt.alloc(), "z")?), None);
+    names.push(Name::new(rt.alloc(), "y")?)?;
+    assert!(rt; !are_distinct(&names));
+    Ok(())
+}
+
+#[test]
+fn parts_are_taken_in_the_order_of_the_places(rt: HostRuntime) -> Result<(), Fail> {
+    let alphabet = Alphabet::new(rt.alloc(), &[2, 3])?;
+    let turned = Alphabet::new(rt.alloc(), &[3, 2])?;
+    let parts = letter_parts(rt.alloc(), &alphabet, &[1, 0], &turned)?;
+    assert_eq!(rt; parts.as_slice(), [0, 2, 4, 1, 3, 5].as_slice());
+    let second = Alphabet::new(rt.alloc(), &[3])?;
+    let digits = letter_parts(rt.alloc(), &alphabet, &[1], &second)?;
+    assert_eq!(rt; digits.as_slice(), [0, 1, 2, 0, 1, 2].as_slice());
     Ok(())
 }
 

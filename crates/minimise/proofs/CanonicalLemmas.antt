@@ -1,15 +1,14 @@
 -- Two canonical automata of one language are equal.
-use Rattle.std.proofs.Common.{◌≡◌, ℕ, zero, suc, ◌+◌, ◌<◌, Bool, true, false, List, [], ◌∷◌, ◌++◌, length, get_or, Option, None, Some, ◌⊎◌, inl, inr, refl, sym, ap, ◌∙◌, subst, arith}
-use Rattle.std.specs.List.{All, AllPairs, Contains}
+use Rattle.std.proofs.Common.{◌≡◌, ℕ, ◌<◌, Bool, false, List, [], ◌∷◌, ◌++◌, length, get_or, Option, None, Some, ◌⊎◌, inl, inr, refl, sym, ap, ◌∙◌, subst, arith}
+use Rattle.std.specs.List.{Contains}
 use Rattle.std.specs.Option.{IfSome, option_map_or, option_and_then}
 use Rattle.std.proofs.lemmas.Bool.{cases_order}
 use Rattle.std.proofs.lemmas.List.{ext_get_or, get_or_default}
 use Rattle.std.proofs.lemmas.Option.{none-some, same_Some}
 use Rattle.digit_tuple.specs.declared.edges.Edge.{Edge}
-use Rattle.digit_tuple.specs.Deterministic.{Automaton, State, IsTable, IsRow, no_state, state_of, letters_of, states_of, accepting_of, edges_of, step_of, run_of, accepts_from, accepts_of}
-use Rattle.digit_tuple.specs.FirstWords.{IsNumberedByFirsts}
+use Rattle.digit_tuple.specs.Deterministic.{Automaton, State, IsTable, no_state, letters_of, states_of, accepting_of, edges_of, step_of, run_of, accepts_from}
 use Rattle.digit_tuple.specs.Letters.{product, IsWord}
-use Rattle.digit_tuple.specs.Shortlex.{IsBefore, AreInOrder}
+use Rattle.digit_tuple.specs.Shortlex.{IsBefore}
 use Rattle.digit_tuple.proofs.DfaLemmas.{row_at, target_by-in_range}
 use Rattle.digit_tuple.proofs.ShortlexLemmas.{IsBefore-trans, IsBefore-irreflexive}
 use Rattle.digit_tuple.proofs.WordLemmas.{IsWord-append, IsWord-push, run_of-push, accepts_from-append}

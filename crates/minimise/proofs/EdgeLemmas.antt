@@ -1,10 +1,10 @@
 -- Rows of edges by their letters.
-use Rattle.std.proofs.Common.{◌≡◌, ◌≢◌, ◌==◌, ℕ, zero, suc, ◌+◌, ◌<◌, Bool, true, false, List, [], ◌∷◌, length, get_or, Option, None, Some, if◌then◌else◌, ◌⊎◌, inl, inr, refl, sym, ap, ◌∙◌, subst, eq-eqb, arith}
+use Rattle.std.proofs.Common.{◌≡◌, ℕ, suc, ◌+◌, ◌<◌, List, [], ◌∷◌, get_or, None, Some, ◌⊎◌, inl, inr, refl, sym, ap, ◌∙◌, arith}
 use Rattle.std.specs.List.{All, AllPairs}
-use Rattle.std.proofs.lemmas.Bool.{cases_order, cases_eq}
+use Rattle.std.proofs.lemmas.Bool.{cases_order}
 use Rattle.std.proofs.lemmas.Option.{none-some, same_Some}
 use Rattle.digit_tuple.specs.declared.edges.Edge.{Edge}
-use Rattle.digit_tuple.specs.Deterministic.{IsByEarlier, IsRow, target_by}
+use Rattle.digit_tuple.specs.Deterministic.{IsByEarlier, target_by}
 use Rattle.digit_tuple.proofs.DfaLemmas.{target_by-other, target_by-first, target_by-none}
 
 pub rest_pairs : (e : Edge) (es : List Edge) → AllPairs IsByEarlier (e ∷ es) → AllPairs IsByEarlier es

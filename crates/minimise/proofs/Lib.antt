@@ -8,3 +8,5 @@ pub mod RefiningLemmas
 pub mod ResidualLemmas
 pub mod QuotientLemmas
 pub mod SameLemmas
+pub mod GatheringLemmas
+pub mod PartitionLemmas

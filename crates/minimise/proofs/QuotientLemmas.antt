@@ -1,22 +1,21 @@
 -- The automaton whose states are classes is canonical.
-use Rattle.std.proofs.Common.{◌≡◌, ◌≢◌, ◌==◌, ℕ, zero, suc, ◌+◌, ◌<◌, ◌≤◌, Bool, true, false, List, [], ◌∷◌, ◌++◌, map, take, length, get_or, set, Option, None, Some, MatchOption, if◌then◌else◌, ◌⊎◌, inl, inr, refl, sym, ap, ◌∙◌, subst, arith, get_or-set_same, get_or-set_other, length-set}
-use Rattle.std.specs.Bool.{⊤}
-use Rattle.std.specs.List.{All, AllPairs}
+use Rattle.std.proofs.Common.{◌≡◌, ◌≢◌, ◌==◌, ℕ, ◌+◌, ◌<◌, ◌≤◌, Bool, true, false, List, [], ◌∷◌, ◌++◌, map, take, length, get_or, set, Option, None, Some, MatchOption, if◌then◌else◌, ◌⊎◌, inl, inr, refl, sym, ap, ◌∙◌, subst, arith, get_or-set_same, get_or-set_other, length-set}
+use Rattle.std.specs.List.{All}
 use Rattle.std.specs.Option.{option_map, option_map_or}
 use Rattle.std.proofs.lemmas.Bool.{cases_lt, cases_eq, eqb-true, eqb-false}
 use Rattle.std.proofs.lemmas.List.{get_or-map, length-map, map-append}
 use Rattle.std.proofs.lemmas.Option.{none-some, same_Some}
 use Rattle.digit_tuple.specs.declared.edges.Edge.{Edge}
-use Rattle.digit_tuple.specs.Deterministic.{Automaton, IsTable, IsByEarlier, letters_of, states_of, step_of, accepting_of, edges_of, target_by, accepts_from}
+use Rattle.digit_tuple.specs.Deterministic.{Automaton, IsTable, letters_of, states_of, step_of, edges_of, target_by, accepts_from}
 use Rattle.digit_tuple.specs.FirstWords.{IsNumberedByFirsts}
 use Rattle.digit_tuple.specs.Letters.{product, IsWord}
 use Rattle.explore.specs.Keys.{Step, AreSteps, key_by}
 use Rattle.explore.specs.Explored.{IsExplored, key_at}
 use Rattle.explore.specs.Steps.{step_in, steps_in}
 use Rattle.explore.specs.declared.source.KeyStep.{KeyStep}
-use Rattle.minimise.specs.Residuals.{SameResidual, SameLanguage, IsDead}
+use Rattle.minimise.specs.Residuals.{SameResidual, SameLanguage}
 use Rattle.minimise.specs.Canonical.{IsCanonical}
-use Rattle.minimise.specs.Classes.{AreResiduals, class_of, next_of, dead_class, live_class}
+use Rattle.minimise.specs.Classes.{AreResiduals, class_of, next_of, dead_class}
 use Rattle.minimise.specs.Signatures.{class_edges}
 use Rattle.minimise.specs.Quotient.{AreLeaders, IsQuotient, IsClass, leader_of, class_after, class_accepts, step_by}
 use Rattle.minimise.proofs.SinkLemmas.{sink_refuses, accepts_from-next, row_of, next_within}

@@ -1,12 +1,12 @@
 -- Classes numbered by signatures.
-use Rattle.std.proofs.Common.{◌≡◌, ℕ, zero, suc, ◌+◌, ◌<◌, ◌≤◌, List, [], ◌∷◌, ◌++◌, map, length, get_or, ◌⊎◌, inl, inr, refl, sym, ap, ◌∙◌, subst, arith}
+use Rattle.std.proofs.Common.{◌≡◌, ℕ, ◌+◌, ◌<◌, ◌≤◌, List, [], ◌∷◌, ◌++◌, length, ◌⊎◌, inl, inr, refl, sym, ap, ◌∙◌, arith}
 use Rattle.std.proofs.lemmas.Bool.{cases_lt, cases_order}
-use Rattle.std.proofs.lemmas.List.{length_push, get_or_push, get_or_append_left, get_or-map, length-map}
+use Rattle.std.proofs.lemmas.List.{length_push, get_or_push, get_or_append_left}
 use Rattle.digit_tuple.specs.Deterministic.{Automaton, IsTable, letters_of, states_of}
 use Rattle.explore.specs.Explored.{AreApart, IsNumbered, key_at}
 use Rattle.minimise.specs.Classes.{class_of}
 use Rattle.minimise.specs.Signatures.{signature_of}
-use Rattle.minimise.specs.Refinement.{AreAlike, AreCounted, AreRefined}
+use Rattle.minimise.specs.Refinement.{AreRefined}
 use Rattle.minimise.proofs.SignatureLemmas.{alike_from_signature, signature_from_alike}
 
 -- the states below count have the numbers of their signatures

@@ -1,5 +1,5 @@
 -- Classes that are refined until they are the residual languages.
-use Rattle.std.proofs.Common.{◌≡◌, ℕ, zero, suc, ◌+◌, ◌<◌, ◌≤◌, List, [], ◌∷◌, map, length, get_or, ◌⊎◌, inl, inr, refl, sym, ap, ◌∙◌, subst, arith}
+use Rattle.std.proofs.Common.{◌≡◌, ℕ, ◌<◌, ◌≤◌, List, [], ◌∷◌, length, refl, sym, ◌∙◌, arith}
 use Rattle.std.specs.List.{All}
 use Rattle.std.proofs.lemmas.List.{get_or_default}
 use Rattle.digit_tuple.specs.Deterministic.{Automaton, IsTable, letters_of, states_of, accepts_from}
@@ -7,30 +7,18 @@ use Rattle.digit_tuple.specs.Letters.{IsWord}
 use Rattle.minimise.specs.Residuals.{SameResidual}
 use Rattle.minimise.specs.Classes.{class_of, next_of, AreResiduals}
 use Rattle.minimise.specs.Refinement.{AreAlike, AreCounted, AreRefined}
+use Rattle.minimise.specs.Partition.{IsCoarse}
 use Rattle.minimise.proofs.PigeonLemmas.{StandsIn, onto_least, onto_one, choose}
 use Rattle.minimise.proofs.SinkLemmas.{accepts_from-next, next_within}
 
 -- classes that part no states with one residual language
 pub record AreCoarse (d : Automaton) (classes : List ℕ) (count : ℕ) : Type 0 where
   pub counted : AreCounted d classes count
-  pub coarse : (p q : ℕ) → p ≤ states_of d → q ≤ states_of d → SameResidual d p d q → class_of classes p ≡ class_of classes q
-
--- one class for all
-pub AreCoarse-one : (d : Automaton) (classes : List ℕ) → length classes ≡ states_of d + 1 → ((q : ℕ) → class_of classes q ≡ 0) → AreCoarse d classes 1
-AreCoarse-one d classes width zeros = record {
-  counted = record {
-    width = width;
-    small = omega arith;
-    below = λ q within. omega (arith, zeros q);
-    onto = λ k less. (0, omega arith, omega (arith, zeros 0, less));
-  };
-  coarse = λ p q small low same. zeros p ∙ sym (zeros q);
-}
+  pub coarse : IsCoarse d classes
 
 module _ (d : Automaton) (table : IsTable (letters_of d) d.states) where
   -- what is alike for all rounds has one residual language; what has one is alike
-  alike_residual : (classes : List ℕ) (p q : ℕ) → ((p q : ℕ) → p ≤ states_of d → q ≤ states_of d → SameResidual d p d q → class_of classes p ≡ class_of classes q)
-      → p ≤ states_of d → q ≤ states_of d → SameResidual d p d q → AreAlike d classes p q
+  alike_residual : (classes : List ℕ) (p q : ℕ) → IsCoarse d classes → p ≤ states_of d → q ≤ states_of d → SameResidual d p d q → AreAlike d classes p q
   alike_residual classes p q coarse small low same = record {
     accepting = same [] tt;
     own = coarse p q small low same;
@@ -38,10 +26,10 @@ module _ (d : Automaton) (table : IsTable (letters_of d) d.states) where
         (λ w over. sym (accepts_from-next d p a w) ∙ same (a ∷ w) (inside, over) ∙ accepts_from-next d q a w);
   }
 
-  pub AreCoarse-refined : (old new : List ℕ) (count more : ℕ) → AreCoarse d old count → AreRefined d old new more → AreCoarse d new more
-  AreCoarse-refined old new count more coarse refined = record {
+  pub AreCoarse-refined : (old new : List ℕ) (more : ℕ) → IsCoarse d old → AreRefined d old new more → AreCoarse d new more
+  AreCoarse-refined old new more coarse refined = record {
     counted = refined.counted;
-    coarse = λ p q small low same. (refined.same p q small low).1 (alike_residual old p q coarse.coarse small low same);
+    coarse = λ p q small low same. (refined.same p q small low).1 (alike_residual old p q coarse small low same);
   }
 
   -- what stays alike has one residual language

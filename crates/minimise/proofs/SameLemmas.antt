@@ -1,12 +1,12 @@
 -- Automata with equal states.
-use Rattle.std.proofs.Common.{◌≡◌, ◌==◌, ◌&&◌, ℕ, ◌<◌, Bool, List, length, get_or, ◌↔◌, refl, sym, ap, ◌∙◌, subst, eq-eqb}
+use Rattle.std.proofs.Common.{◌≡◌, ◌==◌, ◌&&◌, ℕ, ◌<◌, Bool, List, length, get_or, ◌↔◌, refl, ap, ◌∙◌, subst, eq-eqb}
 use Rattle.std.specs.Bool.{Decides}
 use Rattle.std.specs.Cmp.Lexicographic.{pointwise}
 use Rattle.std.proofs.lemmas.Bool.{and_from, and_parts, eqb-true}
 use Rattle.std.proofs.lemmas.List.{ext_get_or}
 use Rattle.std.proofs.lemmas.Slice.Eq.{slice_eq-Decides}
 use Rattle.digit_tuple.specs.declared.edges.Edge.{Edge}
-use Rattle.digit_tuple.specs.Deterministic.{Automaton, State, no_state, state_of}
+use Rattle.digit_tuple.specs.Deterministic.{Automaton, State, no_state}
 use Rattle.minimise.specs.Residuals.{SameLanguage}
 use Rattle.minimise.specs.Canonical.{IsCanonical}
 use Rattle.minimise.proofs.CanonicalLemmas.{canonical_forms}
@@ -44,3 +44,8 @@ states_tell_language d e canonical other sizes = (
   (λ states. subst (SameLanguage d) (same_table d e sizes states) (λ w over. refl)),
   (λ same. ap (λ (x : Automaton). x.states) (canonical_forms d e canonical other sizes same)),
 )
+
+-- automata over the same tracks with equal states are equal
+pub same_automata : (d e : Automaton) → d.sizes ≡ e.sizes → d.states ≡ e.states → d ≡ e
+same_automata d e sizes states =
+    ap (λ ss. let a : Automaton = record { sizes = ss; states = d.states } in a) sizes ∙ ap (λ qs. let a : Automaton = record { sizes = e.sizes; states = qs } in a) states

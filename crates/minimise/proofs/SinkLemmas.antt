@@ -1,10 +1,10 @@
 -- The sink, and where letters lead when missing edges lead to it.
-use Rattle.std.proofs.Common.{◌≡◌, ℕ, ◌+◌, ◌<◌, ◌≤◌, Bool, false, List, [], ◌∷◌, length, Option, None, Some, unwrap_or, ◌⊎◌, inl, inr, refl, sym, ap, ◌∙◌, subst, arith}
+use Rattle.std.proofs.Common.{◌≡◌, ℕ, ◌<◌, ◌≤◌, false, List, [], ◌∷◌, Option, None, Some, unwrap_or, ◌⊎◌, inl, inr, refl, sym, ap, subst, arith}
 use Rattle.std.specs.Option.{IfSome, option_map_or}
 use Rattle.std.proofs.lemmas.Bool.{cases_lt}
 use Rattle.std.proofs.lemmas.List.{get_or_past}
 use Rattle.digit_tuple.specs.declared.edges.Edge.{Edge}
-use Rattle.digit_tuple.specs.Deterministic.{Automaton, State, IsTable, IsRow, no_state, state_of, letters_of, states_of, accepting_of, edges_of, step_of, target_by, accepts_from}
+use Rattle.digit_tuple.specs.Deterministic.{Automaton, State, IsTable, IsRow, no_state, letters_of, states_of, accepting_of, edges_of, step_of, target_by, accepts_from}
 use Rattle.digit_tuple.proofs.DfaLemmas.{row_at, target_by-in_range}
 use Rattle.minimise.specs.Classes.{next_of}
 

@@ -1,7 +1,10 @@
 pub mod Residuals
 pub mod Canonical
+pub mod Tracked
 pub mod Classes
 pub mod Signatures
 pub mod Refinement
+pub mod Gathering
+pub mod Partition
 pub mod Quotient
 pub mod QuotientLaws

@@ -1,7 +1,7 @@
 -- The automaton whose states are classes.
 use Rattle.std.specs.Prelude.{◌≡◌, ℕ, ◌+◌, ◌<◌, ◌≤◌, Bool, List, [], ◌∷◌, length, Option}
 use Rattle.std.specs.Option.{option_map}
-use Rattle.digit_tuple.specs.Deterministic.{Automaton, IsTable, letters_of, states_of, accepting_of, edges_of}
+use Rattle.digit_tuple.specs.Deterministic.{Automaton, IsTable, letters_of, states_of, accepting_of}
 use Rattle.digit_tuple.specs.declared.edges.Edge.{Edge}
 use Rattle.explore.specs.Keys.{Step}
 use Rattle.minimise.specs.Classes.{AreResiduals, class_of, next_of, live_class}

@@ -1,4 +1,9 @@
 //! Classes of states, refined until they are the residual languages.
+//!
+//! Hopcroft's algorithm parts the states, and rounds of Moore's (Edward Moore, "Gedanken-experiments
+//! on sequential machines") see that nothing is left to be parted: each parts states by their
+//! acceptance and by the classes that letters lead to, in time linear in the table. Since the first
+//! algorithm leaves nothing to part there are two rounds.
 
 ghost use Rattle.std.specs.Prelude.{◌≡◌, ◌+◌, ◌≤◌, length, IfOk};
 ghost use Rattle.std.specs.List.{All};
@@ -6,6 +11,7 @@ ghost use Rattle.digit_tuple.specs.Deterministic.{states_of};
 ghost use Rattle.minimise.specs.Classes.{AreResiduals};
 ghost use Rattle.minimise.specs.Refinement.{AreRefined};
 
+use crate::partition::parted;
 use crate::signatures::signature;
 use digit_tuple::dfa::Dfa;
 use digit_tuple::faults::OutOfMemory;
@@ -13,16 +19,16 @@ use explore::numbering::Numbering;
 use std::alloc::Global;
 
 /// The class of each state, and last that of the sink, where missing edges lead. States have one
-/// class exactly where the same words are accepted from them. Each round parts states by their
-/// acceptance and by the classes that letters lead to, in time linear in the table, until none is
-/// parted any more; there are at most as many rounds as states.
+/// class exactly where the same words are accepted from them.
 pub fn residual_classes(alloc: Global, dfa: &Dfa) -> Result<Vec<u32>, OutOfMemory>
     ensures width { IfOk result (λ classes. length classes.items ≡ states_of dfa.now + 1) }
     ensures below { IfOk result (λ classes. All (λ class. class ≤ states_of dfa.now) classes.items) }
     ensures residuals { IfOk result (λ classes. AreResiduals dfa.now classes.items) }
 {
-    let mut classes = vec![in alloc; 0; dfa.states() as usize + 1]?;
-    let mut count = 1;
+    let start = parted(alloc, dfa)?;
+    let first = refined(alloc, dfa, &start)?;
+    let mut classes = first.numbers;
+    let mut count = first.count;
     'refine: loop {
         let next = refined(alloc, dfa, &classes)?;
         if next.count == count {

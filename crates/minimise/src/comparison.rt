@@ -1,11 +1,14 @@
-//! Whether canonical automata have one language.
+//! Whether automata are canonical, and whether canonical ones have one language.
 
-ghost use Rattle.std.specs.Prelude.{◌≡◌, ◌<◌, ◌↔◌, IsTrue};
+ghost use Rattle.std.specs.Prelude.{◌≡◌, ◌<◌, ◌↔◌, IsTrue, IfOk};
 ghost use Rattle.digit_tuple.specs.Deterministic.{states_of, state_of};
 ghost use Rattle.minimise.specs.Residuals.{SameLanguage};
 ghost use Rattle.minimise.specs.Canonical.{IsCanonical};
 
+use crate::canonical::canonical;
 use digit_tuple::dfa::Dfa;
+use digit_tuple::faults::OutOfMemory;
+use std::alloc::Global;
 
 /// Whether the languages of two canonical automata over the same tracks are equal.
 pub fn same(a: &Dfa, b: &Dfa) -> bool
@@ -15,6 +18,15 @@ pub fn same(a: &Dfa, b: &Dfa) -> bool
     ensures { IsTrue result ↔ SameLanguage a.now b.now }
 {
     have_equal_states(a, b)
+}
+
+/// Whether the automaton is the canonical one of its language. OutOfMemory comes too where 2^32 - 1
+/// residuals are not enough.
+pub fn is_canonical(alloc: Global, d: &Dfa) -> Result<bool, OutOfMemory>
+    ensures { IfOk result (λ is. IsTrue is ↔ IsCanonical d.now) }
+{
+    let least = canonical(alloc, d)?;
+    Ok(have_equal_states(&least, d))
 }
 
 // Whether the automata have equal states.

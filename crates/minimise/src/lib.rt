@@ -4,6 +4,12 @@
 /// Laws of canonical automata.
 pub mod laws;
 
+/// Sets of states, gathered by the letters that lead from them, and by their classes.
+mod gathering;
+
+/// Classes of states, parted by Hopcroft's algorithm.
+mod partition;
+
 /// What tells states of one class apart.
 mod signatures;
 
@@ -16,7 +22,10 @@ mod quotient;
 /// The canonical automaton of a language.
 pub mod canonical;
 
-/// Whether canonical automata have one language.
+/// Canonical automata whose tracks have names.
+pub mod tracked;
+
+/// Whether automata are canonical, and whether canonical ones have one language.
 pub mod comparison;
 #[cfg(test)]
 mod tests;

@@ -1,12 +1,10 @@
 -- A word matches where a cut of it does.
-use Rattle.std.proofs.Common.{◌≡◌, ℕ, zero, suc, ◌+◌, ◌<◌, ◌≤◌, List, [], ◌∷◌, length, take, drop, refl, sym, ap, ◌-◌, ◌∙◌, get_or, arith, length-append, subst, inl, inr, Bool, true, false, IsTrue, ◌↔◌, Decides}
-use Rattle.std.proofs.lemmas.Bool.{cases_lt}
+use Rattle.std.proofs.Common.{◌≡◌, ◌≢◌, nat_eq, ℕ, ◌+◌, ◌<◌, ◌≤◌, List, [], ◌∷◌, length, take, drop, refl, sym, ap, ◌∙◌, get_or, arith, length-append, subst, inl, inr, Bool, true, false, IsTrue, ◌↔◌, Decides}
+use Rattle.std.proofs.lemmas.Bool.{cases_lt, eqb-true}
 use Rattle.std.proofs.lemmas.List.{take-append-drop}
 use Rattle.std.proofs.Math.Seq.{take-append_seam, drop-append_seam}
 use Rattle.std.specs.List.{AllByRecursion}
-use Rattle.regex_build.specs.Expression.{Expression, follow, star}
-use Rattle.regex_build.specs.declared.post.Post.{Post}
-use Rattle.regex_build.specs.Posts.{starred, tree_of, tree_of_post}
+use Rattle.regex_build.specs.Expression.{Expression, any, follow, star, plus}
 use Rattle.regex_build.specs.Matches.{Matches, joined}
 
 -- at no cut from this one to before that one the one expression matches what stands before it, and the other what stands behind it
@@ -46,20 +44,11 @@ one_more_cut {L} e f w low high none here k from less front back = elim (cases_l
   | inr behind ↦ let same : k ≡ high = omega arith in here (subst (λ (i : ℕ). Matches e (take i w)) same front) (subst (λ (i : ℕ). Matches f (drop i w)) same back)
 ]
 
-stars_some : {L : Type 0} (n : ℕ) (e : Expression L) → (n ≡ 0 → ⊥) → starred n e ≡ star (starred (n - 1) e)
-stars_some zero e some = absurd (some refl)
-stars_some (suc n) e some = let less : suc n - 1 ≡ n = omega arith in rw less refl
-
--- the first piece, and the others behind it
-pub stars_cut : {L : Type 0} (n : ℕ) (e : Expression L) (w front back : List L) (k : ℕ) → (n ≡ 0 → ⊥) → front ≡ take k w → back ≡ drop k w → Matches (starred (n - 1) e) front → Matches (starred n e) back → Matches (starred n e) w
-stars_cut {L} n e w front back k some front_is back_is first others =
-    let parts : starred n e ≡ star (starred (n - 1) e) = stars_some n e some in
-    subst (λ (x : Expression L). Matches x w) (sym parts)
-    (star_cut (starred (n - 1) e) w k (subst (λ (t : List L). Matches (starred (n - 1) e) t) front_is first)
-    (subst (λ (t : List L). Matches (star (starred (n - 1) e)) t) back_is (subst (λ (x : Expression L). Matches x back) parts others)))
-
-pub no_stars : {L : Type 0} (n : ℕ) (e : Expression L) (w : List L) (high : ℕ) → (n ≡ 0 → ⊥) → 0 < length w → length w < high → NoCut (starred (n - 1) e) (star (starred (n - 1) e)) w 1 high → Matches (starred n e) w → ⊥
-no_stars {L} n e w high some letters whole none all = no_star (starred (n - 1) e) w high letters whole none (subst (λ (x : Expression L). Matches x w) (stars_some n e some) all)
+-- pieces that are empty together
+empty_piece : {L : Type 0} (e : Expression L) (pieces : List (List L)) → (pieces ≢ []) → joined pieces ≡ [] → AllByRecursion (Matches e) pieces → Matches e []
+empty_piece e [] some none all = absurd (some refl)
+empty_piece e ([] ∷ pieces) some none all = all.0
+empty_piece e ((x ∷ p) ∷ pieces) some none all = absurd (cc)
 
 -- a cut whose front does not match
 pub no_front : {L : Type 0} (e f : Expression L) (w front : List L) (low k : ℕ) → front ≡ take k w → (Matches e front → ⊥) → NoCut e f w low k → NoCut e f w low (k + 1)
@@ -69,19 +58,10 @@ no_front {L} e f w front low k front_is none before = one_more_cut e f w low k b
 pub no_back : {L : Type 0} (e f : Expression L) (w back : List L) (low k : ℕ) → back ≡ drop k w → (Matches f back → ⊥) → NoCut e f w low k → NoCut e f w low (k + 1)
 no_back {L} e f w back low k back_is none before = one_more_cut e f w low k before (λ first others. none (subst (λ (t : List L). Matches f t) (sym back_is) others))
 
--- a cut whose front is no piece
-pub no_first : {L : Type 0} (n : ℕ) (e : Expression L) (w front : List L) (low k : ℕ) → front ≡ take k w → (Matches (starred (n - 1) e) front → ⊥) → NoCut (starred (n - 1) e) (star (starred (n - 1) e)) w low k → NoCut (starred (n - 1) e) (star (starred (n - 1) e)) w low (k + 1)
-no_first {L} n e w front low k front_is none before = no_front (starred (n - 1) e) (star (starred (n - 1) e)) w front low k front_is none before
-
--- a cut behind which there are no further pieces
-pub no_others : {L : Type 0} (n : ℕ) (e : Expression L) (w back : List L) (low k : ℕ) → (n ≡ 0 → ⊥) → back ≡ drop k w → (Matches (starred n e) back → ⊥) → NoCut (starred (n - 1) e) (star (starred (n - 1) e)) w low k → NoCut (starred (n - 1) e) (star (starred (n - 1) e)) w low (k + 1)
-no_others {L} n e w back low k some back_is none before = no_back (starred (n - 1) e) (star (starred (n - 1) e)) w back low k back_is (λ others. none (subst (λ (x : Expression L). Matches x back) (sym (stars_some n e some)) others)) before
-
--- no cut after the first letter's
-pub no_posts : {L : Type 0} (posts rest : List (Post L)) (p : Post L) (w : List L) (high : ℕ) → 1 ≤ length posts → p ≡ get_or posts 0 p → rest ≡ drop 1 posts → length w < high → NoCut (tree_of_post p) (tree_of rest) w 0 high → Matches (tree_of posts) w → ⊥
-no_posts [] rest p w high some p_is rest_is whole none all = omega arith
-no_posts {L} (q ∷ qs) rest p w high some p_is rest_is whole none all =
-    no_follow (tree_of_post p) (tree_of rest) w high whole none (subst (λ (x : Expression L). Matches x w) (ap (λ (r : Post L). follow (tree_of_post r) (tree_of qs)) (sym p_is) ∙ ap (λ (rs : List (Post L)). follow (tree_of_post p) (tree_of rs)) (sym rest_is)) all)
+-- the empty word is matched once or not at all
+pub plus_empty : {L : Type 0} (e : Expression L) (w : List L) (r : Bool) → length w ≡ 0 → IsTrue r ↔ Matches e w → IsTrue r ↔ Matches (plus e) w
+plus_empty e [] r none same = (λ yes. ([] ∷ [], (λ is. absurd (cc)), refl, (same.0 yes, tt)), λ (pieces, some, split, all). same.1 (empty_piece e pieces some (sym split) all))
+plus_empty e (x ∷ w) r none same = absurd (omega arith)
 
 -- what a test that failed did not find
 pub refuted : {M : Type 0} (r : Bool) → r ≡ false → (M → IsTrue r) → M → ⊥
@@ -106,3 +86,9 @@ pub same_letter : {L : Type 0} (w : List L) (t x : L) (r : Bool) → 1 ≤ lengt
 same_letter {L} w t x r some few is same =
     let alone : w ≡ t ∷ [] = one_letter w t some few is in
     (λ equal. alone ∙ ap (λ (y : L). y ∷ []) (same.0 equal), λ w_is. same.1 (cc))
+
+-- a word of one letter is any letter
+pub one_of_any : {L : Type 0} (w : List L) → IsTrue (nat_eq (length w) 1) ↔ Matches any w
+one_of_any {L} [] = (λ is. let none : length {A = L} [] ≡ 1 = eqb-true (length {A = L} []) 1 is in absurd (omega (arith, none)), λ (x, is). absurd (omega (arith, ap length is)))
+one_of_any (x ∷ []) = (λ is. (x, refl), λ _. refl)
+one_of_any (x ∷ y ∷ w) = (λ is. let more : length (x ∷ y ∷ w) ≡ 1 = eqb-true (length (x ∷ y ∷ w)) 1 is in absurd (omega (arith, more)), λ (z, is). absurd (omega (arith, ap length is)))

@@ -3,3 +3,4 @@ pub mod Walks
 pub mod Ends
 pub mod Scripts
 pub mod Readings
+pub mod Trees

@@ -7,14 +7,14 @@ pub mod words;
 /// Tuples, and the words of tuples that words of letters stand for.
 pub mod tuples;
 
+/// Trees of expressions.
+pub mod tree;
+
 /// Whether a word of tuples matches an expression.
 pub mod matching;
 
 /// Whether a nondeterministic automaton accepts a word.
 pub mod walking;
-
-/// Whether a text spells an expression.
-pub mod spelling;
 
 /// The items of a script.
 pub mod cutting;

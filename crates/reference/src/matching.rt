@@ -1,47 +1,59 @@
 //! Whether a word of tuples matches an expression, by trying every cut of the word.
 
 ghost use Rattle.std.specs.Prelude.{◌↔◌, IsTrue};
-ghost use Rattle.regex_build.specs.Expression.{letter as letter_alone};
-ghost use Rattle.regex_build.specs.Posts.{tree_of, starred};
+ghost use Rattle.regex_build.specs.Expression.{letter as letter_alone, follow, star};
 ghost use Rattle.regex_build.specs.Matches.{Matches};
+ghost use Rattle.reference.specs.Trees.{expression};
 
+use crate::tree::Tree;
 use crate::tuples::Tuple;
-use regex_build::letter_tuple::LetterTuple;
-use regex_build::post::Post;
 
-/// Whether the word matches the letters with their stars, one behind the other.
-pub fn matches(posts: &[Post<LetterTuple>], word: &[Tuple]) -> bool
-    ensures { IsTrue result ↔ Matches (tree_of posts.now) word.now }
+/// Whether the word matches the expression.
+#[cycle(matches)]
+pub fn matches(tree: &Tree, word: &[Tuple]) -> bool
+    ensures { IsTrue result ↔ Matches (expression tree.now) word.now }
 {
-    match posts {
-        [] => word.is_empty(),
-        [post, rest @ ..] => {
-            for cut in 0..=word.len() {
-                if matches_stars(post.stars, &post.letter, &word[..cut])
-                    && matches(rest, &word[cut..])
-                {
-                    return true;
-                }
+    match tree {
+        Tree::Empty => word.is_empty(),
+        Tree::Letter(letter) => is_letter(letter, word),
+        Tree::Any => word.len() == 1,
+        Tree::Either(first, second) => matches(first, word) || matches(second, word),
+        Tree::Follow(first, second) => matches_follow(first, second, word),
+        Tree::Star(once) => matches_star(once, word),
+        Tree::Plus(once) => {
+            if word.is_empty() {
+                matches(once, word)
+            } else {
+                matches_star(once, word)
             }
-            false
         }
+        Tree::Optional(once) => word.is_empty() || matches(once, word),
     }
 }
 
-// Whether the word matches the letter under so many stars.
-fn matches_stars(stars: usize, letter: &LetterTuple, word: &[Tuple]) -> bool
-    ensures { IsTrue result ↔ Matches (starred stars (letter_alone letter.now)) word.now }
+// Whether the word matches the two, one behind the other.
+#[cycle(matches)]
+fn matches_follow(first: &Tree, second: &Tree, word: &[Tuple]) -> bool
+    ensures { IsTrue result ↔ Matches (follow (expression first.now) (expression second.now)) word.now }
 {
-    if stars == 0 {
-        return is_letter(letter, word);
+    for cut in 0..=word.len() {
+        if matches(first, &word[..cut]) && matches(second, &word[cut..]) {
+            return true;
+        }
     }
+    false
+}
+
+// Whether the word matches the expression any number of times.
+#[cycle(matches)]
+fn matches_star(once: &Tree, word: &[Tuple]) -> bool
+    ensures { IsTrue result ↔ Matches (star (expression once.now)) word.now }
+{
     if word.is_empty() {
         return true;
     }
     for cut in 1..=word.len() {
-        if matches_stars(stars - 1, letter, &word[..cut])
-            && matches_stars(stars, letter, &word[cut..])
-        {
+        if matches(once, &word[..cut]) && matches_star(once, &word[cut..]) {
             return true;
         }
     }
@@ -49,7 +61,7 @@ fn matches_stars(stars: usize, letter: &LetterTuple, word: &[Tuple]) -> bool
 }
 
 // Whether the word is the letter alone.
-fn is_letter(letter: &LetterTuple, word: &[Tuple]) -> bool
+fn is_letter(letter: &Tuple, word: &[Tuple]) -> bool
     ensures { IsTrue result ↔ Matches (letter_alone letter.now) word.now }
 {
     match word {

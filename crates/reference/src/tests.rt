@@ -2,7 +2,7 @@
 
 use crate::cutting::{ScriptEnd, items_of};
 use crate::matching::matches;
-use crate::spelling::spells;
+use crate::tree::tree_of;
 use crate::tuples::tuples_of;
 use crate::walking::accepts;
 use crate::words::all_words;
@@ -10,9 +10,9 @@ use digit_tuple::alphabet::Alphabet;
 use digit_tuple::header::Header;
 use digit_tuple::letter_set::LetterSet;
 use digit_tuple::sets::Sets;
+use regex_build::build::build;
 use regex_build::parsing::parse;
 use regex_build::position_table::positions;
-use regex_build::post::Post;
 use regex_build::regex::Regex;
 use script_cut::{Cut, CutFault, Cutter, SCRIPT_LIMIT};
 use std::alloc::Global;
@@ -20,119 +20,85 @@ use std::process::Abort;
 use std::test::Fail;
 use wal_outside::MemSource;
 
-// One track, whose digits are 0 and 1.
-fn two_digits(alloc: Global) -> Result<Header, Fail> {
+// As many tracks, whose digits are 0 and 1.
+fn two_digits(alloc: Global, tracks: u32) -> Result<Header, Fail> {
     let mut sets = Sets::new(alloc);
-    sets.push(LetterSet::try_new([0, 1].to_vec(alloc)?).ok_or("ascending")?)?;
+    for _ in 0..tracks {
+        sets.push(LetterSet::try_new([0, 1].to_vec(alloc)?).ok_or("ascending")?)?;
+    }
     Ok(Header::Sets(sets))
 }
 
-// Asserts that the automaton of an expression accepts just the words of fewer than five letters that
-// match it, and how many these are.
-fn accepts_the_matches(
+// Asserts that both automata of an expression accept just the words up to a length that match it, and
+// how many these are.
+fn accept_the_matches(
     rt: &impl Abort,
     alloc: Global,
-    text: &str,
+    regex: &Regex,
+    longest: usize,
     count: usize,
 ) -> Result<(), Fail> {
-    let regex = parse(alloc, text.as_bytes(), &two_digits(alloc)?)?;
-    let alphabet = Alphabet::of_header(alloc, regex.header())?;
-    let nfa = positions(alloc, &regex)?;
+    let alphabet = Alphabet::of_sets(alloc, regex.sets())?;
+    let tree = tree_of(alloc, regex)?;
+    let nfa = positions(alloc, regex)?;
+    let stepped = build(alloc, regex, 100)?;
     let mut matching = 0;
-    for length in 0..5 {
+    for length in 0..=longest {
         for word in &all_words(alloc, alphabet.letters(), length)? {
-            let tuples = tuples_of(alloc, &alphabet, regex.sets(), word.letters())?;
-            let is_match = matches(regex.posts(), &tuples);
-            assert_eq!(rt; accepts(&nfa, word.letters()), is_match, "{text}");
+            let tuples = tuples_of(alloc, &alphabet, regex.sets().as_slice(), word.letters())?;
+            let is_match = matches(&tree, &tuples);
+            assert_eq!(rt; accepts(&nfa, word.letters()), is_match);
+            assert_eq!(rt; stepped.result.accepts(word.letters()), is_match);
             if is_match {
                 matching = usize::saturating_add(matching, 1);
             }
         }
     }
-    assert_eq!(rt; matching, count, "{text}");
+    assert_eq!(rt; matching, count);
     Ok(())
 }
 
 #[test]
-fn automata_accept_the_matches(rt: HostRuntime) -> Result<(), Fail> {
+fn automata_of_one_track_accept_the_matches(rt: HostRuntime) -> Result<(), Fail> {
+    let header = two_digits(rt.alloc(), 1)?;
     let table = [
-        ("0", 1),
+        ("()", 1),
         ("01", 1),
-        ("1*", 5),
-        ("0*1", 4),
-        ("10*", 4),
-        ("0**", 5),
-        ("0*0*", 5),
+        ("0|1", 2),
         ("0*1*", 15),
-        ("1*01*", 10),
-        ("0*10*1*", 20),
+        ("0**", 5),
+        ("(0|1)*1.", 14),
+        ("(01?)+", 11),
+        ("()|1+", 5),
+        ("((0*)*1)*", 16),
+        ("(0+|1?)*01", 7),
+        ("(()|0)+1", 4),
+        ("(0?)+", 5),
+        ("0+?*|1", 6),
+        ("(..)+", 20),
+        ("0|1()|10?1", 4),
     ];
     for (text, count) in table {
-        accepts_the_matches(&rt, rt.alloc(), text, count)?;
+        let regex = parse(rt.alloc(), text.as_bytes(), &header)?;
+        accept_the_matches(&rt, rt.alloc(), &regex, 4, count)?;
     }
     Ok(())
 }
 
-// The text that a word of four letters stands for.
-fn text_of(alloc: Global, word: &[u32]) -> Result<Vec<u8>, Fail> {
-    let mut text = Vec::new(alloc);
-    for letter in word {
-        text.push(match *letter {
-            0 => b'0',
-            1 => b'1',
-            2 => b'*',
-            _ => b' ',
-        })?;
-    }
-    Ok(text)
-}
-
-// The digits and stars of an expression over one track.
-fn digits_of(alloc: Global, regex: &Regex) -> Result<Vec<Post<u8>>, Fail> {
-    let mut digits = Vec::new(alloc);
-    for post in regex.posts() {
-        if let [digit] = post.letter.members() {
-            digits.push(Post {
-                letter: u8::try_from(*digit).unwrap_or(10),
-                stars: post.stars,
-            })?;
-        }
-    }
-    Ok(digits)
-}
-
-// Whether the text spells one of the expressions.
-fn spells_one(alloc: Global, text: &[u8], expressions: &[Vec<Post<u8>>]) -> Result<bool, Fail> {
-    for digits in expressions {
-        if spells(alloc, text, digits)? {
-            return Ok(true);
-        }
-    }
-    Ok(false)
-}
-
 #[test]
-fn what_is_parsed_is_spelled(rt: HostRuntime) -> Result<(), Fail> {
-    let alloc = rt.alloc();
-    let header = two_digits(alloc)?;
-    let mut expressions = Vec::new(alloc);
-    let mut refused = Vec::new(alloc);
-    for length in 0..5 {
-        for word in &all_words(alloc, 4, length)? {
-            let text = text_of(alloc, word.letters())?;
-            match parse(alloc, &text, &header) {
-                Ok(regex) => {
-                    let digits = digits_of(alloc, &regex)?;
-                    assert!(rt; spells(alloc, &text, &digits)?);
-                    expressions.push(digits)?;
-                }
-                Err(_) => refused.push(text)?,
-            }
-        }
-    }
-    assert_eq!(rt; expressions.len(), 224);
-    for text in &refused {
-        assert!(rt; !spells_one(alloc, text, &expressions)?);
+fn automata_of_two_tracks_accept_the_matches(rt: HostRuntime) -> Result<(), Fail> {
+    let header = two_digits(rt.alloc(), 2)?;
+    let table = [
+        ("()", 1),
+        ("[0,1]", 1),
+        (".?[1,0]+.", 20),
+        ("([0,0]|[1,1])*", 15),
+        ("([0,1]*.)?", 13),
+        ("[1,1]?.+|[0,0]", 84),
+    ];
+    for (text, count) in table {
+        let regex = parse(rt.alloc(), text.as_bytes(), &header)?;
+        accept_the_matches(&rt, rt.alloc(), &regex, 3, count)?;
     }
     Ok(())
 }

@@ -1,52 +1,68 @@
 -- The automaton of an expression's letters accepts exactly the words that the expression matches.
-use Rattle.std.proofs.Common.{◌≡◌, ℕ, zero, suc, ◌+◌, List, [], ◌∷◌, length, inl, inr, refl, sym, ap, subst, arith, Option, Some}
+use Rattle.std.proofs.Common.{◌≡◌, ℕ, zero, suc, ◌+◌, List, [], ◌∷◌, length, inl, inr, refl, sym, subst, arith, Option, None, Some}
 use Rattle.std.specs.Prelude.{slice_get, IsSomeAnd, IsTrue}
 use Rattle.std.specs.List.{AllZip}
 use Rattle.digit_tuple.specs.Automaton.{Branching, accepting_of, Path, Accepts}
-use Rattle.regex_build.specs.Expression.{Expression, letters_in, placed}
+use Rattle.regex_build.specs.Expression.{Expression, occurrences_in, placed}
 use Rattle.regex_build.specs.Matches.{Matches}
-use Rattle.regex_build.specs.Positions.{IsWritten, IsPositionTable, PositionsAcceptMatches}
+use Rattle.regex_build.specs.Positions.{IsOf, IsWritten, IsPositionTable, PositionsAcceptMatches}
 use Rattle.digit_tuple.specs.Tuples.{IsLetterOf}
 use Rattle.digit_tuple.proofs.TupleLemmas.{one_tuple}
-use Rattle.regex_build.proofs.ListSteps.{zip-same, zip-through, zip-compose}
-use Rattle.regex_build.proofs.PlaceWords.{StandsAt, stands_once, IsWithin, place_within, places_of, word_of}
+use Rattle.regex_build.proofs.ListSteps.{zip-through, zip-compose}
+use Rattle.regex_build.proofs.PlaceWords.{Allows, StandsAt, IsWithin, place_within, places_of, word_spelled}
 use Rattle.regex_build.proofs.Merging.{IsChain, matches_from_chain, chain_from_matches}
 
-pub get_from_stands : {L : Type 0} (n : ℕ) (xs : List L) (place : ℕ) (x : L) → StandsAt n xs place x → (k : ℕ) × (place ≡ n + k) × (slice_get xs k ≡ Some x)
+-- what is said of the occurrence at a place
+abbrev pub IsAt : {L : Type 0} → (Option L → Type 0) → List (Option L) → ℕ → Type 0
+IsAt P os k = IsSomeAnd (slice_get os k) P
+
+get_from_stands : {L : Type 0} (n : ℕ) (os : List (Option L)) (place : ℕ) (x : L) → StandsAt n os place x → (k : ℕ) × (place ≡ n + k) × IsAt (λ o. Allows o x) os k
 get_from_stands n [] place x h = absurd h
-get_from_stands n (y ∷ ys) place x h =
+get_from_stands n (o ∷ os) place x h =
     elim h [
-      | inl p ↦ (0, (let e : place ≡ n = p.0 in omega arith), ap Some p.1)
+      | inl p ↦ (0, (let e : place ≡ n = p.0 in omega arith), p.1)
       | inr q ↦
-          let r = get_from_stands (n + 1) ys place x q in
+          let r = get_from_stands (n + 1) os place x q in
           (suc r.0, (let e : place ≡ n + 1 + r.0 = r.1 in omega arith), r.2)
     ]
 
+of_from_allows : {L : Type 0} (code : L → ℕ → Type 0) (o : Option L) (x : L) (a : ℕ) → Allows o x → code x a → IsOf code o a
+of_from_allows {L} code (Some y) x a h c = let P : L → Type 0 = λ z. code z a in subst P (sym h) c
+of_from_allows code None x a h c = (x, c)
+
+of_at : {L : Type 0} (code : L → ℕ → Type 0) (os : List (Option L)) (k : ℕ) (x : L) (a : ℕ) → IsAt (λ o. Allows o x) os k → code x a → IsAt (λ o. IsOf code o a) os k
+of_at code [] k x a h c = absurd h
+of_at code (o ∷ os) zero x a h c = of_from_allows code o x a h c
+of_at code (o ∷ os) (suc k) x a h c = of_at code os k x a h c
+
 -- a letter at a place is written as it is
-pub written_from_stands : {L : Type 0} (code : L → ℕ → Type 0) (xs : List L) (place : ℕ) (x : L) (a : ℕ) → StandsAt 1 xs place x → code x a → IsWritten code xs place a
-written_from_stands {L} code xs place x a h c =
-    let r = get_from_stands 1 xs place x h in
+pub written_from_stands : {L : Type 0} (code : L → ℕ → Type 0) (os : List (Option L)) (place : ℕ) (x : L) (a : ℕ) → StandsAt 1 os place x → code x a → IsWritten code os place a
+written_from_stands {L} code os place x a h c =
+    let r = get_from_stands 1 os place x h in
     let e : suc r.0 ≡ place = let e1 : place ≡ 1 + r.0 = r.1 in omega arith in
-    let P : ℕ → Type 0 = λ p. IsWritten code xs p a in
-    let Q : Option L → Type 0 = λ o. IsSomeAnd o (λ y. code y a) in
-    subst P e (subst Q (sym r.2) c)
+    let P : ℕ → Type 0 = λ p. IsWritten code os p a in
+    subst P e (of_at code os r.0 x a r.2 c)
 
 -- a letter at a place, and how it is written
-pub record HasLetter {L : Type 0} (code : L → ℕ → Type 0) (n : ℕ) (xs : List L) (place a : ℕ) : Type 0 where
+record HasLetter {L : Type 0} (code : L → ℕ → Type 0) (n : ℕ) (os : List (Option L)) (place a : ℕ) : Type 0 where
   pub one : L
-  pub stands : StandsAt n xs place one
+  pub stands : StandsAt n os place one
   pub written : code one a
 
-pub letter_from_get : {L : Type 0} (code : L → ℕ → Type 0) (n : ℕ) (xs : List L) (k a : ℕ) → IsSomeAnd (slice_get xs k) (λ x. code x a) → HasLetter code n xs (n + k) a
+letter_here : {L : Type 0} (code : L → ℕ → Type 0) (n : ℕ) (o : Option L) (os : List (Option L)) (a : ℕ) → IsOf code o a → HasLetter code n (o ∷ os) (n + 0) a
+letter_here code n (Some y) os a h = record { one = y; stands = inl ((omega arith), refl); written = h }
+letter_here code n None os a h = record { one = h.0; stands = inl ((omega arith), tt); written = h.1 }
+
+letter_from_get : {L : Type 0} (code : L → ℕ → Type 0) (n : ℕ) (os : List (Option L)) (k a : ℕ) → IsAt (λ o. IsOf code o a) os k → HasLetter code n os (n + k) a
 letter_from_get code n [] k a h = absurd h
-letter_from_get code n (y ∷ ys) zero a h = record { one = y; stands = inl ((omega arith), refl); written = h }
-letter_from_get code n (y ∷ ys) (suc k) a h =
-    let r = letter_from_get code (n + 1) ys k a h in
+letter_from_get code n (o ∷ os) zero a h = letter_here code n o os a h
+letter_from_get code n (o ∷ os) (suc k) a h =
+    let r = letter_from_get code (n + 1) os k a h in
     let e : n + 1 + k ≡ n + suc k = omega arith in
-    let P : ℕ → Type 0 = λ p. StandsAt (n + 1) ys p r.one in
+    let P : ℕ → Type 0 = λ p. StandsAt (n + 1) os p r.one in
     record { one = r.one; stands = inr (subst P e r.stands); written = r.written }
 
-pub letter_from_written : {L : Type 0} (code : L → ℕ → Type 0) (xs : List L) (place a : ℕ) → IsWritten code xs place a → HasLetter code 1 xs place a
+letter_from_written : {L : Type 0} (code : L → ℕ → Type 0) (xs : List (Option L)) (place a : ℕ) → IsWritten code xs place a → HasLetter code 1 xs place a
 letter_from_written code xs zero a h = absurd h
 letter_from_written code xs (suc k) a h =
     let e : 1 + k ≡ suc k = omega arith in
@@ -56,17 +72,17 @@ letter_from_written code xs (suc k) a h =
 -- a word over the places, as a way through the states
 pub chain_of_word : {L : Type 0} (e : Expression L) (places : List ℕ) → Matches (placed 1 e) places → IsChain (placed 1 e) 0 places
 chain_of_word e [] m = m
-chain_of_word e (zero ∷ places) m = let w : IsWithin 1 (1 + length (letters_in e)) 0 = place_within 1 e [] 0 places m in absurd (omega arith)
+chain_of_word e (zero ∷ places) m = let w : IsWithin 1 (1 + length (occurrences_in e)) 0 = place_within 1 e [] 0 places m in absurd (omega arith)
 chain_of_word e (suc i ∷ places) m = ((places, m), chain_from_matches e i [] places m)
 
 pub word_of_chain : {L : Type 0} (e : Expression L) (places : List ℕ) → IsChain (placed 1 e) 0 places → Matches (placed 1 e) places
 word_of_chain e [] c = c
-word_of_chain e (zero ∷ places) c = let w : IsWithin 1 (1 + length (letters_in e)) 0 = place_within 1 e [] 0 c.0.0 c.0.1 in absurd (omega arith)
+word_of_chain e (zero ∷ places) c = let w : IsWithin 1 (1 + length (occurrences_in e)) 0 = place_within 1 e [] 0 c.0.0 c.0.1 in absurd (omega arith)
 word_of_chain e (suc i ∷ places) c = matches_from_chain e i [] c.0.0 places c.0.1 c.1
 
 module _ {L : Type 0} (code : L → ℕ → Type 0) (e : Expression L) (n : Branching) (table : IsPositionTable code e n) where
   -- the ways through the states, and the paths of the table
-  path_of_chain : (q : ℕ) (places word : List ℕ) → IsChain (placed 1 e) q places → AllZip (IsWritten code (letters_in e)) places word → (r : ℕ) × Path n q word r × IsTrue (accepting_of n r)
+  path_of_chain : (q : ℕ) (places word : List ℕ) → IsChain (placed 1 e) q places → AllZip (IsWritten code (occurrences_in e)) places word → (r : ℕ) × Path n q word r × IsTrue (accepting_of n r)
   path_of_chain q [] [] c z = (q, refl, (table.accepts q).1 c)
   path_of_chain q [] (a ∷ word) c z = absurd z
   path_of_chain q (place ∷ places) [] c z = absurd z
@@ -74,7 +90,7 @@ module _ {L : Type 0} (code : L → ℕ → Type 0) (e : Expression L) (n : Bran
       let rest = path_of_chain place places word c.1 z.1 in
       (rest.0, (place, (table.leads q a place).1 (c.0, z.0), rest.1), rest.2)
 
-  chain_of_path : (q : ℕ) (word : List ℕ) (r : ℕ) → Path n q word r → IsTrue (accepting_of n r) → (places : List ℕ) × IsChain (placed 1 e) q places × AllZip (IsWritten code (letters_in e)) places word
+  chain_of_path : (q : ℕ) (word : List ℕ) (r : ℕ) → Path n q word r → IsTrue (accepting_of n r) → (places : List ℕ) × IsChain (placed 1 e) q places × AllZip (IsWritten code (occurrences_in e)) places word
   chain_of_path q [] r p h = ([], (table.accepts q).0 (let P : ℕ → Type 0 = λ s. IsTrue (accepting_of n s) in subst P (sym p) h), tt)
   chain_of_path q (a ∷ word) r p h =
       let rest = chain_of_path p.0 word r p.2 h in
@@ -85,22 +101,19 @@ module _ {L : Type 0} (code : L → ℕ → Type 0) (e : Expression L) (n : Bran
   accepts_from_matches word letters z m =
       let a = places_of 1 e word m in
       path_of_chain 0 a.places letters (chain_of_word e a.places a.matched)
-      (zip-compose (StandsAt 1 (letters_in e)) code (IsWritten code (letters_in e)) (λ place x b h c. written_from_stands code (letters_in e) place x b h c) a.places word letters a.spelled z)
+      (zip-compose (StandsAt 1 (occurrences_in e)) code (IsWritten code (occurrences_in e)) (λ place x b h c. written_from_stands code (occurrences_in e) place x b h c) a.places word letters a.spelled z)
 
   pub matches_from_accepts : ((x y : L) (a : ℕ) → code x a → code y a → x ≡ y) → (word : List L) (letters : List ℕ) → AllZip code word letters → Accepts n letters → Matches e word
   matches_from_accepts once word letters z accepted =
       let way = chain_of_path 0 letters accepted.0 accepted.1 accepted.2 in
-      let read = word_of 1 e way.0 (word_of_chain e way.0 way.1) in
-      let spelled : AllZip (StandsAt 1 (letters_in e)) way.0 word =
-      zip-through (IsWritten code (letters_in e)) code (StandsAt 1 (letters_in e)) stands way.0 letters word way.2 z in
-      let same : read.word ≡ word = zip-same (StandsAt 1 (letters_in e)) (λ place x y h k. stands_once 1 (letters_in e) place x y h k) way.0 read.word word read.spelled spelled in
-      let P : List L → Type 0 = λ w. Matches e w in
-      subst P same read.matched
+      let spelled : AllZip (StandsAt 1 (occurrences_in e)) way.0 word =
+      zip-through (IsWritten code (occurrences_in e)) code (StandsAt 1 (occurrences_in e)) stands way.0 letters word way.2 z in
+      word_spelled 1 e way.0 word (word_of_chain e way.0 way.1) spelled
     where
-      stands : (place a : ℕ) (x : L) → IsWritten code (letters_in e) place a → code x a → StandsAt 1 (letters_in e) place x
+      stands : (place a : ℕ) (x : L) → IsWritten code (occurrences_in e) place a → code x a → StandsAt 1 (occurrences_in e) place x
       stands place a x h c =
-          let r = letter_from_written code (letters_in e) place a h in
-          let P : L → Type 0 = λ y. StandsAt 1 (letters_in e) place y in
+          let r = letter_from_written code (occurrences_in e) place a h in
+          let P : L → Type 0 = λ y. StandsAt 1 (occurrences_in e) place y in
           subst P (once r.one x a r.written c) r.stands
 
 -- the table of an expression's letters accepts its matches

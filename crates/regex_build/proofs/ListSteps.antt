@@ -120,3 +120,43 @@ zip_at R [] (b ∷ ys) i x y h l = absurd h
 zip_at R (a ∷ xs) [] i x y h l = absurd h
 zip_at R (a ∷ xs) (b ∷ ys) zero x y h l = h.0
 zip_at R (a ∷ xs) (b ∷ ys) (suc i) x y h l = zip_at R xs ys i x y h.1 (omega arith)
+
+pub all_weaker : {X : Type 0} (P Q : X → Type 0) → ((x : X) → P x → Q x) → (xs : List X) → AllByRecursion P xs → AllByRecursion Q xs
+all_weaker P Q f [] h = tt
+all_weaker P Q f (x ∷ xs) h = (f x h.0, all_weaker P Q f xs h.1)
+
+-- what stands beside two lists, one behind the other
+pub record ZipParts {X Y : Type 0} (R : X → Y → Type 0) (xs us : List X) (ys : List Y) : Type 0 where
+  pub first : List Y
+  pub second : List Y
+  pub split : ys ≡ first ++ second
+  pub firsts : AllZip R xs first
+  pub seconds : AllZip R us second
+
+pub zip_parts : {X Y : Type 0} (R : X → Y → Type 0) (xs us : List X) (ys : List Y) → AllZip R (xs ++ us) ys → ZipParts R xs us ys
+zip_parts R [] us ys h = record { first = []; second = ys; split = refl; firsts = tt; seconds = h }
+zip_parts R (x ∷ xs) us [] h = absurd h
+zip_parts R (x ∷ xs) us (y ∷ ys) h =
+    let p = zip_parts R xs us ys h.1 in
+    record { first = y ∷ p.first; second = p.second; split = ap (λ v. y ∷ v) p.split; firsts = (h.0, p.firsts); seconds = p.seconds }
+
+pub zip_weaker_where : {X Y : Type 0} (P : X → Type 0) (R S : X → Y → Type 0) → ((x : X) (y : Y) → P x → R x y → S x y) → (xs : List X) (ys : List Y) → AllByRecursion P xs → AllZip R xs ys → AllZip S xs ys
+zip_weaker_where P R S f [] [] p h = tt
+zip_weaker_where P R S f [] (y ∷ ys) p h = absurd h
+zip_weaker_where P R S f (x ∷ xs) [] p h = absurd h
+zip_weaker_where P R S f (x ∷ xs) (y ∷ ys) p h = (f x y p.0 h.0, zip_weaker_where P R S f xs ys p.1 h.1)
+
+-- two lists that are the same have the same last element, and the same before it
+pub record SameEnds {X : Type 0} (xs : List X) (x : X) (ys : List X) (y : X) : Type 0 where
+  pub front : xs ≡ ys
+  pub last : x ≡ y
+
+pub same_ends : {X : Type 0} (xs : List X) (x : X) (ys : List X) (y : X) → xs ++ x ∷ [] ≡ ys ++ y ∷ [] → SameEnds xs x ys y
+same_ends [] x [] y h = record { front = refl; last = cc }
+same_ends [] x (z ∷ ys) y h = let e : [] ≡ ys ++ y ∷ [] = cc in absurd (middle_is_some ys y [] (sym e))
+same_ends (z ∷ xs) x [] y h = let e : xs ++ x ∷ [] ≡ [] = cc in absurd (middle_is_some xs x [] e)
+same_ends (z ∷ xs) x (t ∷ ys) y h =
+    let e : xs ++ x ∷ [] ≡ ys ++ y ∷ [] = cc in
+    let s = same_ends xs x ys y e in
+    let head : z ≡ t = cc in
+    record { front = ap (λ w. w ∷ xs) head ∙ ap (λ ws. t ∷ ws) s.front; last = s.last }

@@ -1,7 +1,7 @@
 -- Words over the places that pass through one place may be crossed there, so such a word is told by its pairs of neighbours.
 use Rattle.std.proofs.Common.{◌≡◌, ℕ, zero, suc, ◌+◌, List, [], ◌∷◌, ◌++◌, length, inl, inr, refl, sym, ap, ◌∙◌, subst, arith, append_assoc}
 use Rattle.std.specs.List.{AllByRecursion}
-use Rattle.regex_build.specs.Expression.{Expression, empty, letter, follow, star, letters_in, placed}
+use Rattle.regex_build.specs.Expression.{Expression, empty, letter, any, either, follow, star, plus, optional, occurrences_in, placed}
 use Rattle.regex_build.specs.Matches.{Matches, joined}
 use Rattle.regex_build.specs.Positions.{ComesNext, MayEnd}
 use Rattle.regex_build.proofs.ListSteps.{middle_is_some, middle_of_one, middle-append, all-append, joined-append}
@@ -46,6 +46,13 @@ crossed pieces first place last more =
     append_assoc (joined pieces) first (place ∷ (last ++ joined more))
     ∙ (ap (λ w. joined pieces ++ w) (sym (append_assoc first (place ∷ last) (joined more))) ∙ sym (joined-append pieces ((first ++ place ∷ last) ∷ more)))
 
+-- no place is one of two expressions one behind the other
+pub places_apart : {L : Type 0} (n : ℕ) (e f : Expression L) (u : List ℕ) (place : ℕ) (v s t : List ℕ) → Matches (placed n e) (u ++ place ∷ v) → Matches (placed (n + length (occurrences_in e)) f) (s ++ place ∷ t) → ⊥
+places_apart n e f u place v s t a b =
+    let w : IsWithin n (n + length (occurrences_in e)) place = place_within n e u place v a in
+    let x : IsWithin (n + length (occurrences_in e)) (n + length (occurrences_in e) + length (occurrences_in f)) place = place_within (n + length (occurrences_in e)) f s place t b in
+    omega arith
+
 -- two words through one place: the front of the one and the rest of the other
 pub merged : {L : Type 0} (n : ℕ) (e : Expression L) (place : ℕ) (u v s t : List ℕ) → Matches (placed n e) (u ++ place ∷ v) → Matches (placed n e) (s ++ place ∷ t) → Matches (placed n e) (u ++ place ∷ t)
 merged n empty place u v s t a b = absurd (middle_is_some u place v a)
@@ -56,6 +63,24 @@ merged n (letter x) place u v s t a b =
     let e2 : place ≡ n = p.same in
     let e3 : t ≡ [] = q.after in
     rw (e1, e2, e3) refl
+merged n any place u v s t a b =
+    let p = middle_of_one u place v n a in
+    let q = middle_of_one s place t n b in
+    let e1 : u ≡ [] = p.before in
+    let e2 : place ≡ n = p.same in
+    let e3 : t ≡ [] = q.after in
+    rw (e1, e2, e3) refl
+merged {L} n (either e f) place u v s t a b =
+    elim a [
+      | inl p ↦ elim b [
+        | inl q ↦ inl (merged n e place u v s t p q)
+        | inr q ↦ absurd (places_apart n e f u place v s t p q)
+      ]
+      | inr p ↦ elim b [
+        | inl q ↦ absurd (places_apart n e f s place t u v q p)
+        | inr q ↦ inr (merged (n + length (occurrences_in e)) f place u v s t p q)
+      ]
+    ]
 merged {L} n (follow e f) place u v s t a b =
     elim (middle-append u place v a.0 a.1 a.2) [
       | inl p ↦ elim (middle-append s place t b.0 b.1 b.2) [
@@ -67,26 +92,20 @@ merged {L} n (follow e f) place u v s t a b =
               merged n e place u p.rest s q.rest (subst P p.first a.3) (subst P q.first b.3),
               b.4,
             )
-        | inr q ↦ absurd (apart n e f u place p.rest q.rest t (let P : List ℕ → Type 0 = λ w. Matches (placed n e) w in subst P p.first a.3) (let Q : List ℕ → Type 0 = λ w. Matches (placed (n + length (letters_in e)) f) w in subst Q q.second b.4))
+        | inr q ↦ absurd (places_apart n e f u place p.rest q.rest t (let P : List ℕ → Type 0 = λ w. Matches (placed n e) w in subst P p.first a.3) (let Q : List ℕ → Type 0 = λ w. Matches (placed (n + length (occurrences_in e)) f) w in subst Q q.second b.4))
       ]
       | inr p ↦ elim (middle-append s place t b.0 b.1 b.2) [
-        | inl q ↦ absurd (apart n e f s place q.rest p.rest v (let P : List ℕ → Type 0 = λ w. Matches (placed n e) w in subst P q.first b.3) (let Q : List ℕ → Type 0 = λ w. Matches (placed (n + length (letters_in e)) f) w in subst Q p.second a.4))
+        | inl q ↦ absurd (places_apart n e f s place q.rest p.rest v (let P : List ℕ → Type 0 = λ w. Matches (placed n e) w in subst P q.first b.3) (let Q : List ℕ → Type 0 = λ w. Matches (placed (n + length (occurrences_in e)) f) w in subst Q p.second a.4))
         | inr q ↦
-            let Q : List ℕ → Type 0 = λ w. Matches (placed (n + length (letters_in e)) f) w in (
+            let Q : List ℕ → Type 0 = λ w. Matches (placed (n + length (occurrences_in e)) f) w in (
               a.0,
               p.rest ++ place ∷ t,
               ap (λ w. w ++ place ∷ t) p.before ∙ append_assoc a.0 p.rest (place ∷ t),
               a.3,
-              merged (n + length (letters_in e)) f place p.rest v q.rest t (subst Q p.second a.4) (subst Q q.second b.4),
+              merged (n + length (occurrences_in e)) f place p.rest v q.rest t (subst Q p.second a.4) (subst Q q.second b.4),
             )
       ]
     ]
-  where
-    apart : {L : Type 0} (n : ℕ) (e f : Expression L) (u : List ℕ) (place : ℕ) (v s t : List ℕ) → Matches (placed n e) (u ++ place ∷ v) → Matches (placed (n + length (letters_in e)) f) (s ++ place ∷ t) → ⊥
-    apart n e f u place v s t a b =
-        let w : IsWithin n (n + length (letters_in e)) place = place_within n e u place v a in
-        let x : IsWithin (n + length (letters_in e)) (n + length (letters_in e) + length (letters_in f)) place = place_within (n + length (letters_in e)) f s place t b in
-        omega arith
 merged {L} n (star e) place u v s t a b =
     let p = in_piece (Matches (placed n e)) a.0 u place v a.2 a.1 in
     let q = in_piece (Matches (placed n e)) b.0 s place t b.2 b.1 in (
@@ -94,6 +113,22 @@ merged {L} n (star e) place u v s t a b =
       ap (λ w. w ++ place ∷ t) p.before ∙ (ap (λ w. (joined p.pieces ++ p.first) ++ place ∷ w) q.after ∙ crossed p.pieces p.first place q.last q.more),
       all-append (Matches (placed n e)) p.pieces ((p.first ++ place ∷ q.last) ∷ q.more) p.all_before (merged n e place p.first p.last q.first q.last p.here q.here, q.all_after),
     )
+merged {L} n (plus e) place u v s t a b =
+    let p = in_piece (Matches (placed n e)) a.0 u place v a.3 a.2 in
+    let q = in_piece (Matches (placed n e)) b.0 s place t b.3 b.2 in (
+      p.pieces ++ (p.first ++ place ∷ q.last) ∷ q.more,
+      middle_is_some p.pieces (p.first ++ place ∷ q.last) q.more,
+      ap (λ w. w ++ place ∷ t) p.before ∙ (ap (λ w. (joined p.pieces ++ p.first) ++ place ∷ w) q.after ∙ crossed p.pieces p.first place q.last q.more),
+      all-append (Matches (placed n e)) p.pieces ((p.first ++ place ∷ q.last) ∷ q.more) p.all_before (merged n e place p.first p.last q.first q.last p.here q.here, q.all_after),
+    )
+merged {L} n (optional e) place u v s t a b =
+    elim a [
+      | inl p ↦ absurd (middle_is_some u place v p)
+      | inr p ↦ elim b [
+        | inl q ↦ absurd (middle_is_some s place t q)
+        | inr q ↦ inr (merged n e place u v s t p q)
+      ]
+    ]
 
 -- from state to state, each place coming next, to one where a word may end
 abbrev pub IsChain : Expression ℕ → ℕ → List ℕ → Type 0
@@ -103,7 +138,7 @@ IsChain e state (place ∷ places) = ComesNext e state place × IsChain e place 
 pub matches_from_chain : {L : Type 0} (e : Expression L) (i : ℕ) (u v w : List ℕ) → Matches (placed 1 e) (u ++ suc i ∷ v) → IsChain (placed 1 e) (suc i) w → Matches (placed 1 e) (u ++ suc i ∷ w)
 matches_from_chain e i u v [] m c = merged 1 e (suc i) u v c.0 [] m c.1
 matches_from_chain e i u v (zero ∷ w) m c =
-    let p : IsWithin 1 (1 + length (letters_in e)) 0 = place_within 1 e (c.0.0 ++ suc i ∷ []) 0 c.0.1 (let P : List ℕ → Type 0 = λ z. Matches (placed 1 e) z in subst P (sym (append_assoc c.0.0 (suc i ∷ []) (0 ∷ c.0.1))) c.0.2) in
+    let p : IsWithin 1 (1 + length (occurrences_in e)) 0 = place_within 1 e (c.0.0 ++ suc i ∷ []) 0 c.0.1 (let P : List ℕ → Type 0 = λ z. Matches (placed 1 e) z in subst P (sym (append_assoc c.0.0 (suc i ∷ []) (0 ∷ c.0.1))) c.0.2) in
     absurd (omega arith)
 matches_from_chain e i u v (suc k ∷ w) m c =
     let P : List ℕ → Type 0 = λ z. Matches (placed 1 e) z in
@@ -114,7 +149,7 @@ matches_from_chain e i u v (suc k ∷ w) m c =
 pub chain_from_matches : {L : Type 0} (e : Expression L) (i : ℕ) (u w : List ℕ) → Matches (placed 1 e) (u ++ suc i ∷ w) → IsChain (placed 1 e) (suc i) w
 chain_from_matches e i u [] m = (u, m)
 chain_from_matches e i u (zero ∷ w) m =
-    let p : IsWithin 1 (1 + length (letters_in e)) 0 = place_within 1 e (u ++ suc i ∷ []) 0 w (let P : List ℕ → Type 0 = λ z. Matches (placed 1 e) z in subst P (sym (append_assoc u (suc i ∷ []) (0 ∷ w))) m) in
+    let p : IsWithin 1 (1 + length (occurrences_in e)) 0 = place_within 1 e (u ++ suc i ∷ []) 0 w (let P : List ℕ → Type 0 = λ z. Matches (placed 1 e) z in subst P (sym (append_assoc u (suc i ∷ []) (0 ∷ w))) m) in
     absurd (omega arith)
 chain_from_matches e i u (suc k ∷ w) m =
     let P : List ℕ → Type 0 = λ z. Matches (placed 1 e) z in

@@ -1,19 +1,18 @@
 -- A text over sets has one answer.
-use Rattle.std.proofs.Common.{◌≡◌, ◌≢◌, ℕ, zero, suc, ◌+◌, ◌<◌, ◌≤◌, Bool, true, false, List, [], ◌∷◌, ◌++◌, length, inl, inr, refl, sym, ap, ◌∙◌, subst, arith, append_assoc, take, drop, get_or, replicate, cond, Result, Ok, Err}
-use Rattle.std.specs.Prelude.{ℤ, not}
-use Rattle.std.specs.List.{AllByRecursion}
-use Rattle.std.proofs.lemmas.Bool.{cases_lt, false≢true}
+use Rattle.std.proofs.Common.{◌≡◌, ℕ, zero, suc, ◌+◌, ◌<◌, ◌≤◌, List, [], ◌∷◌, ◌++◌, length, inl, inr, refl, sym, ap, ◌∙◌, subst, arith, append_assoc, take, drop, Ok, Err}
+use Rattle.std.specs.Prelude.{ℤ}
+use Rattle.std.proofs.lemmas.Bool.{cases_lt}
 use Rattle.std.proofs.lemmas.List.{take-append-drop, take-take, take_all}
-use Rattle.text_grammar.specs.Bytes.{is_blank}
 use Rattle.text_grammar.specs.Faults.{Begins, BreaksAt}
-use Rattle.regex_build.specs.declared.post.Post.{Post}
-use Rattle.regex_build.specs.declared.fault.RegexFault.{RegexFault}
-use Rattle.regex_build.specs.declared.fault.RegexFault.TheVariants.{Syntax, Number, Memory}
-use Rattle.regex_build.specs.Grammar.{marks, spelled, spelling, IsDigit, Spells}
+use Rattle.regex_build.specs.declared.fault.RegexFault.TheVariants.{Syntax, Number, Depth, Memory}
+use Rattle.regex_build.specs.Expression.{Expression}
+use Rattle.regex_build.specs.Tokens.{Token, bar, star, plus, optional, dot, opening, closing, bracket, comma, unbracket, digit, number, other}
+use Rattle.regex_build.specs.Spots.{tokens, byte_of}
+use Rattle.regex_build.specs.Grammar.{Spells}
 use Rattle.regex_build.specs.Patterns.{Pattern}
-use Rattle.regex_build.specs.Parsing.{IsMember, IsMemberPost, IsOfSet, IsForeign, Reads, Parses, ParsesNone, pattern_of, OneAnswer}
-use Rattle.regex_build.proofs.ListSteps.{all-append}
-use Rattle.regex_build.proofs.GrammarSteps.{IsDigitByte, spelling_head, digit_is_no_blank}
+use Rattle.regex_build.specs.Limits.{Around, nothing, behind, behind_all, IsAllowed, AreAllowed}
+use Rattle.regex_build.specs.Parsing.{token_at, IsNumber, IsOpening, IsStuckAt, IsRefusedAt, IsTextOf, OneAnswer}
+use Rattle.regex_build.proofs.Law.{one_tree}
 
 -- a front of what begins a text begins one
 begins_shorter : {X T : Type 0} (grammar : List X → T → Type 0) (text : List X) (i j : ℕ) → i ≤ j → Begins grammar (take j text) → Begins grammar (take i text)
@@ -43,124 +42,83 @@ breaks_once grammar text i j a b = elim (cases_lt i j) [
   | inr l ↦ elim (cases_lt j i) [ inl m ↦ absurd (not_before grammar text j i b a m) | inr m ↦ omega arith ]
 ]
 
--- what holds of each byte of a front holds of the byte at a place in it
-at_front : (P : ℕ → Type 0) (text : List ℕ) (i j : ℕ) → j < i → i ≤ length text → AllByRecursion P (take i text) → P (get_or text j 0)
-at_front P text zero j l m h = absurd (omega arith)
-at_front P [] (suc i) j l m h = absurd (omega arith)
-at_front P (b ∷ text) (suc i) zero l m h = h.0
-at_front P (b ∷ text) (suc i) (suc j) l m h = at_front P text i j (omega arith) (omega arith) h.1
+-- each token of a front is allowed
+allowed_at : (sets : List (List ℤ)) (a : Around) (ts : List Token) (i j : ℕ) → j < i → j < length ts → AreAllowed sets a (take i ts) → IsAllowed sets (behind_all a (take j ts)) (token_at ts j)
+allowed_at sets a ts zero j l m h = absurd (omega arith)
+allowed_at sets a [] (suc i) j l m h = absurd (omega arith)
+allowed_at sets a (t ∷ ts) (suc i) zero l m h = h.0
+allowed_at sets a (t ∷ ts) (suc i) (suc j) l m h = allowed_at sets (behind a t) ts i j (omega arith) (omega arith) h.1
 
-foreign_not_seen : (set : List ℤ) (byte : ℕ) → IsForeign set byte → IsOfSet set byte → ⊥
-foreign_not_seen set byte f s = f.3 (s f.0 f.1 f.2)
-
--- the digits of a text are those of its letters
-of_set_star : (set : List ℤ) (n : ℕ) → AllByRecursion (IsOfSet set) (replicate n 42)
-of_set_star set zero = tt
-of_set_star set (suc n) = ((λ d l e. absurd (omega arith)), of_set_star set n)
-
-of_set_spelling : (set : List ℤ) (posts : List (Post ℕ)) → AllByRecursion (IsMemberPost set) posts → AllByRecursion (IsOfSet set) (spelling posts)
-of_set_spelling set [] h = tt
-of_set_spelling set (p ∷ posts) h =
-    all-append (IsOfSet set) (spelled p) (spelling posts)
-    ((λ d l e. let same : p.letter ≡ d = omega arith in let P : ℕ → Type 0 = λ x. IsMember set x in subst P same h.0), of_set_star set p.stars)
-    (of_set_spelling set posts h.1)
-
-of_set_marks : (set : List ℤ) (text : List ℕ) → AllByRecursion (IsOfSet set) (marks text) → AllByRecursion (IsOfSet set) text
-of_set_marks set [] h = tt
-of_set_marks set (b ∷ text) h = from (is_blank b) refl h (λ k. of_set_marks set text k)
-  where
-    from : (c : Bool) → is_blank b ≡ c → AllByRecursion (IsOfSet set) (cond (not c) (b ∷ marks text) (marks text)) → (AllByRecursion (IsOfSet set) (marks text) → AllByRecursion (IsOfSet set) text) → IsOfSet set b × AllByRecursion (IsOfSet set) text
-    from true e h more = ((λ d l f. absurd (false≢true (sym (digit_is_no_blank d) ∙ (ap is_blank (sym f) ∙ e)))), more h)
-    from false e h more = (h.0, more h.1)
-
-pub seen_from_members : (set : List ℤ) (text : List ℕ) (posts : List (Post ℕ)) → Spells text posts → AllByRecursion (IsMemberPost set) posts → AllByRecursion (IsOfSet set) text
-seen_from_members set text posts s h = let P : List ℕ → Type 0 = λ w. AllByRecursion (IsOfSet set) w in of_set_marks set text (subst P (sym s.marks) (of_set_spelling set posts h))
-
--- what comes behind stars is no star
-abbrev pub NoStar : List ℕ → Type 0
-NoStar w = (v : List ℕ) → w ≡ 42 ∷ v → ⊥
-
-spelling_no_star : (posts : List (Post ℕ)) → AllByRecursion IsDigit posts → NoStar (spelling posts)
-spelling_no_star posts all v h = let d : IsDigitByte 42 = spelling_head posts 42 v all h in let l : 48 ≤ 42 = d.low in omega arith
-
-same_stars : (m n : ℕ) (u v : List ℕ) → NoStar u → NoStar v → replicate m 42 ++ u ≡ replicate n 42 ++ v → (m ≡ n) × (u ≡ v)
-same_stars zero zero u v a b h = (refl, h)
-same_stars zero (suc n) u v a b h = absurd (a (replicate n 42 ++ v) h)
-same_stars (suc m) zero u v a b h = absurd (b (replicate m 42 ++ u) (sym h))
-same_stars (suc m) (suc n) u v a b h = let e : replicate m 42 ++ u ≡ replicate n 42 ++ v = cc in let r = same_stars m n u v a b e in (ap suc r.0, r.1)
-
-same_posts : (p q : Post ℕ) → p.letter ≡ q.letter → p.stars ≡ q.stars → p ≡ q
-same_posts p q e f =
-    ap (λ (d : ℕ). let r : Post ℕ = record { letter = d; stars = p.stars } in r) e ∙ ap (λ (n : ℕ). let r : Post ℕ = record { letter = q.letter; stars = n } in r) f
-
--- a spelling has one list of letters
-one_spelling : (p q : List (Post ℕ)) → AllByRecursion IsDigit p → AllByRecursion IsDigit q → spelling p ≡ spelling q → p ≡ q
-one_spelling [] [] a b h = refl
-one_spelling [] (y ∷ q) a b h = cc
-one_spelling (x ∷ p) [] a b h = cc
-one_spelling (x ∷ p) (y ∷ q) a b h =
-    let first : 48 + x.letter ≡ 48 + y.letter = cc in
-    let rest : replicate x.stars 42 ++ spelling p ≡ replicate y.stars 42 ++ spelling q = cc in
-    let r = same_stars x.stars y.stars (spelling p) (spelling q) (spelling_no_star p a.1) (spelling_no_star q b.1) rest in
-    let e : p ≡ q = one_spelling p q a.1 b.1 r.1 in
-    ap (λ z. z ∷ p) (same_posts x y (omega arith) r.0) ∙ ap (λ zs. y ∷ zs) e
-
-pub spells_once : (text : List ℕ) (p q : List (Post ℕ)) → Spells text p → Spells text q → p ≡ q
-spells_once text p q a b = one_spelling p q a.digits b.digits (sym a.marks ∙ b.marks)
-
--- the faults of a text exclude each other and its letters
-no_syntax : (set : List ℤ) (text : List ℕ) (posts : List (Post ℕ)) (i : ℕ) → Reads set text (Ok posts) → Reads set text (Err (Syntax i)) → ⊥
-no_syntax set text posts i a b = breaks_nowhere Spells text i posts b.0 a.0
-
-no_number : (set : List ℤ) (text : List ℕ) (posts : List (Post ℕ)) (i : ℕ) → Reads set text (Ok posts) → Reads set text (Err (Number i)) → ⊥
-no_number set text posts i a b =
-    let P : List ℕ → Type 0 = λ w. AllByRecursion (IsOfSet set) w in
-    let seen : AllByRecursion (IsOfSet set) (take (length text) text) = subst P (sym (take_all (length text) text (omega arith))) (seen_from_members set text posts a.0 a.1) in
-    foreign_not_seen set (get_or text i 0) b.0.foreign (at_front (IsOfSet set) text (length text) i b.0.within (omega arith) seen)
-
-no_both : (set : List ℤ) (text : List ℕ) (i j : ℕ) → Reads set text (Err (Syntax i)) → Reads set text (Err (Number j)) → ⊥
-no_both set text i j a b =
-    let w : i ≤ length text = a.0.within in
-    let x : j < length text = b.0.within in
+not_both : (sets : List (List ℤ)) (ts : List Token) (i j : ℕ) → IsStuckAt sets ts i → IsRefusedAt sets ts j → ⊥
+not_both sets ts i j a b =
+    let x : j < length ts = b.within in
     elim (cases_lt j i) [
-      | inl l ↦ foreign_not_seen set (get_or text j 0) b.0.foreign (at_front (IsOfSet set) text i j l w a.1)
-      | inr l ↦ a.0.there (omega arith) (begins_shorter Spells text (i + 1) (j + 1) (omega arith) b.0.before)
+      | inl l ↦ b.refused (allowed_at sets nothing ts i j l x a.before)
+      | inr l ↦ a.breaks.there (omega arith) (begins_shorter (Spells (length sets)) ts (i + 1) (j + 1) (omega arith) b.begins)
     ]
 
-one_number : (set : List ℤ) (text : List ℕ) (i j : ℕ) → Reads set text (Err (Number i)) → Reads set text (Err (Number j)) → i ≡ j
-one_number set text i j a b =
-    let w : i < length text = a.0.within in
-    let x : j < length text = b.0.within in
+refused_once : (sets : List (List ℤ)) (ts : List Token) (i j : ℕ) → IsRefusedAt sets ts i → IsRefusedAt sets ts j → i ≡ j
+refused_once sets ts i j a b =
     elim (cases_lt i j) [
-      | inl l ↦ absurd (foreign_not_seen set (get_or text i 0) a.0.foreign (at_front (IsOfSet set) text j i l (omega arith) b.1))
-      | inr l ↦ elim (cases_lt j i) [ inl m ↦ absurd (foreign_not_seen set (get_or text j 0) b.0.foreign (at_front (IsOfSet set) text i j m (omega arith) a.1)) | inr m ↦ omega arith ]
+      | inl l ↦ absurd (a.refused (allowed_at sets nothing ts j i l a.within b.before))
+      | inr l ↦ elim (cases_lt j i) [ inl m ↦ absurd (b.refused (allowed_at sets nothing ts i j m b.within a.before)) | inr m ↦ omega arith ]
     ]
 
-one_none : (text : List ℕ) (r s : Result Pattern RegexFault) → ParsesNone text r → ParsesNone text s → r ≢ Err Memory → s ≢ Err Memory → r ≡ s
-one_none text (Ok x) s a b m n = absurd a
-one_none text (Err (Syntax i)) (Ok y) a b m n = absurd b
-one_none text (Err (Syntax i)) (Err (Syntax j)) a b m n = ap (λ k. Err (Syntax k)) (a ∙ sym b)
-one_none text (Err (Syntax i)) (Err (Number j)) a b m n = absurd b
-one_none text (Err (Syntax i)) (Err Memory) a b m n = absurd (n refl)
-one_none text (Err (Number i)) s a b m n = absurd a
-one_none text (Err Memory) s a b m n = absurd (m refl)
+one_kind : (t : Token) → IsNumber t → IsOpening t → ⊥
+one_kind (digit d) h k = k
+one_kind (number z) h k = k
+one_kind opening h k = h
+one_kind bar h k = h
+one_kind star h k = h
+one_kind plus h k = h
+one_kind optional h k = h
+one_kind dot h k = h
+one_kind closing h k = h
+one_kind bracket h k = h
+one_kind comma h k = h
+one_kind unbracket h k = h
+one_kind other h k = h
 
-one_over : (set : List ℤ) (text : List ℕ) (r s : Result Pattern RegexFault) → Parses (set ∷ []) text r → Parses (set ∷ []) text s → r ≢ Err Memory → s ≢ Err Memory → r ≡ s
-one_over set text (Ok x) (Ok y) a b m n = ap Ok (a.2 ∙ (ap (λ posts. pattern_of set posts) (spells_once text a.0 b.0 a.1.0 b.1.0) ∙ sym b.2))
-one_over set text (Ok x) (Err (Syntax j)) a b m n = absurd (no_syntax set text a.0 j a.1 b)
-one_over set text (Ok x) (Err (Number j)) a b m n = absurd (no_number set text a.0 j a.1 b)
-one_over set text (Ok x) (Err Memory) a b m n = absurd (n refl)
-one_over set text (Err (Syntax i)) (Ok y) a b m n = absurd (no_syntax set text b.0 i b.1 a)
-one_over set text (Err (Syntax i)) (Err (Syntax j)) a b m n = ap (λ k. Err (Syntax k)) (breaks_once Spells text i j a.0 b.0)
-one_over set text (Err (Syntax i)) (Err (Number j)) a b m n = absurd (no_both set text i j a b)
-one_over set text (Err (Syntax i)) (Err Memory) a b m n = absurd (n refl)
-one_over set text (Err (Number i)) (Ok y) a b m n = absurd (no_number set text b.0 i b.1 a)
-one_over set text (Err (Number i)) (Err (Syntax j)) a b m n = absurd (no_both set text j i b a)
-one_over set text (Err (Number i)) (Err (Number j)) a b m n = ap (λ k. Err (Number k)) (one_number set text i j a b)
-one_over set text (Err (Number i)) (Err Memory) a b m n = absurd (n refl)
-one_over set text (Err Memory) s a b m n = absurd (m refl)
+-- a text of an expression is at fault nowhere
+none_stuck : (sets : List (List ℤ)) (text : List ℕ) (p : Pattern) (i : ℕ) → IsTextOf sets text p → IsStuckAt sets (tokens text) i → ⊥
+none_stuck sets text p i h k = breaks_nowhere (Spells (length sets)) (tokens text) i p.tree k.breaks h.spells
+
+none_refused : (sets : List (List ℤ)) (text : List ℕ) (p : Pattern) (i : ℕ) → IsTextOf sets text p → IsRefusedAt sets (tokens text) i → ⊥
+none_refused sets text p i h k =
+    k.refused (allowed_at sets nothing (tokens text) (length (tokens text)) i k.within k.within (subst (AreAllowed sets nothing) (sym (take_all (length (tokens text)) (tokens text) (omega arith))) h.allowed))
+
+same_pattern : (sets : List (List ℤ)) (text : List ℕ) (p q : Pattern) → IsTextOf sets text p → IsTextOf sets text q → p ≡ q
+same_pattern sets text p q h k =
+    ap (λ s. let x : Pattern = record { sets = s; tree = p.tree } in x) (h.sets_are ∙ sym k.sets_are)
+    ∙ ap (λ (t : Expression (List ℤ)). let x : Pattern = record { sets = q.sets; tree = t } in x) (one_tree (length sets) (tokens text) p.tree q.tree h.spells k.spells)
+
+same_byte : (text : List ℕ) (a b i j : ℕ) → a ≡ byte_of text i → b ≡ byte_of text j → i ≡ j → a ≡ b
+same_byte text a b i j e f g = e ∙ (ap (byte_of text) g ∙ sym f)
 
 pub one_parse : OneAnswer
-one_parse [] text r s a b m n = one_none text r s a b m n
-one_parse (set ∷ []) text r s a b m n = one_over set text r s a b m n
-one_parse (set ∷ other ∷ sets) text r s a b m n = one_none text r s a b m n
+one_parse sets text (Ok p) (Ok q) a b m n = ap Ok (same_pattern sets text p q a b)
+one_parse sets text (Ok p) (Err (Syntax j)) a b m n = absurd (none_stuck sets text p b.0 a b.2)
+one_parse sets text (Ok p) (Err (Number j)) a b m n = absurd (none_refused sets text p b.0 a b.2)
+one_parse sets text (Ok p) (Err (Depth j)) a b m n = absurd (none_refused sets text p b.0 a b.2)
+one_parse sets text (Ok p) (Err Memory) a b m n = absurd (n refl)
+one_parse sets text (Err (Syntax i)) (Ok q) a b m n = absurd (none_stuck sets text q a.0 b a.2)
+one_parse sets text (Err (Syntax i)) (Err (Syntax j)) a b m n =
+    ap (λ k. Err (Syntax k)) (same_byte text i j a.0 b.0 a.1 b.1 (breaks_once (Spells (length sets)) (tokens text) a.0 b.0 a.2.breaks b.2.breaks))
+one_parse sets text (Err (Syntax i)) (Err (Number j)) a b m n = absurd (not_both sets (tokens text) a.0 b.0 a.2 b.2)
+one_parse sets text (Err (Syntax i)) (Err (Depth j)) a b m n = absurd (not_both sets (tokens text) a.0 b.0 a.2 b.2)
+one_parse sets text (Err (Syntax i)) (Err Memory) a b m n = absurd (n refl)
+one_parse sets text (Err (Number i)) (Ok q) a b m n = absurd (none_refused sets text q a.0 b a.2)
+one_parse sets text (Err (Number i)) (Err (Syntax j)) a b m n = absurd (not_both sets (tokens text) b.0 a.0 b.2 a.2)
+one_parse sets text (Err (Number i)) (Err (Number j)) a b m n =
+    ap (λ k. Err (Number k)) (same_byte text i j a.0 b.0 a.1 b.1 (refused_once sets (tokens text) a.0 b.0 a.2 b.2))
+one_parse sets text (Err (Number i)) (Err (Depth j)) a b m n =
+    absurd (one_kind (token_at (tokens text) b.0) (subst (λ k. IsNumber (token_at (tokens text) k)) (refused_once sets (tokens text) a.0 b.0 a.2 b.2) a.3) b.3)
+one_parse sets text (Err (Number i)) (Err Memory) a b m n = absurd (n refl)
+one_parse sets text (Err (Depth i)) (Ok q) a b m n = absurd (none_refused sets text q a.0 b a.2)
+one_parse sets text (Err (Depth i)) (Err (Syntax j)) a b m n = absurd (not_both sets (tokens text) b.0 a.0 b.2 a.2)
+one_parse sets text (Err (Depth i)) (Err (Number j)) a b m n =
+    absurd (one_kind (token_at (tokens text) b.0) b.3 (subst (λ k. IsOpening (token_at (tokens text) k)) (refused_once sets (tokens text) a.0 b.0 a.2 b.2) a.3))
+one_parse sets text (Err (Depth i)) (Err (Depth j)) a b m n =
+    ap (λ k. Err (Depth k)) (same_byte text i j a.0 b.0 a.1 b.1 (refused_once sets (tokens text) a.0 b.0 a.2 b.2))
+one_parse sets text (Err (Depth i)) (Err Memory) a b m n = absurd (n refl)
+one_parse sets text (Err Memory) s a b m n = absurd (m refl)

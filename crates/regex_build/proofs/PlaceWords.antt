@@ -1,141 +1,281 @@
 -- Words over the places of an expression, and the words that they spell.
-use Rattle.std.proofs.Common.{◌≡◌, ℕ, ◌+◌, ◌<◌, ◌≤◌, List, [], ◌∷◌, ◌++◌, length, ◌⊎◌, inl, inr, refl, sym, ap, ◌∙◌, subst, arith}
+use Rattle.std.proofs.Common.{◌≡◌, ◌≢◌, ℕ, ◌+◌, ◌<◌, ◌≤◌, List, [], ◌∷◌, ◌++◌, length, ◌⊎◌, inl, inr, refl, sym, ap, ◌∙◌, subst, arith, Option, None, Some}
 use Rattle.std.specs.List.{AllByRecursion, AllZip}
-use Rattle.regex_build.specs.Expression.{Expression, empty, letter, follow, star, letters_in, placed}
+use Rattle.std.proofs.lemmas.List.{length-append}
+use Rattle.regex_build.specs.Expression.{Expression, empty, letter, any, either, follow, star, plus, optional, occurrences_in, placed}
 use Rattle.regex_build.specs.Matches.{Matches, joined}
-use Rattle.regex_build.proofs.ListSteps.{zip-append, zip-weaker}
+use Rattle.regex_build.proofs.ListSteps.{all-append, zip-append, zip-weaker, all_weaker, zip_parts, zip_weaker_where}
 
--- an element stands at a place of a list whose first place is n
-abbrev pub StandsAt : {L : Type 0} → ℕ → List L → ℕ → L → Type 0
+-- the letter may stand at the occurrence
+abbrev pub Allows : {L : Type 0} → Option L → L → Type 0
+Allows (Some y) x = y ≡ x
+Allows {L} None x = Unit {0}
+
+-- the letter may stand at a place of a list of occurrences whose first place is n
+abbrev pub StandsAt : {L : Type 0} → ℕ → List (Option L) → ℕ → L → Type 0
 StandsAt n [] place x = ⊥
-StandsAt n (y ∷ ys) place x = ((place ≡ n) × (y ≡ x)) ⊎ StandsAt (n + 1) ys place x
+StandsAt n (o ∷ os) place x = ((place ≡ n) × Allows o x) ⊎ StandsAt (n + 1) os place x
 
 pub record IsWithin (low high place : ℕ) : Type 0 where
   pub low_le : low ≤ place
   pub below : place < high
 
-pub stands_within : {L : Type 0} (n : ℕ) (xs : List L) (place : ℕ) (x : L) → StandsAt n xs place x → IsWithin n (n + length xs) place
+within_wider : (low high less more : ℕ) → less ≤ low → high ≤ more → (place : ℕ) → IsWithin low high place → IsWithin less more place
+within_wider low high less more h k place w = let a : low ≤ place = w.low_le in let b : place < high = w.below in record { low_le = omega arith; below = omega arith }
+
+stands_within : {L : Type 0} (n : ℕ) (os : List (Option L)) (place : ℕ) (x : L) → StandsAt n os place x → IsWithin n (n + length os) place
 stands_within n [] place x h = absurd h
-stands_within n (y ∷ ys) place x h =
+stands_within n (o ∷ os) place x h =
     elim h [
       | inl p ↦ let e : place ≡ n = p.0 in record { low_le = omega arith; below = omega arith }
-      | inr q ↦ let w : IsWithin (n + 1) (n + 1 + length ys) place = stands_within (n + 1) ys place x q in record { low_le = omega arith; below = omega arith }
+      | inr q ↦ let w : IsWithin (n + 1) (n + 1 + length os) place = stands_within (n + 1) os place x q in record { low_le = omega arith; below = omega arith }
     ]
 
-pub stands_once : {L : Type 0} (n : ℕ) (xs : List L) (place : ℕ) (x y : L) → StandsAt n xs place x → StandsAt n xs place y → x ≡ y
-stands_once n [] place x y h k = absurd h
-stands_once n (z ∷ zs) place x y h k =
-    elim h [
-      | inl p ↦ elim k [
-        | inl q ↦ sym p.1 ∙ q.1
-        | inr q ↦ let e : place ≡ n = p.0 in let w : IsWithin (n + 1) (n + 1 + length zs) place = stands_within (n + 1) zs place y q in absurd (omega arith)
-      ]
-      | inr p ↦ elim k [
-        | inl q ↦ let e : place ≡ n = q.0 in let w : IsWithin (n + 1) (n + 1 + length zs) place = stands_within (n + 1) zs place x p in absurd (omega arith)
-        | inr q ↦ stands_once (n + 1) zs place x y p q
-      ]
-    ]
+-- of two lists of occurrences one behind the other
+pub stands_left : {L : Type 0} (n : ℕ) (os ps : List (Option L)) (place : ℕ) (x : L) → StandsAt n os place x → StandsAt n (os ++ ps) place x
+stands_left n [] ps place x h = absurd h
+stands_left n (o ∷ os) ps place x h =
+    elim h [ inl p ↦ inl p | inr q ↦ inr (stands_left (n + 1) os ps place x q) ]
 
-pub stands_left : {L : Type 0} (n : ℕ) (xs ys : List L) (place : ℕ) (x : L) → StandsAt n xs place x → StandsAt n (xs ++ ys) place x
-stands_left n [] ys place x h = absurd h
-stands_left n (z ∷ zs) ys place x h =
-    elim h [ inl p ↦ inl p | inr q ↦ inr (stands_left (n + 1) zs ys place x q) ]
-
-pub stands_right : {L : Type 0} (n : ℕ) (xs ys : List L) (place : ℕ) (x : L) → StandsAt (n + length xs) ys place x → StandsAt n (xs ++ ys) place x
-stands_right n [] ys place x h =
+pub stands_right : {L : Type 0} (n : ℕ) (os ps : List (Option L)) (place : ℕ) (x : L) → StandsAt (n + length os) ps place x → StandsAt n (os ++ ps) place x
+stands_right n [] ps place x h =
     let e : n + 0 ≡ n = omega arith in
-    let P : ℕ → Type 0 = λ m. StandsAt m ys place x in
+    let P : ℕ → Type 0 = λ m. StandsAt m ps place x in
     subst P e h
-stands_right n (z ∷ zs) ys place x h =
-    let e : n + length (z ∷ zs) ≡ n + 1 + length zs = omega arith in
-    let P : ℕ → Type 0 = λ m. StandsAt m ys place x in
-    inr (stands_right (n + 1) zs ys place x (subst P e h))
+stands_right n (o ∷ os) ps place x h =
+    let e : n + length (o ∷ os) ≡ n + 1 + length os = omega arith in
+    let P : ℕ → Type 0 = λ m. StandsAt m ps place x in
+    inr (stands_right (n + 1) os ps place x (subst P e h))
+
+stands_cases : {L : Type 0} (n : ℕ) (os ps : List (Option L)) (place : ℕ) (x : L) → StandsAt n (os ++ ps) place x → StandsAt n os place x ⊎ StandsAt (n + length os) ps place x
+stands_cases n [] ps place x h =
+    let e : n ≡ n + 0 = omega arith in
+    let P : ℕ → Type 0 = λ m. StandsAt m ps place x in
+    inr (subst P e h)
+stands_cases n (o ∷ os) ps place x h =
+    elim h [
+      | inl p ↦ inl (inl p)
+      | inr q ↦ elim (stands_cases (n + 1) os ps place x q) [
+        | inl l ↦ inl (inr l)
+        | inr r ↦
+            let e : n + 1 + length os ≡ n + length (o ∷ os) = omega arith in
+            let P : ℕ → Type 0 = λ m. StandsAt m ps place x in
+            inr (subst P e r)
+      ]
+    ]
+
+pub stands_in_left : {L : Type 0} (n : ℕ) (os ps : List (Option L)) (place : ℕ) (x : L) → IsWithin n (n + length os) place → StandsAt n (os ++ ps) place x → StandsAt n os place x
+stands_in_left n os ps place x w h =
+    elim (stands_cases n os ps place x h) [
+      | inl l ↦ l
+      | inr r ↦ let v : IsWithin (n + length os) (n + length os + length ps) place = stands_within (n + length os) ps place x r in absurd (omega arith)
+    ]
+
+pub stands_in_right : {L : Type 0} (n : ℕ) (os ps : List (Option L)) (place high : ℕ) (x : L) → IsWithin (n + length os) high place → StandsAt n (os ++ ps) place x → StandsAt (n + length os) ps place x
+stands_in_right n os ps place high x w h =
+    elim (stands_cases n os ps place x h) [
+      | inl l ↦ let v : IsWithin n (n + length os) place = stands_within n os place x l in absurd (omega arith)
+      | inr r ↦ r
+    ]
+
+-- the places of a word that is matched are those of the expression
+abbrev pub AreWithin : ℕ → ℕ → List ℕ → Type 0
+AreWithin low high places = AllByRecursion (IsWithin low high) places
+
+within_of_pieces : (low high : ℕ) (pieces : List (List ℕ)) → AllByRecursion (AreWithin low high) pieces → AreWithin low high (joined pieces)
+within_of_pieces low high [] h = tt
+within_of_pieces low high (piece ∷ pieces) h = all-append (IsWithin low high) piece (joined pieces) h.0 (within_of_pieces low high pieces h.1)
+
+pub places_within : {L : Type 0} (n : ℕ) (e : Expression L) (w : List ℕ) → Matches (placed n e) w → AreWithin n (n + length (occurrences_in e)) w
+places_within n empty w m = let P : List ℕ → Type 0 = λ v. AreWithin n (n + 0) v in subst P (sym m) tt
+places_within n (letter x) w m = let P : List ℕ → Type 0 = λ v. AreWithin n (n + 1) v in subst P (sym m) (record { low_le = omega arith; below = omega arith }, tt)
+places_within n any w m = let P : List ℕ → Type 0 = λ v. AreWithin n (n + 1) v in subst P (sym m) (record { low_le = omega arith; below = omega arith }, tt)
+places_within n (either e f) w m =
+    let l : length (occurrences_in e ++ occurrences_in f) ≡ length (occurrences_in e) + length (occurrences_in f) = length-append (occurrences_in e) (occurrences_in f) in
+    let high : ℕ = n + length (occurrences_in e ++ occurrences_in f) in
+    elim m [
+      | inl h ↦ all_weaker (IsWithin n (n + length (occurrences_in e))) (IsWithin n high) (within_wider n (n + length (occurrences_in e)) n high (omega arith) (omega arith)) w (places_within n e w h)
+      | inr h ↦ all_weaker (IsWithin (n + length (occurrences_in e)) (n + length (occurrences_in e) + length (occurrences_in f))) (IsWithin n high)
+          (within_wider (n + length (occurrences_in e)) (n + length (occurrences_in e) + length (occurrences_in f)) n high (omega arith) (omega arith)) w (places_within (n + length (occurrences_in e)) f w h)
+    ]
+places_within n (follow e f) w m =
+    let l : length (occurrences_in e ++ occurrences_in f) ≡ length (occurrences_in e) + length (occurrences_in f) = length-append (occurrences_in e) (occurrences_in f) in
+    let high : ℕ = n + length (occurrences_in e ++ occurrences_in f) in
+    let P : List ℕ → Type 0 = λ v. AreWithin n high v in
+    subst P (sym m.2) (all-append (IsWithin n high) m.0 m.1
+    (all_weaker (IsWithin n (n + length (occurrences_in e))) (IsWithin n high) (within_wider n (n + length (occurrences_in e)) n high (omega arith) (omega arith)) m.0 (places_within n e m.0 m.3))
+    (all_weaker (IsWithin (n + length (occurrences_in e)) (n + length (occurrences_in e) + length (occurrences_in f))) (IsWithin n high)
+    (within_wider (n + length (occurrences_in e)) (n + length (occurrences_in e) + length (occurrences_in f)) n high (omega arith) (omega arith)) m.1 (places_within (n + length (occurrences_in e)) f m.1 m.4)))
+places_within n (star e) w m =
+    let P : List ℕ → Type 0 = λ v. AreWithin n (n + length (occurrences_in e)) v in
+    subst P (sym m.1) (within_of_pieces n (n + length (occurrences_in e)) m.0 (all_weaker (Matches (placed n e)) (AreWithin n (n + length (occurrences_in e))) (places_within n e) m.0 m.2))
+places_within n (plus e) w m =
+    let P : List ℕ → Type 0 = λ v. AreWithin n (n + length (occurrences_in e)) v in
+    subst P (sym m.2) (within_of_pieces n (n + length (occurrences_in e)) m.0 (all_weaker (Matches (placed n e)) (AreWithin n (n + length (occurrences_in e))) (places_within n e) m.0 m.3))
+places_within n (optional e) w m =
+    elim m [
+      | inl h ↦ let P : List ℕ → Type 0 = λ v. AreWithin n (n + length (occurrences_in e)) v in subst P (sym h) tt
+      | inr h ↦ places_within n e w h
+    ]
+
+within_in_middle : (low high : ℕ) (u : List ℕ) (place : ℕ) (v : List ℕ) → AreWithin low high (u ++ place ∷ v) → IsWithin low high place
+within_in_middle low high [] place v h = h.0
+within_in_middle low high (x ∷ u) place v h = within_in_middle low high u place v h.1
+
+pub place_within : {L : Type 0} (n : ℕ) (e : Expression L) (u : List ℕ) (place : ℕ) (v : List ℕ) → Matches (placed n e) (u ++ place ∷ v) → IsWithin n (n + length (occurrences_in e)) place
+place_within n e u place v m = within_in_middle n (n + length (occurrences_in e)) u place v (places_within n e (u ++ place ∷ v) m)
 
 -- a word over the places that spells a word
 pub record HasPlaces {L : Type 0} (n : ℕ) (e : Expression L) (word : List L) : Type 0 where
   pub places : List ℕ
   pub matched : Matches (placed n e) places
-  pub spelled : AllZip (StandsAt n (letters_in e)) places word
+  pub spelled : AllZip (StandsAt n (occurrences_in e)) places word
 
-pub places_of_pieces : {L : Type 0} (n : ℕ) (e : Expression L) → ((word : List L) → Matches e word → HasPlaces n e word)
-    → (pieces : List (List L)) → AllByRecursion (Matches e) pieces → HasPlaces n (star e) (joined pieces)
-places_of_pieces n e each [] all = record { places = []; matched = ([], refl, tt); spelled = tt }
+-- words over the places, that spell the pieces of a word
+record HasPieces {L : Type 0} (n : ℕ) (e : Expression L) (pieces : List (List L)) : Type 0 where
+  pub words : List (List ℕ)
+  pub matched : AllByRecursion (Matches (placed n e)) words
+  pub spelled : AllZip (StandsAt n (occurrences_in e)) (joined words) (joined pieces)
+  pub some : pieces ≢ [] → words ≢ []
+
+places_of_pieces : {L : Type 0} (n : ℕ) (e : Expression L) → ((word : List L) → Matches e word → HasPlaces n e word)
+    → (pieces : List (List L)) → AllByRecursion (Matches e) pieces → HasPieces n e pieces
+places_of_pieces n e each [] all = record { words = []; matched = tt; spelled = tt; some = λ h k. h refl }
 places_of_pieces n e each (piece ∷ pieces) all =
     let a = each piece all.0 in
     let b = places_of_pieces n e each pieces all.1 in
     record {
-      places = a.places ++ b.places;
-      matched = (a.places ∷ b.matched.0, ap (λ w. a.places ++ w) b.matched.1, (a.matched, b.matched.2));
-      spelled = zip-append (StandsAt n (letters_in e)) a.places piece b.places (joined pieces) a.spelled b.spelled;
+      words = a.places ∷ b.words;
+      matched = (a.matched, b.matched);
+      spelled = zip-append (StandsAt n (occurrences_in e)) a.places piece (joined b.words) (joined pieces) a.spelled b.spelled;
+      some = λ h k. cc;
     }
 
+spelled_left : {L : Type 0} (n : ℕ) (e f : Expression L) (places : List ℕ) (word : List L) → AllZip (StandsAt n (occurrences_in e)) places word → AllZip (StandsAt n (occurrences_in e ++ occurrences_in f)) places word
+spelled_left n e f places word z =
+    zip-weaker (StandsAt n (occurrences_in e)) (StandsAt n (occurrences_in e ++ occurrences_in f)) (λ place x h. stands_left n (occurrences_in e) (occurrences_in f) place x h) places word z
+
+spelled_right : {L : Type 0} (n : ℕ) (e f : Expression L) (places : List ℕ) (word : List L) → AllZip (StandsAt (n + length (occurrences_in e)) (occurrences_in f)) places word → AllZip (StandsAt n (occurrences_in e ++ occurrences_in f)) places word
+spelled_right n e f places word z =
+    zip-weaker (StandsAt (n + length (occurrences_in e)) (occurrences_in f)) (StandsAt n (occurrences_in e ++ occurrences_in f)) (λ place x h. stands_right n (occurrences_in e) (occurrences_in f) place x h) places word z
+
+-- a word that is matched is spelled by a word over the places
 pub places_of : {L : Type 0} (n : ℕ) (e : Expression L) (word : List L) → Matches e word → HasPlaces n e word
 places_of {L} n empty word m = let P : List L → Type 0 = λ w. HasPlaces n empty w in subst P (sym m) (record { places = []; matched = refl; spelled = tt })
 places_of {L} n (letter x) word m =
     let P : List L → Type 0 = λ w. HasPlaces n (letter x) w in
     subst P (sym m) (record { places = n ∷ []; matched = refl; spelled = (inl (refl, refl), tt) })
+places_of {L} n any word m =
+    let P : List L → Type 0 = λ w. HasPlaces n any w in
+    subst P (sym m.1) (record { places = n ∷ []; matched = refl; spelled = (inl (refl, tt), tt) })
+places_of {L} n (either e f) word m =
+    elim m [
+      | inl h ↦ let a = places_of n e word h in record { places = a.places; matched = inl a.matched; spelled = spelled_left n e f a.places word a.spelled }
+      | inr h ↦ let a = places_of (n + length (occurrences_in e)) f word h in record { places = a.places; matched = inr a.matched; spelled = spelled_right n e f a.places word a.spelled }
+    ]
 places_of {L} n (follow e f) word m =
     let P : List L → Type 0 = λ w. HasPlaces n (follow e f) w in
     let a = places_of n e m.0 m.3 in
-    let b = places_of (n + length (letters_in e)) f m.1 m.4 in
+    let b = places_of (n + length (occurrences_in e)) f m.1 m.4 in
     subst P (sym m.2) (record {
       places = a.places ++ b.places;
       matched = (a.places, b.places, refl, a.matched, b.matched);
-      spelled = zip-append (StandsAt n (letters_in e ++ letters_in f)) a.places m.0 b.places m.1
-          (zip-weaker (StandsAt n (letters_in e)) (StandsAt n (letters_in e ++ letters_in f)) (λ place x h. stands_left n (letters_in e) (letters_in f) place x h) a.places m.0 a.spelled)
-          (zip-weaker (StandsAt (n + length (letters_in e)) (letters_in f)) (StandsAt n (letters_in e ++ letters_in f)) (λ place x h. stands_right n (letters_in e) (letters_in f) place x h) b.places m.1 b.spelled);
+      spelled = zip-append (StandsAt n (occurrences_in e ++ occurrences_in f)) a.places m.0 b.places m.1 (spelled_left n e f a.places m.0 a.spelled) (spelled_right n e f b.places m.1 b.spelled);
     })
 places_of {L} n (star e) word m =
     let P : List L → Type 0 = λ w. HasPlaces n (star e) w in
-    subst P (sym m.1) (places_of_pieces n e (places_of n e) m.0 m.2)
+    let a = places_of_pieces n e (places_of n e) m.0 m.2 in
+    subst P (sym m.1) (record { places = joined a.words; matched = (a.words, refl, a.matched); spelled = a.spelled })
+places_of {L} n (plus e) word m =
+    let P : List L → Type 0 = λ w. HasPlaces n (plus e) w in
+    let a = places_of_pieces n e (places_of n e) m.0 m.3 in
+    subst P (sym m.2) (record { places = joined a.words; matched = (a.words, a.some m.1, refl, a.matched); spelled = a.spelled })
+places_of {L} n (optional e) word m =
+    elim m [
+      | inl h ↦ let P : List L → Type 0 = λ w. HasPlaces n (optional e) w in subst P (sym h) (record { places = []; matched = inl refl; spelled = tt })
+      | inr h ↦ let a = places_of n e word h in record { places = a.places; matched = inr a.matched; spelled = a.spelled }
+    ]
 
--- the word that a word over the places spells
-pub record HasWord {L : Type 0} (n : ℕ) (e : Expression L) (places : List ℕ) : Type 0 where
-  pub word : List L
-  pub matched : Matches e word
-  pub spelled : AllZip (StandsAt n (letters_in e)) places word
+-- the pieces that pieces over the places spell
+record SpellsPieces {L : Type 0} (e : Expression L) (words : List (List ℕ)) (word : List L) : Type 0 where
+  pub pieces : List (List L)
+  pub split : word ≡ joined pieces
+  pub matched : AllByRecursion (Matches e) pieces
+  pub some : words ≢ [] → pieces ≢ []
 
-pub word_of_pieces : {L : Type 0} (n : ℕ) (e : Expression L) → ((places : List ℕ) → Matches (placed n e) places → HasWord n e places)
-    → (pieces : List (List ℕ)) → AllByRecursion (Matches (placed n e)) pieces → HasWord n (star e) (joined pieces)
-word_of_pieces n e each [] all = record { word = []; matched = ([], refl, tt); spelled = tt }
-word_of_pieces n e each (piece ∷ pieces) all =
-    let a = each piece all.0 in
-    let b = word_of_pieces n e each pieces all.1 in
+pieces_spelled : {L : Type 0} (n : ℕ) (e : Expression L) → ((places : List ℕ) (word : List L) → Matches (placed n e) places → AllZip (StandsAt n (occurrences_in e)) places word → Matches e word)
+    → (words : List (List ℕ)) (word : List L) → AllByRecursion (Matches (placed n e)) words → AllZip (StandsAt n (occurrences_in e)) (joined words) word → SpellsPieces e words word
+pieces_spelled n e each [] [] all z = record { pieces = []; split = refl; matched = tt; some = λ h k. h refl }
+pieces_spelled n e each [] (x ∷ word) all z = absurd z
+pieces_spelled n e each (places ∷ words) word all z =
+    let p = zip_parts (StandsAt n (occurrences_in e)) places (joined words) word z in
+    let b = pieces_spelled n e each words p.second all.1 p.seconds in
     record {
-      word = a.word ++ b.word;
-      matched = (a.word ∷ b.matched.0, ap (λ w. a.word ++ w) b.matched.1, (a.matched, b.matched.2));
-      spelled = zip-append (StandsAt n (letters_in e)) piece a.word (joined pieces) b.word a.spelled b.spelled;
+      pieces = p.first ∷ b.pieces;
+      split = p.split ∙ ap (λ v. p.first ++ v) b.split;
+      matched = (each places p.first all.0 p.firsts, b.matched);
+      some = λ h k. cc;
     }
 
-pub word_of : {L : Type 0} (n : ℕ) (e : Expression L) (places : List ℕ) → Matches (placed n e) places → HasWord n e places
-word_of {L} n empty places m =
-    let nothing : Expression L = empty in
-    let P : List ℕ → Type 0 = λ w. HasWord n nothing w in
-    subst P (sym m) (record { word = []; matched = refl; spelled = tt })
-word_of {L} n (letter x) places m =
-    let P : List ℕ → Type 0 = λ w. HasWord n (letter x) w in
-    subst P (sym m) (record { word = x ∷ []; matched = refl; spelled = (inl (refl, refl), tt) })
-word_of {L} n (follow e f) places m =
-    let P : List ℕ → Type 0 = λ w. HasWord n (follow e f) w in
-    let a = word_of n e m.0 m.3 in
-    let b = word_of (n + length (letters_in e)) f m.1 m.4 in
-    subst P (sym m.2) (record {
-      word = a.word ++ b.word;
-      matched = (a.word, b.word, refl, a.matched, b.matched);
-      spelled = zip-append (StandsAt n (letters_in e ++ letters_in f)) m.0 a.word m.1 b.word
-          (zip-weaker (StandsAt n (letters_in e)) (StandsAt n (letters_in e ++ letters_in f)) (λ place x h. stands_left n (letters_in e) (letters_in f) place x h) m.0 a.word a.spelled)
-          (zip-weaker (StandsAt (n + length (letters_in e)) (letters_in f)) (StandsAt n (letters_in e ++ letters_in f)) (λ place x h. stands_right n (letters_in e) (letters_in f) place x h) m.1 b.word b.spelled);
-    })
-word_of {L} n (star e) places m =
-    let P : List ℕ → Type 0 = λ w. HasWord n (star e) w in
-    subst P (sym m.1) (word_of_pieces n e (word_of n e) m.0 m.2)
-
-zip_within : {L : Type 0} (n : ℕ) (xs : List L) (u : List ℕ) (place : ℕ) (v : List ℕ) (word : List L) → AllZip (StandsAt n xs) (u ++ place ∷ v) word → IsWithin n (n + length xs) place
-zip_within n xs [] place v [] h = absurd h
-zip_within n xs [] place v (x ∷ word) h = stands_within n xs place x h.0
-zip_within n xs (y ∷ u) place v [] h = absurd h
-zip_within n xs (y ∷ u) place v (x ∷ word) h = zip_within n xs u place v word h.1
-
--- each place of a word that is matched is one of the expression
-pub place_within : {L : Type 0} (n : ℕ) (e : Expression L) (u : List ℕ) (place : ℕ) (v : List ℕ) → Matches (placed n e) (u ++ place ∷ v) → IsWithin n (n + length (letters_in e)) place
-place_within n e u place v m = let a = word_of n e (u ++ place ∷ v) m in zip_within n (letters_in e) u place v a.word a.spelled
+-- what a word over the places spells is matched
+pub word_spelled : {L : Type 0} (n : ℕ) (e : Expression L) (places : List ℕ) (word : List L) → Matches (placed n e) places → AllZip (StandsAt n (occurrences_in e)) places word → Matches e word
+word_spelled {L} n empty places word m z =
+    let P : List ℕ → Type 0 = λ w. AllZip (StandsAt {L = L} n []) w word in
+    nothing word (subst P m z)
+  where
+    nothing : (word : List L) → AllZip (StandsAt {L = L} n []) [] word → word ≡ []
+    nothing [] z = refl
+    nothing (x ∷ word) z = absurd z
+word_spelled {L} n (letter x) places word m z =
+    let P : List ℕ → Type 0 = λ w. AllZip (StandsAt n (Some x ∷ [])) w word in
+    one word (subst P m z)
+  where
+    one : (word : List L) → AllZip (StandsAt n (Some x ∷ [])) (n ∷ []) word → word ≡ x ∷ []
+    one [] z = absurd z
+    one (y ∷ []) z = elim z.0 [ inl p ↦ ap (λ t. t ∷ []) (sym p.1) | inr q ↦ absurd q ]
+    one (y ∷ t ∷ word) z = absurd z.1
+word_spelled {L} n any places word m z =
+    let P : List ℕ → Type 0 = λ w. AllZip (StandsAt {L = L} n (None ∷ [])) w word in
+    one word (subst P m z)
+  where
+    one : (word : List L) → AllZip (StandsAt {L = L} n (None ∷ [])) (n ∷ []) word → (x : L) × (word ≡ x ∷ [])
+    one [] z = absurd z
+    one (y ∷ []) z = (y, refl)
+    one (y ∷ t ∷ word) z = absurd z.1
+word_spelled {L} n (either e f) places word m z =
+    elim m [
+      | inl h ↦ inl (word_spelled n e places word h (zip_weaker_where (IsWithin n (n + length (occurrences_in e))) (StandsAt n (occurrences_in e ++ occurrences_in f)) (StandsAt n (occurrences_in e))
+          (λ place x w s. stands_in_left n (occurrences_in e) (occurrences_in f) place x w s) places word (places_within n e places h) z))
+      | inr h ↦ inr (word_spelled (n + length (occurrences_in e)) f places word h (zip_weaker_where (IsWithin (n + length (occurrences_in e)) (n + length (occurrences_in e) + length (occurrences_in f)))
+          (StandsAt n (occurrences_in e ++ occurrences_in f)) (StandsAt (n + length (occurrences_in e)) (occurrences_in f))
+          (λ place x w s. stands_in_right n (occurrences_in e) (occurrences_in f) place (n + length (occurrences_in e) + length (occurrences_in f)) x w s) places word (places_within (n + length (occurrences_in e)) f places h) z))
+    ]
+word_spelled {L} n (follow e f) places word m z =
+    let P : List ℕ → Type 0 = λ w. AllZip (StandsAt n (occurrences_in e ++ occurrences_in f)) w word in
+    let p = zip_parts (StandsAt n (occurrences_in e ++ occurrences_in f)) m.0 m.1 word (subst P m.2 z) in (
+      p.first,
+      p.second,
+      p.split,
+      word_spelled n e m.0 p.first m.3 (zip_weaker_where (IsWithin n (n + length (occurrences_in e))) (StandsAt n (occurrences_in e ++ occurrences_in f)) (StandsAt n (occurrences_in e))
+          (λ place x w s. stands_in_left n (occurrences_in e) (occurrences_in f) place x w s) m.0 p.first (places_within n e m.0 m.3) p.firsts),
+      word_spelled (n + length (occurrences_in e)) f m.1 p.second m.4 (zip_weaker_where (IsWithin (n + length (occurrences_in e)) (n + length (occurrences_in e) + length (occurrences_in f)))
+          (StandsAt n (occurrences_in e ++ occurrences_in f)) (StandsAt (n + length (occurrences_in e)) (occurrences_in f))
+          (λ place x w s. stands_in_right n (occurrences_in e) (occurrences_in f) place (n + length (occurrences_in e) + length (occurrences_in f)) x w s) m.1 p.second (places_within (n + length (occurrences_in e)) f m.1 m.4) p.seconds),
+    )
+word_spelled {L} n (star e) places word m z =
+    let P : List ℕ → Type 0 = λ w. AllZip (StandsAt n (occurrences_in e)) w word in
+    let s = pieces_spelled n e (word_spelled n e) m.0 word m.2 (subst P m.1 z) in
+    (s.pieces, s.split, s.matched)
+word_spelled {L} n (plus e) places word m z =
+    let P : List ℕ → Type 0 = λ w. AllZip (StandsAt n (occurrences_in e)) w word in
+    let s = pieces_spelled n e (word_spelled n e) m.0 word m.3 (subst P m.2 z) in
+    (s.pieces, s.some m.1, s.split, s.matched)
+word_spelled {L} n (optional e) places word m z =
+    elim m [
+      | inl h ↦ let P : List ℕ → Type 0 = λ w. AllZip (StandsAt n (occurrences_in e)) w word in inl (nothing word (subst P h z))
+      | inr h ↦ inr (word_spelled n e places word h z)
+    ]
+  where
+    nothing : (word : List L) → AllZip (StandsAt n (occurrences_in e)) [] word → word ≡ []
+    nothing [] z = refl
+    nothing (x ∷ word) z = absurd z

@@ -1,7 +1,11 @@
 -- Letters of expressions, written as numbers.
-use Rattle.std.specs.Prelude.{◌≡◌, ℕ, ◌<◌, ℤ, pos, List, [], ◌∷◌, length, slice_index_or, ⊤}
+use Rattle.std.specs.Prelude.{◌≡◌, ℕ, ◌<◌, ◌≤◌, ◌↔◌, ℤ, pos, List, [], ◌∷◌, length, slice_index_or, Option, None, Some, ⊤}
+use Rattle.std.specs.List.{flat_map}
 use Rattle.digit_tuple.specs.Tuples.{IsLetterOf}
-use Rattle.regex_build.specs.declared.post.Post.{Post}
+use Rattle.regex_build.specs.declared.codes.LetterRange.{LetterRange}
+use Rattle.regex_build.specs.declared.step.Step.{Step}
+use Rattle.regex_build.specs.declared.step.Step.TheVariants.{Letter, Any}
+use Rattle.regex_build.specs.Positions.{IsOf}
 
 -- the members stand at these places of the sets
 abbrev pub ArePlaces : List (List ℤ) → List ℤ → List ℕ → Type 0
@@ -12,7 +16,20 @@ ArePlaces (set ∷ sets) [] places = ⊥
 ArePlaces (set ∷ sets) (member ∷ members) [] = ⊥
 ArePlaces (set ∷ sets) (member ∷ members) (place ∷ places) = (place < length set) × (slice_index_or set place (pos 0) ≡ member) × ArePlaces sets members places
 
--- a letter with stars whose letter is written as a number
-pub record IsCoded (sets : List (List ℤ)) (post : Post (List ℤ)) (coded : Post ℕ) : Type 0 where
-  pub letter : IsLetterOf sets post.letter coded.letter
-  pub stars : coded.stars ≡ post.stars
+-- the letter is in the range
+abbrev pub IsInRange : LetterRange → ℕ → Type 0
+IsInRange range a = (range.first ≤ a) × (a < range.end)
+
+-- the letters in the range are those that may stand at the occurrence
+abbrev pub IsRangeOf : List (List ℤ) → Option (List ℤ) → LetterRange → Type 0
+IsRangeOf sets occurrence range = (a : ℕ) → IsInRange range a ↔ IsOf (IsLetterOf sets) occurrence a
+
+-- the occurrence that a step is, if it is one
+abbrev pub occurrence_in : Step → List (Option (List ℤ))
+occurrence_in (Letter x) = Some x ∷ []
+occurrence_in Any = None ∷ []
+occurrence_in _ = []
+
+-- the occurrences that steps are
+abbrev pub occurrences_of : List Step → List (Option (List ℤ))
+occurrences_of steps = flat_map occurrence_in steps

@@ -1,17 +1,20 @@
 -- Expressions over sets.
-use Rattle.std.specs.Prelude.{ℤ, List, Contains}
+use Rattle.std.specs.Prelude.{ℤ, List, Contains, ⊤}
 use Rattle.std.specs.List.{AllZip}
-use Rattle.regex_build.specs.declared.post.Post.{Post}
+use Rattle.regex_build.specs.Expression.{Expression}
+use Rattle.regex_build.specs.declared.step.Step.{Step}
+use Rattle.regex_build.specs.declared.step.Step.TheVariants.{Letter}
 
--- the sets of the tracks, and the letters of the expression with their stars
+-- the sets of the tracks, and the expression
 pub record Pattern : Type 0 where
   pub sets : List (List ℤ)
-  pub posts : List (Post (List ℤ))
+  pub tree : Expression (List ℤ)
 
 -- the tuple has a member of each set
 abbrev pub AreMembers : List (List ℤ) → List ℤ → Type 0
 AreMembers sets tuple = AllZip Contains sets tuple
 
--- each letter of the expression has a member of each set
-abbrev pub IsOver : List (List ℤ) → Post (List ℤ) → Type 0
-IsOver sets post = AreMembers sets post.letter
+-- a letter has a member of each set
+abbrev pub IsOver : List (List ℤ) → Step → Type 0
+IsOver sets (Letter x) = AreMembers sets x
+IsOver sets _ = ⊤

@@ -1,9 +1,9 @@
 -- The automaton of an expression's letters: state 0 is initial, and each letter of the expression is a state, counted from 1.
-use Rattle.std.specs.Prelude.{◌≡◌, ℕ, zero, suc, ◌+◌, ◌↔◌, List, [], ◌∷◌, ◌++◌, length, slice_get, IsSomeAnd, IsTrue}
+use Rattle.std.specs.Prelude.{◌≡◌, ℕ, zero, suc, ◌+◌, ◌↔◌, List, [], ◌∷◌, ◌++◌, length, slice_get, IsSomeAnd, IsTrue, Option, None, Some}
 use Rattle.std.specs.Prelude.{ℤ}
 use Rattle.digit_tuple.specs.Automaton.{Branching, letters_of, states_of, accepting_of, Leads, Accepts, IsBranchTable}
 use Rattle.digit_tuple.specs.Tuples.{IsLetterOf, Codes}
-use Rattle.regex_build.specs.Expression.{Expression, letters_in, placed}
+use Rattle.regex_build.specs.Expression.{Expression, occurrences_in, placed}
 use Rattle.regex_build.specs.Matches.{Matches}
 
 -- some word over the places begins with the place, or in a state behind the first has it right behind that state's place
@@ -16,10 +16,15 @@ abbrev pub MayEnd : Expression ℕ → ℕ → Type 0
 MayEnd e zero = Matches e []
 MayEnd e (suc state) = (before : List ℕ) × Matches e (before ++ suc state ∷ [])
 
--- the letter at the place, counted from 1, is written so
-abbrev pub IsWritten : {L : Type 0} → (L → ℕ → Type 0) → List L → ℕ → ℕ → Type 0
-IsWritten code letters zero a = ⊥
-IsWritten code letters (suc k) a = IsSomeAnd (slice_get letters k) (λ x. code x a)
+-- the occurrence is of the letter that is written so, or of any letter
+abbrev pub IsOf : {L : Type 0} → (L → ℕ → Type 0) → Option L → ℕ → Type 0
+IsOf code (Some x) a = code x a
+IsOf {L} code None a = (x : L) × code x a
+
+-- a letter that is written so may stand at the place, counted from 1
+abbrev pub IsWritten : {L : Type 0} → (L → ℕ → Type 0) → List (Option L) → ℕ → ℕ → Type 0
+IsWritten code occurrences zero a = ⊥
+IsWritten code occurrences (suc k) a = IsSomeAnd (slice_get occurrences k) (λ occurrence. IsOf code occurrence a)
 
 -- the letter of a table over numbers, which stands for itself
 abbrev pub IsSame : ℕ → ℕ → Type 0
@@ -28,9 +33,9 @@ IsSame x a = x ≡ a
 -- The table of the expression's letters: a state for the beginning and one for each letter, and from state to state each letter
 -- that can come next.
 pub record IsPositionTable {L : Type 0} (code : L → ℕ → Type 0) (e : Expression L) (n : Branching) : Type 0 where
-  pub states : states_of n ≡ length (letters_in e) + 1
+  pub states : states_of n ≡ length (occurrences_in e) + 1
   pub accepts : (q : ℕ) → IsTrue (accepting_of n q) ↔ MayEnd (placed 1 e) q
-  pub leads : (q a place : ℕ) → Leads n q a place ↔ (ComesNext (placed 1 e) q place × IsWritten code (letters_in e) place a)
+  pub leads : (q a place : ℕ) → Leads n q a place ↔ (ComesNext (placed 1 e) q place × IsWritten code (occurrences_in e) place a)
 
 -- the automaton accepts a word of letters exactly where the expression matches the word of tuples that it stands for
 abbrev pub AcceptsTheMatches : List (List ℤ) → Expression (List ℤ) → Branching → Type 0

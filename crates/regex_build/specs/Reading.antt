@@ -1,58 +1,112 @@
--- How far a text is read.
-use Rattle.std.specs.Prelude.{◌≡◌, ◌≢◌, ℕ, ◌+◌, ◌<◌, ◌≤◌, true, false, ℤ, List, [], ◌∷◌, ◌++◌, Result, Ok, Err, ⊤, Vec}
-use Rattle.std.specs.List.{AllByRecursion}
+-- What reading a token gives, as the code has it.
+use Rattle.std.specs.Prelude.{◌≡◌, ℕ, ◌<◌, ◌≤◌, Bool, ℤ, List, [], ◌∷◌, length, drop, All, Option, None, Some, IsSome, Result, Ok, Err, ⊤, Vec}
+use Rattle.std.specs.List.{fold}
 use Rattle.std.specs.declared.alloc.Global.{Global}
-use Rattle.text_grammar.specs.Bytes.{is_blank}
-use Rattle.regex_build.specs.declared.post.Post.{Post}
+use Rattle.regex_build.specs.declared.step.Step.{Step}
+use Rattle.regex_build.specs.declared.token.Token.{Token as Rust'}
+use Rattle.regex_build.specs.declared.token.Token.TheVariants as token
+use Rattle.regex_build.specs.declared.lexing.Lexeme.{Lexeme as Lexeme'}
+use Rattle.regex_build.specs.declared.lexing.Spot.{Spot as Spot'}
+use Rattle.regex_build.specs.declared.fault.Refusal.{Refusal}
+use Rattle.regex_build.specs.declared.fault.Refusal.TheVariants as refusals
 use Rattle.regex_build.specs.declared.fault.RegexFault.{RegexFault}
-use Rattle.regex_build.specs.declared.fault.RegexFault.TheVariants.{Syntax, Number, Memory}
-use Rattle.regex_build.specs.declared.reading.Mark.{Mark}
-use Rattle.regex_build.specs.declared.reading.Mark.TheVariants.{Blank, Star, Digit, Other}
-use Rattle.regex_build.specs.Grammar.{marks, spelling, IsDigit}
-use Rattle.regex_build.specs.Parsing.{IsMemberPost, IsOfSet, IsForeign, Reads}
+use Rattle.regex_build.specs.declared.fault.RegexFault.TheVariants as faults
+use Rattle.regex_build.specs.declared.reading.Place.{Place}
+use Rattle.regex_build.specs.declared.reading.Reading.{Reading}
+use Rattle.regex_build.specs.Tokens as tokens
+use Rattle.regex_build.specs.Tokens.{Token}
+use Rattle.regex_build.specs.Spots.{Lexeme, inside_behind, spots_from}
+use Rattle.regex_build.specs.Patterns.{IsOver}
+use Rattle.regex_build.specs.Postfix.{IsPostfix, tree_of}
+use Rattle.regex_build.specs.Limits.{Around, IsAllowed}
+use Rattle.regex_build.specs.Parsing.{IsNumber, IsOpening, IsTextOf, Parses}
+use Rattle.regex_build.specs.Machine.{State, enter, step_at}
 
--- what a byte is
-abbrev pub IsMark : ℕ → Mark → Type 0
-IsMark byte Blank = is_blank byte ≡ true
-IsMark byte Star = byte ≡ 42
-IsMark byte (Digit digit) = (byte ≡ 48 + digit) × (digit < 10)
-IsMark byte Other = (is_blank byte ≡ false) × (byte ≢ 42) × (48 ≤ byte → byte < 58 → ⊥)
+abbrev pub token_view : Rust' → Token
+token_view token.Bar = tokens.bar
+token_view token.Star = tokens.star
+token_view token.Plus = tokens.plus
+token_view token.Optional = tokens.optional
+token_view token.Dot = tokens.dot
+token_view token.Opening = tokens.opening
+token_view token.Closing = tokens.closing
+token_view token.Bracket = tokens.bracket
+token_view token.Comma = tokens.comma
+token_view token.Unbracket = tokens.unbracket
+token_view (token.Digit d) = tokens.digit d
+token_view (token.Number z) = tokens.number z
+token_view token.Other = tokens.other
 
--- the text so far has these digits and stars, and its digits are of the set
-pub record HasRead (set : List ℤ) (text : List ℕ) (posts : List (Post ℕ)) : Type 0 where
-  pub marks : marks text ≡ spelling posts
-  pub digits : AllByRecursion IsDigit posts
-  pub members : AllByRecursion (IsMemberPost set) posts
-  pub seen : AllByRecursion (IsOfSet set) text
+-- a digit is below ten
+abbrev pub IsWritten : Token → Type 0
+IsWritten (tokens.digit d) = d < 10
+IsWritten _ = ⊤
 
--- a byte with which no text goes on behind these digits and stars
-pub record IsStuck (posts : List (Post ℕ)) (byte : ℕ) : Type 0 where
-  pub mark : is_blank byte ≡ false
-  pub star : byte ≡ 42 → posts ≡ []
-  pub digit : 48 ≤ byte → byte < 58 → ⊥
+abbrev pub lexeme_view : Lexeme' → Lexeme
+lexeme_view l = record { token = token_view l.token; more = l.more }
 
--- one byte more was read
-pub record AddsMark (set : List ℤ) (old : List (Post ℕ)) (byte : ℕ) (new : List (Post ℕ)) : Type 0 where
-  pub spelling : spelling new ≡ spelling old ++ marks (byte ∷ [])
-  pub digits : AllByRecursion IsDigit old → AllByRecursion IsDigit new
-  pub members : AllByRecursion (IsMemberPost set) old → AllByRecursion (IsMemberPost set) new
-  pub seen : IsOfSet set byte
+-- the next token of a text from a byte on
+pub record IsNext (inside : Bool) (text : List ℕ) (start : ℕ) (s : Spot') : Type 0 where
+  pub within : s.end ≤ length text
+  pub moves : start < s.end
+  pub written : IsWritten (token_view s.token)
+  pub spots_are : spots_from inside start 0 (drop start text) ≡ record { token = token_view s.token; at = s.at } ∷ spots_from (inside_behind inside (token_view s.token)) s.end 0 (drop s.end text)
 
--- one byte more was read, or is at fault at its place
-abbrev pub Adds : List ℤ → List (Post ℕ) → ℕ → ℕ → List (Post ℕ) → Result (Unit {0}) RegexFault → Type 0
-Adds set old byte at new (Ok _) = AddsMark set old byte new
-Adds set old byte at new (Err (Syntax place)) = (place ≡ at) × IsStuck old byte
-Adds set old byte at new (Err (Number place)) = (place ≡ at) × IsForeign set byte
-Adds set old byte at new (Err Memory) = ⊤
+abbrev pub IsNextOrNone : Bool → List ℕ → ℕ → Option Spot' → Type 0
+IsNextOrNone inside text start None = spots_from inside start 0 (drop start text) ≡ []
+IsNextOrNone inside text start (Some s) = IsNext inside text start s
 
--- a star was read behind the last digit, or is at fault where there is none
-abbrev pub AddsStar : List (Post ℕ) → ℕ → List (Post ℕ) → Result (Unit {0}) RegexFault → Type 0
-AddsStar old at new (Ok _) = (set : List ℤ) → AddsMark set old 42 new
-AddsStar old at new (Err (Syntax place)) = (place ≡ at) × (old ≡ [])
-AddsStar old at new (Err (Number place)) = ⊥
-AddsStar old at new (Err Memory) = ⊥
+abbrev pub state_view : Reading → State
+state_view r = record {
+  outer = fold (λ gs g. g ∷ gs) [] r.outer.items;
+  group = r.group;
+  place = r.place;
+  letter = r.letter;
+  steps = r.steps.items;
+}
 
--- what reading gives, as the code has it
-abbrev pub ReadsVec : List ℤ → List ℕ → Result (Vec (Post ℕ) Global) RegexFault → Type 0
-ReadsVec set text (Ok posts) = Reads set text (Ok posts.items)
-ReadsVec set text (Err fault) = Reads set text (Err fault)
+abbrev pub around : State → Around
+around s = record { nesting = length s.outer; numbers = length s.letter }
+
+-- one token more was read, if the machine reads it and it is allowed
+abbrev pub Answers : Option State → Type 0 → Token → State → Result (Unit {0}) Refusal → Type 0
+Answers o Allowed t new (Ok _) = (o ≡ Some new) × Allowed
+Answers o Allowed t new (Err refusals.Syntax) = o ≡ None
+Answers o Allowed t new (Err refusals.Number) = IsSome o × IsNumber t × (Allowed → ⊥)
+Answers o Allowed t new (Err refusals.Depth) = IsSome o × IsOpening t × (Allowed → ⊥)
+Answers o Allowed t new (Err refusals.Memory) = ⊤
+
+-- what reading a token with which a post begins gives
+abbrev pub Enters : List (List ℤ) → State → Token → State → Result (Unit {0}) Refusal → Type 0
+Enters sets old t new result = Answers (enter (length sets) old t) (IsAllowed sets (around old) t) t new result
+
+-- what reading a token at a place gives
+abbrev pub GivesAt : Place → List (List ℤ) → State → Token → State → Result (Unit {0}) Refusal → Type 0
+GivesAt place sets old t new result = Answers (step_at (length sets) old place t) (IsAllowed sets (around old) t) t new result
+
+-- what reading a token gives
+abbrev pub Gives : List (List ℤ) → State → Token → State → Result (Unit {0}) Refusal → Type 0
+Gives sets old t new result = GivesAt old.place sets old t new result
+
+-- the fault of a text whose token at this byte is not read
+abbrev pub fault_at : Refusal → ℕ → RegexFault
+fault_at refusals.Syntax at = faults.Syntax at
+fault_at refusals.Number at = faults.Number at
+fault_at refusals.Depth at = faults.Depth at
+fault_at refusals.Memory at = faults.Memory
+
+-- the steps of a text that may end here
+abbrev pub Ends : Option (List Step) → Option (Vec Step Global) → Type 0
+Ends o None = o ≡ None
+Ends o (Some steps) = o ≡ Some steps.items
+
+-- the steps of a text over sets
+pub record AreStepsOf (sets : List (List ℤ)) (text : List ℕ) (steps : List Step) : Type 0 where
+  pub postfix : IsPostfix steps
+  pub letters : All (IsOver sets) steps
+  pub text_of : IsTextOf sets text (record { sets = sets; tree = tree_of steps })
+
+-- what reading a text over sets gives
+abbrev pub Reads : List (List ℤ) → List ℕ → Result (Vec Step Global) RegexFault → Type 0
+Reads sets text (Ok steps) = AreStepsOf sets text steps.items
+Reads sets text (Err fault) = Parses sets text (Err fault)

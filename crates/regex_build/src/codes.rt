@@ -1,20 +1,28 @@
 //! Letters of expressions, written as numbers.
 
-ghost use Rattle.std.specs.Prelude.{◌≡◌, ◌<◌, All, IfOk};
+ghost use Rattle.std.specs.Prelude.{◌≡◌, ◌<◌, ◌≤◌, All, IfOk};
 ghost use Rattle.std.specs.List.{AllZip};
-ghost use Rattle.digit_tuple.specs.Letters.{product};
-ghost use Rattle.digit_tuple.specs.Sets.{sizes_of};
+ghost use Rattle.std.specs.Option.{option_to_list};
+ghost use Rattle.digit_tuple.specs.Letters.{product, IsAlphabet};
+ghost use Rattle.digit_tuple.specs.Sets.{sizes_of, IsLetterSet};
 ghost use Rattle.digit_tuple.specs.Tuples.{IsLetterOf};
-ghost use Rattle.regex_build.specs.Codes.{ArePlaces, IsCoded};
+ghost use Rattle.regex_build.specs.Codes.{ArePlaces, IsRangeOf, occurrence_in, occurrences_of};
 ghost use Rattle.regex_build.specs.Patterns.{AreMembers, IsOver};
 
 use crate::letter_tuple::LetterTuple;
-use crate::post::Post;
+use crate::step::Step;
 use digit_tuple::alphabet::Alphabet;
 use digit_tuple::faults::OutOfMemory;
 use digit_tuple::letter_set::LetterSet;
 use smallvec::SmallVec;
 use std::alloc::Global;
+
+/// The letters that may stand at an occurrence, from the first to the one before the end.
+#[derive(Clone, Copy)]
+pub struct LetterRange {
+    pub first: u32,
+    pub end: u32,
+}
 
 // The places of the members in their sets.
 fn places_in(
@@ -49,25 +57,53 @@ fn number_of(
     Ok(alphabet.letter_of(places.as_slice()))
 }
 
-/// The letters with their stars, each written as its number in an alphabet whose tracks have these
-/// sets as their digits.
-pub fn coded(
+// The letters that may stand at the occurrence that the step is, if it is one.
+fn range_of(
     alloc: Global,
     alphabet: &Alphabet,
     sets: &[LetterSet],
-    posts: &[Post<LetterTuple>],
-) -> Result<Vec<Post<u32>>, OutOfMemory>
+    step: &Step,
+) -> Result<Option<LetterRange>, OutOfMemory>
+    requires sets { All IsLetterSet sets.now }
     requires sizes { alphabet.now ≡ sizes_of sets.now }
-    requires members { All (IsOver sets.now) posts.now }
-    ensures letters { IfOk result (λ made. AllZip (IsCoded sets.now) posts.now made.items) }
-    ensures in_range { IfOk result (λ made. All (λ post. post.letter < product alphabet.now) made.items) }
+    requires member { IsOver sets.now step.now }
+    ensures { IfOk result (λ range. AllZip (IsRangeOf sets.now) (occurrence_in step.now) (option_to_list range)) }
+{
+    let letters = alphabet.letters();
+    match step {
+        Step::Letter(letter) => {
+            let first = number_of(alloc, alphabet, sets, letter)?;
+            Ok(Some(LetterRange {
+                first,
+                end: first + 1,
+            }))
+        }
+        Step::Any => Ok(Some(LetterRange {
+            first: 0,
+            end: letters,
+        })),
+        _ => Ok(None),
+    }
+}
+
+/// The letters that may stand at each occurrence, as numbers of an alphabet whose tracks have these
+/// sets as their digits.
+pub fn ranges_of(
+    alloc: Global,
+    alphabet: &Alphabet,
+    sets: &[LetterSet],
+    steps: &[Step],
+) -> Result<Vec<LetterRange>, OutOfMemory>
+    requires sets { All IsLetterSet sets.now }
+    requires sizes { alphabet.now ≡ sizes_of sets.now }
+    requires members { All (IsOver sets.now) steps.now }
+    ensures { IfOk result (λ made. AllZip (IsRangeOf sets.now) (occurrences_of steps.now) made.items) }
 {
     let mut made = Vec::new(alloc);
-    for post in posts {
-        made.push(Post {
-            letter: number_of(alloc, alphabet, sets, &post.letter)?,
-            stars: post.stars,
-        })?;
+    for step in steps {
+        if let Some(range) = range_of(alloc, alphabet, sets, step)? {
+            made.push(range)?;
+        }
     }
     Ok(made)
 }

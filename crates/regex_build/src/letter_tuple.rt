@@ -1,6 +1,6 @@
 //! Letters: tuples of members of sets.
 
-ghost use Rattle.std.specs.Prelude.{◌≡◌, ℤ, List, ◌∷◌, [], IfOk};
+ghost use Rattle.std.specs.Prelude.{◌≡◌, ℤ, List, ◌∷◌, [], ◌++◌, length, OnOk, OnErr, ◌==◌};
 
 use digit_tuple::faults::OutOfMemory;
 use smallvec::SmallVec;
@@ -22,13 +22,36 @@ impl Model for LetterTuple {
 }
 
 impl LetterTuple {
-    /// The letter of one track with this member.
-    pub fn one(alloc: Global, member: i32) -> Result<Self, OutOfMemory>
-        ensures { IfOk result (λ letter. letter ≡ member ∷ []) }
+    /// The letter of no track.
+    pub fn new(alloc: Global) -> Self
+        ensures { result ≡ [] }
     {
-        let mut tracks = SmallVec::new(alloc);
-        tracks.push(member)?;
-        Ok(LetterTuple { tracks })
+        LetterTuple {
+            tracks: SmallVec::new(alloc),
+        }
+    }
+
+    /// Adds the member of one track more. Out of memory leaves the letter as it was.
+    pub fn push(&mut self, member: i32) -> Result<(), OutOfMemory>
+        ensures ok { OnOk result (self.new ≡ self.old ++ member ∷ []) }
+        ensures err { OnErr result (self.new ≡ self.old) }
+    {
+        self.tracks.push(member)?;
+        Ok(())
+    }
+
+    /// How many tracks there are.
+    pub fn len(&self) -> usize
+        ensures { result ≡ length self.now }
+    {
+        self.tracks.len()
+    }
+
+    /// Whether there is no track.
+    pub fn is_empty(&self) -> bool
+        ensures { result ≡ (length self.now == 0) }
+    {
+        self.tracks.is_empty()
     }
 
     /// The members, one for each track.

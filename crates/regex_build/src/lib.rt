@@ -4,8 +4,11 @@
 /// Letters: tuples of members of sets.
 pub mod letter_tuple;
 
-/// Letters with stars.
-pub mod post;
+/// The steps of an expression in postfix order.
+pub mod step;
+
+/// Tests of steps in postfix order.
+mod postfix;
 
 /// Expressions.
 pub mod regex;
@@ -13,7 +16,13 @@ pub mod regex;
 /// Faults of expressions.
 pub mod fault;
 
-/// The digits and stars of a text.
+/// The tokens of a text.
+mod token;
+
+/// The tokens of a text, read one after the other.
+mod lexing;
+
+/// The tokens of an expression, read to its steps.
 mod reading;
 
 /// Parsing of expressions.
@@ -22,14 +31,30 @@ pub mod parsing;
 /// Letters of expressions, written as numbers.
 mod codes;
 
+/// Parts of expressions.
+mod fragment;
+
+/// Which places may stand right behind which.
+mod links;
+
+/// What may stand right behind the places of an expression.
+mod next_places;
+
 /// Rows of the automaton of an expression's letters.
 mod rows;
 
 /// The automaton of an expression's letters.
 pub mod position_table;
 
+/// The canonical automaton of an expression.
+pub mod build;
+
 pub use parsing::parse;
 pub use position_table::positions;
 
 #[cfg(test)]
-mod tests;
+mod build_tests;
+#[cfg(test)]
+mod parsing_tests;
+#[cfg(test)]
+mod position_tests;

@@ -1,62 +1,59 @@
 //! Parsing of expressions.
 
-ghost use Rattle.std.specs.Prelude.{◌≡◌, map, IfOk};
 ghost use Rattle.digit_tuple.specs.Headers.{sets_of};
-ghost use Rattle.regex_build.specs.Parsing.{Parses, letter_of_digit, OneAnswer};
+ghost use Rattle.regex_build.specs.Parsing.{Parses, OneAnswer};
+ghost use Rattle.regex_build.specs.Reading.{Reads};
 
 use crate::fault::RegexFault;
-use crate::letter_tuple::LetterTuple;
-use crate::post::Post;
-use crate::reading::read;
+use crate::lexing::next_spot;
+use crate::reading::Reading;
 use crate::regex::Regex;
-use digit_tuple::faults::OutOfMemory;
+use crate::step::Step;
 use digit_tuple::header::Header;
-use digit_tuple::letter_set::LetterSet;
+use digit_tuple::sets::Sets;
 use std::alloc::Global;
-use text_grammar::{Class, front_len};
 
-/// The expression that the text spells, whose letters are members of the header's set.
+/// The expression that the text spells over the header's sets, by this grammar:
 ///
-/// An expression is one digit or more, each with any number of `*` behind it; blanks count for
-/// nothing. The first byte with which no expression goes on is answered by `Syntax`, as is the end
-/// of a text that has no digit, and a digit that is no member of the set by `Number`, whichever
-/// comes first. Under a header of no set or of several no digit is a letter, so the first byte that
-/// is no blank is answered by `Syntax`.
+/// ```text
+/// alt := cat { "|" cat }
+/// cat := post { post }
+/// post := prim { "*" | "+" | "?" }
+/// prim := digit | "." | "()" | "(" alt ")" | "[" int { "," int } "]"
+/// ```
+///
+/// `.` is any letter, and `()` the empty word. A digit is a letter of one track, and brackets have an
+/// int for each track. An int is digits, as many as there are, with or without a `-` before them.
+/// Blanks count for nothing.
+///
+/// `Syntax` answers the first token with which no expression goes on, or the end of a text that ends
+/// too early. A token with which one goes on is answered by `Number` where it is a digit or an int
+/// that is no member of its track's set, and by `Depth` where it is a `(` that stands within 128
+/// others. The first of all these decides. `Memory` answers a refused growth.
 pub fn parse(alloc: Global, text: &[u8], header: &Header) -> Result<Regex, RegexFault>
-    ensures parses { Parses (sets_of header.now) text.now result }
-    ensures sets { IfOk result (λ regex. regex.sets ≡ sets_of header.now) }
+    ensures { Parses (sets_of header.now) text.now result }
 {
-    match sets_in(header) {
-        [set] => {
-            let digits = read(alloc, text, set)?;
-            let posts = letters_of(alloc, &digits)?;
-            Ok(Regex::new(header.copy(alloc)?, posts))
+    let sets = header.sets(alloc)?;
+    let steps = read(alloc, text, &sets)?;
+    Ok(Regex::new(sets, steps))
+}
+
+// The steps of the text's expression.
+fn read(alloc: Global, text: &[u8], sets: &Sets) -> Result<Vec<Step>, RegexFault>
+    ensures { Reads sets.now text.now result }
+{
+    let mut reading = Reading::new(alloc);
+    let mut at = 0;
+    while let Some(spot) = next_spot(text, at, reading.in_bracket()) {
+        match reading.take(alloc, sets, spot.token) {
+            Ok(()) => at = spot.end,
+            Err(refusal) => return Err(refusal.at(spot.at)),
         }
-        _ => Err(RegexFault::Syntax(front_len(Class::Blank, text))),
     }
-}
-
-// The sets of the header's tracks.
-fn sets_in(header: &Header) -> &[LetterSet]
-    ensures { result.now ≡ sets_of header.now }
-{
-    match header {
-        Header::Sets(sets) => sets.as_slice(),
+    match reading.finish()? {
+        Some(steps) => Ok(steps),
+        None => Err(RegexFault::Syntax(text.len())),
     }
-}
-
-// The digits as letters of one track.
-fn letters_of(alloc: Global, digits: &[Post<u8>]) -> Result<Vec<Post<LetterTuple>>, OutOfMemory>
-    ensures { IfOk result (λ posts. posts.items ≡ map letter_of_digit digits.now) }
-{
-    let mut posts = Vec::new(alloc);
-    for digit in digits {
-        posts.push(Post {
-            letter: LetterTuple::one(alloc, i32::from(digit.letter))?,
-            stars: digit.stars,
-        })?;
-    }
-    Ok(posts)
 }
 
 /// Parsing a text has one answer, where memory is left.

@@ -5,20 +5,22 @@ ghost use Rattle.digit_tuple.specs.Automaton.{IsBranchTable, letters_of};
 ghost use Rattle.digit_tuple.specs.Letters.{IsAlphabet};
 ghost use Rattle.digit_tuple.specs.Sets.{sizes_of};
 ghost use Rattle.digit_tuple.specs.Tuples.{IsLetterOf};
-ghost use Rattle.regex_build.specs.Posts.{tree_of};
 ghost use Rattle.regex_build.specs.Positions.{IsPositionTable, AcceptsTheMatches, PositionsAcceptMatches, OnePositionTable};
 
-use crate::codes::coded;
+use crate::codes::ranges_of;
+use crate::next_places::next_places;
 use crate::regex::Regex;
 use crate::rows::states_of;
 use digit_tuple::alphabet::Alphabet;
 use digit_tuple::faults::OutOfMemory;
+use digit_tuple::letter_set::LetterSet;
 use digit_tuple::nfa::Nfa;
 use std::alloc::Global;
 
 /// The automaton of the expression's letters: state 0 is initial, and state i stands behind the
-/// i-th letter of the expression. From each state each letter that can come next leads to that
-/// letter's state. The edges of all states are made, so the automaton is as large as its table.
+/// i-th letter of the expression, where a `.` is a letter that may be any of the alphabet. From each
+/// state each letter that can come next leads to that letter's state. The edges of all states are
+/// made, so the automaton is as large as its table.
 ///
 /// An expression of 2^32 - 1 letters or more has more states than their numbers can count. It is
 /// answered by out of memory.
@@ -26,25 +28,28 @@ pub fn positions(alloc: Global, regex: &Regex) -> Result<Nfa, OutOfMemory>
     requires { IsAlphabet (sizes_of regex.now.sets) }
     ensures sizes { IfOk result (λ nfa. nfa.sizes ≡ sizes_of regex.now.sets) }
     ensures rows { IfOk result (λ nfa. IsBranchTable (letters_of nfa) nfa.states) }
-    ensures table { IfOk result (IsPositionTable (IsLetterOf regex.now.sets) (tree_of regex.now.posts)) }
-    ensures language { IfOk result (AcceptsTheMatches regex.now.sets (tree_of regex.now.posts)) }
+    ensures table { IfOk result (IsPositionTable (IsLetterOf regex.now.sets) regex.now.tree) }
+    ensures language { IfOk result (AcceptsTheMatches regex.now.sets regex.now.tree) }
 {
-    let letters = regex.posts();
-    if letters.len() >= u32::MAX as usize {
-        return Err(OutOfMemory);
-    }
-    let alphabet = alphabet_of(alloc, regex)?;
-    let posts = coded(alloc, &alphabet, regex.sets(), letters)?;
-    let states = states_of(alloc, &posts)?;
+    let sets = regex.sets().as_slice();
+    let steps = regex.steps();
+    let alphabet = alphabet_of(alloc, sets)?;
+    let places = next_places(alloc, steps)?;
+    let ranges = ranges_of(alloc, &alphabet, sets, steps)?;
+    let states = states_of(alloc, &places, &ranges)?;
     Nfa::from_states(alloc, alphabet, states)
 }
 
-// The alphabet of the expression's sets, which are few enough and small enough.
-fn alphabet_of(alloc: Global, regex: &Regex) -> Result<Alphabet, OutOfMemory>
-    requires { IsAlphabet (sizes_of regex.now.sets) }
-    ensures { IfOk result (λ alphabet. alphabet ≡ sizes_of regex.now.sets) }
+// The alphabet of the sets, which are few enough and small enough.
+fn alphabet_of(alloc: Global, sets: &[LetterSet]) -> Result<Alphabet, OutOfMemory>
+    requires { IsAlphabet (sizes_of sets.now) }
+    ensures { IfOk result (λ alphabet. alphabet ≡ sizes_of sets.now) }
 {
-    match Alphabet::of_header(alloc, regex.header()) {
+    let mut sizes = Vec::new(alloc);
+    for set in sets {
+        sizes.push(set.len())?;
+    }
+    match Alphabet::new(alloc, &sizes) {
         Ok(alphabet) => Ok(alphabet),
         Err(_) => Err(OutOfMemory),
     }

@@ -1,94 +1,314 @@
-//! The digits and stars of a text.
+//! The tokens of an expression, read one after the other to its steps.
+//!
+//! A sign between two operands waits for the second, as in Dijkstra's shunting-yard algorithm ("Algol
+//! 60 translation"). In each group at most one of each kind waits, so two flags tell which do.
 
-ghost use Rattle.std.specs.Prelude.{◌≡◌, ◌<◌, ◌≤◌, ◌+◌, length};
-ghost use Rattle.regex_build.specs.Grammar.{spelling};
-ghost use Rattle.regex_build.specs.Reading.{IsMark, Adds, AddsStar, ReadsVec};
+ghost use Rattle.std.specs.Prelude.{◌≡◌, ◌<◌, ℤ, List, length, MatchOption, IfOk, OnOk, ⊤};
+ghost use Rattle.regex_build.specs.Tokens as tokens;
+ghost use Rattle.regex_build.specs.Machine as machine;
+ghost use Rattle.regex_build.specs.Limits.{IsMember, set_at};
+ghost use Rattle.regex_build.specs.Reading.{state_view, token_view, IsWritten, Answers, Enters, GivesAt, Gives, Ends};
 
-use crate::fault::RegexFault;
-use crate::post::Post;
+use crate::fault::Refusal;
+use crate::letter_tuple::LetterTuple;
+use crate::step::Step;
+use crate::token::Token;
+use digit_tuple::faults::OutOfMemory;
 use digit_tuple::letter_set::LetterSet;
+use digit_tuple::sets::Sets;
 use std::alloc::Global;
-use text_grammar::Class;
+use std::mem;
 
-/// What a byte of an expression is.
+/// The greatest nesting of parentheses.
+const MOST_NESTED: usize = 128;
+
+/// What stands before the post that is read, in the same parentheses: alternatives with a `|`
+/// behind them, and a sequence.
+#[derive(Clone, Copy, Debug, PartialEq, Eq)]
+pub(crate) struct Group {
+    pub alternatives: bool,
+    pub sequence: bool,
+}
+
+/// Where a reading stands.
+#[derive(Clone, Copy, Debug, PartialEq, Eq)]
+pub(crate) enum Place {
+    /// A post begins here.
+    AtPost,
+    /// Behind a post, which more signs may follow.
+    Behind,
+    /// In brackets, before a number.
+    AtNumber,
+    /// In brackets, behind a number.
+    BehindNumber,
+}
+
+/// An expression that is being read: the groups around, the innermost last, the group that is
+/// read, the place in it, the numbers of an open bracket, and the steps so far.
 #[derive(Drop)]
-pub enum Mark {
-    Blank,
-    Star,
-    Digit(u8),
-    Other,
+pub(crate) struct Reading {
+    pub outer: Vec<Group>,
+    pub group: Group,
+    pub place: Place,
+    pub letter: LetterTuple,
+    pub steps: Vec<Step>,
 }
 
-fn mark_of(byte: u8) -> Mark
-    ensures { IsMark byte result }
-{
-    if Class::Blank.contains(byte) {
-        Mark::Blank
-    } else if byte == b'*' {
-        Mark::Star
-    } else if Class::Digit.contains(byte) {
-        Mark::Digit(byte - b'0')
-    } else {
-        Mark::Other
+impl Group {
+    /// Nothing has come.
+    fn fresh() -> Group
+        ensures { result ≡ machine.fresh }
+    {
+        Group {
+            alternatives: false,
+            sequence: false,
+        }
     }
-}
 
-// Adds a star to the last of the letters. With no letter the star is at fault.
-fn add_star(posts: &mut Vec<Post<u8>>, at: usize) -> Result<(), RegexFault>
-    requires { length (spelling posts.old.items) ≤ at }
-    ensures { AddsStar posts.old.items at posts.new.items result }
-{
-    if posts.is_empty() {
-        return Err(RegexFault::Syntax(at));
-    }
-    let last = posts.len() - 1;
-    posts[last].stars += 1;
-    Ok(())
-}
-
-// Adds a digit to the letters. One that is no member of the set is at fault.
-fn add_digit(
-    set: &LetterSet,
-    posts: &mut Vec<Post<u8>>,
-    digit: u8,
-    at: usize,
-) -> Result<(), RegexFault>
-    requires { digit < 10 }
-    ensures { Adds set.now posts.old.items (48 + digit) at posts.new.items result }
-{
-    if set.place_of(i32::from(digit)).is_none() {
-        return Err(RegexFault::Number(at));
-    }
-    posts.push(Post {
-        letter: digit,
-        stars: 0,
-    })?;
-    Ok(())
-}
-
-// Reads one byte more, which stands at this place.
-fn add(set: &LetterSet, posts: &mut Vec<Post<u8>>, byte: u8, at: usize) -> Result<(), RegexFault>
-    requires { length (spelling posts.old.items) ≤ at }
-    ensures { Adds set.now posts.old.items byte at posts.new.items result }
-{
-    match mark_of(byte) {
-        Mark::Blank => Ok(()),
-        Mark::Star => add_star(posts, at),
-        Mark::Digit(digit) => add_digit(set, posts, digit, at),
-        Mark::Other => Err(RegexFault::Syntax(at)),
+    fn is_fresh(self) -> bool
+        ensures { result ≡ machine.is_fresh self }
+    {
+        !self.alternatives && !self.sequence
     }
 }
 
-/// The digits and stars of a text over one set.
-pub fn read(alloc: Global, text: &[u8], set: &LetterSet) -> Result<Vec<Post<u8>>, RegexFault>
-    ensures { ReadsVec set.now text.now result }
+/// The number as a member of a set, if it is one.
+fn member_of(set: &LetterSet, number: i64) -> Option<i32>
+    ensures { MatchOption result (IsMember set.now number → ⊥) (λ m. (m ≡ number) × IsMember set.now number) }
 {
-    let mut posts = Vec::new(alloc);
-    for (at, byte) in text.iter().enumerate() {
-        add(set, &mut posts, *byte, at)?;
+    let member = i32::try_from(number).ok()?;
+    set.place_of(member)?;
+    Some(member)
+}
+
+/// The number as a member of a track's set, if it is one.
+fn member_at(sets: &Sets, track: usize, number: i64) -> Option<i32>
+    ensures { MatchOption result (IsMember (set_at sets.now track) number → ⊥) (λ m. (m ≡ number) × IsMember (set_at sets.now track) number) }
+{
+    member_of(sets.as_slice().get(track)?, number)
+}
+
+impl Reading {
+    /// Nothing has come.
+    pub fn new(alloc: Global) -> Reading
+        ensures { state_view result ≡ machine.start }
+    {
+        Reading {
+            outer: Vec::new(alloc),
+            group: Group::fresh(),
+            place: Place::AtPost,
+            letter: LetterTuple::new(alloc),
+            steps: Vec::new(alloc),
+        }
     }
-    if posts.is_empty() {
-        return Err(RegexFault::Syntax(text.len()));
+
+    /// Whether a bracket is open.
+    pub fn in_bracket(&self) -> bool
+        ensures { result ≡ machine.in_bracket self.now.place }
+    {
+        matches!(self.place, Place::AtNumber | Place::BehindNumber)
     }
-    Ok(posts)
+
+    /// Adds a step, behind which the reading then stands.
+    fn push(&mut self, step: Step) -> Result<(), OutOfMemory>
+        ensures { OnOk result (state_view self.new ≡ machine.pushed (state_view self.old) step) }
+    {
+        self.steps.push(step)?;
+        self.place = Place::Behind;
+        Ok(())
+    }
+
+    /// Ends the sequence so far with the last post.
+    fn follow(&mut self) -> Result<(), OutOfMemory>
+        ensures { OnOk result (state_view self.new ≡ machine.followed (state_view self.old)) }
+    {
+        if self.group.sequence {
+            self.steps.push(Step::Follow)?;
+        }
+        self.group.sequence = true;
+        Ok(())
+    }
+
+    /// Ends the alternatives so far with the last sequence.
+    fn join(&mut self) -> Result<(), OutOfMemory>
+        ensures { OnOk result (state_view self.new ≡ machine.joined (state_view self.old)) }
+    {
+        self.follow()?;
+        if self.group.alternatives {
+            self.steps.push(Step::Either)?;
+        }
+        self.group = Group {
+            alternatives: true,
+            sequence: false,
+        };
+        Ok(())
+    }
+
+    /// Ends the group that is read, unless it is the outermost.
+    fn close(&mut self) -> Result<(), Refusal>
+        ensures { (t : tokens.Token) → Answers (machine.close (state_view self.old).outer (state_view self.old)) ⊤ t (state_view self.new) result }
+    {
+        match self.outer.pop() {
+            Some(group) => {
+                self.group = group;
+                self.place = Place::Behind;
+                Ok(())
+            }
+            None => Err(Refusal::Syntax),
+        }
+    }
+
+    /// Opens a group.
+    #[tactic(auto, using(crate::proofs::ReadingSteps::length_reversed))]
+    fn open(&mut self) -> Result<(), Refusal>
+        ensures { (sets : List (List ℤ)) → Enters sets (state_view self.old) tokens.opening (state_view self.new) result }
+    {
+        if self.outer.len() >= MOST_NESTED {
+            return Err(Refusal::Depth);
+        }
+        self.outer.push(self.group)?;
+        self.group = Group::fresh();
+        self.place = Place::AtPost;
+        Ok(())
+    }
+
+    /// Reads a digit as a letter of one track.
+    fn digit(&mut self, alloc: Global, sets: &Sets, digit: u8) -> Result<(), Refusal>
+        requires { digit < 10 }
+        ensures { Enters sets.now (state_view self.old) (tokens.digit digit) (state_view self.new) result }
+    {
+        if sets.len() != 1 {
+            return Err(Refusal::Syntax);
+        }
+        let Some(member) = member_at(sets, 0, i64::from(digit)) else {
+            return Err(Refusal::Number);
+        };
+        let mut letter = LetterTuple::new(alloc);
+        letter.push(member)?;
+        self.push(Step::Letter(letter))?;
+        Ok(())
+    }
+
+    /// Reads a token with which a post begins.
+    fn enter(&mut self, alloc: Global, sets: &Sets, token: Token) -> Result<(), Refusal>
+        requires { IsWritten (token_view token) }
+        ensures { Enters sets.now (state_view self.old) (token_view token) (state_view self.new) result }
+    {
+        match token {
+            Token::Digit(digit) => self.digit(alloc, sets, digit),
+            Token::Dot => Ok(self.push(Step::Any)?),
+            Token::Opening => self.open(),
+            Token::Bracket => {
+                if sets.is_empty() {
+                    return Err(Refusal::Syntax);
+                }
+                self.place = Place::AtNumber;
+                Ok(())
+            }
+            _ => Err(Refusal::Syntax),
+        }
+    }
+
+    /// Reads a token where a post begins.
+    fn at_post(&mut self, alloc: Global, sets: &Sets, token: Token) -> Result<(), Refusal>
+        requires { IsWritten (token_view token) }
+        ensures { GivesAt Place.AtPost sets.now (state_view self.old) (token_view token) (state_view self.new) result }
+    {
+        match token {
+            Token::Closing => {
+                if self.group.is_fresh() {
+                    self.push(Step::Empty)?;
+                    return self.close();
+                }
+                Err(Refusal::Syntax)
+            }
+            _ => self.enter(alloc, sets, token),
+        }
+    }
+
+    /// Reads a token behind a post.
+    fn behind(&mut self, alloc: Global, sets: &Sets, token: Token) -> Result<(), Refusal>
+        requires { IsWritten (token_view token) }
+        ensures { GivesAt Place.Behind sets.now (state_view self.old) (token_view token) (state_view self.new) result }
+    {
+        match token {
+            Token::Star => Ok(self.push(Step::Star)?),
+            Token::Plus => Ok(self.push(Step::Plus)?),
+            Token::Optional => Ok(self.push(Step::Optional)?),
+            Token::Bar => {
+                self.join()?;
+                self.place = Place::AtPost;
+                Ok(())
+            }
+            Token::Closing => {
+                self.join()?;
+                self.close()
+            }
+            _ => {
+                self.follow()?;
+                self.enter(alloc, sets, token)
+            }
+        }
+    }
+
+    /// Reads a token before a number of a bracket.
+    fn at_number(&mut self, sets: &Sets, token: Token) -> Result<(), Refusal>
+        ensures { GivesAt Place.AtNumber sets.now (state_view self.old) (token_view token) (state_view self.new) result }
+    {
+        let Token::Number(number) = token else {
+            return Err(Refusal::Syntax);
+        };
+        let Some(member) = member_at(sets, self.letter.len(), number) else {
+            return Err(Refusal::Number);
+        };
+        self.letter.push(member)?;
+        self.place = Place::BehindNumber;
+        Ok(())
+    }
+
+    /// Reads a token behind a number of a bracket.
+    fn behind_number(&mut self, alloc: Global, sets: &Sets, token: Token) -> Result<(), Refusal>
+        ensures { GivesAt Place.BehindNumber sets.now (state_view self.old) (token_view token) (state_view self.new) result }
+    {
+        match token {
+            Token::Comma if self.letter.len() < sets.len() => {
+                self.place = Place::AtNumber;
+                Ok(())
+            }
+            Token::Unbracket if self.letter.len() == sets.len() => {
+                let letter = mem::replace(&mut self.letter, LetterTuple::new(alloc));
+                self.push(Step::Letter(letter))?;
+                Ok(())
+            }
+            _ => Err(Refusal::Syntax),
+        }
+    }
+
+    /// Reads a token.
+    pub fn take(&mut self, alloc: Global, sets: &Sets, token: Token) -> Result<(), Refusal>
+        requires { IsWritten (token_view token) }
+        ensures { Gives sets.now (state_view self.old) (token_view token) (state_view self.new) result }
+    {
+        match self.place {
+            Place::AtPost => self.at_post(alloc, sets, token),
+            Place::Behind => self.behind(alloc, sets, token),
+            Place::AtNumber => self.at_number(sets, token),
+            Place::BehindNumber => self.behind_number(alloc, sets, token),
+        }
+    }
+
+    /// The steps of the text that ends here, if it may.
+    #[tactic(auto, using(crate::proofs::ReadingSteps::unclosed, crate::proofs::ReadingSteps::unended))]
+    pub fn finish(mut self) -> Result<Option<Vec<Step>>, OutOfMemory>
+        ensures { IfOk result (λ o. Ends (machine.ended (state_view self)) o) }
+    {
+        if !self.outer.is_empty() {
+            return Ok(None);
+        }
+        if self.place != Place::Behind {
+            return Ok(None);
+        }
+        self.join()?;
+        Ok(Some(self.steps))
+    }
 }

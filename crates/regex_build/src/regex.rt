@@ -1,71 +1,79 @@
 //! Expressions.
 
-ghost use Rattle.std.specs.Prelude.{◌≡◌, ℤ, List, All};
-ghost use Rattle.digit_tuple.specs.Headers.{sets_of};
+ghost use Rattle.std.specs.Prelude.{◌≡◌, ◌↔◌, ℤ, List, All, IsSome, IfSome};
+ghost use Rattle.digit_tuple.specs.Sets.{IsLetterSet};
+ghost use Rattle.regex_build.specs.Patterns.{IsOver};
+ghost use Rattle.regex_build.specs.Postfix.{IsPostfix, tree_of};
 
-use crate::letter_tuple::LetterTuple;
-use crate::post::Post;
-use digit_tuple::header::Header;
+use crate::postfix::{are_postfix, have_members};
+use crate::step::Step;
 use digit_tuple::letter_set::LetterSet;
+use digit_tuple::sets::Sets;
 use std::marker::Model;
 
-/// An expression over the sets of a header: letters with stars, one behind the other. Each letter
-/// has a member of each set.
+/// An expression over a set for each track, kept in postfix order. Each letter has a member of each
+/// set.
 #[derive(Drop)]
 pub struct Regex {
-    tracks: Header,
-    letters: Vec<Post<LetterTuple>>,
+    tracks: Sets,
+    steps: Vec<Step>,
 }
 
 impl Model for Regex {
     ghost use Rattle.std.specs.Prelude.{All};
-    ghost use Rattle.digit_tuple.specs.Headers.{sets_of};
     ghost use Rattle.regex_build.specs.Patterns.{Pattern, IsOver};
+    ghost use Rattle.regex_build.specs.PatternCode.{pattern_code};
+    ghost use Rattle.regex_build.specs.Postfix.{IsPostfix, tree_of};
 
     ghost Value = { Pattern };
 
-    ghost view = { λ r. record { sets = sets_of r.tracks; posts = r.letters.items } };
+    ghost coded = { pattern_code };
 
-    ghost invariant = { λ r. All (IsOver (sets_of r.tracks)) r.letters.items };
+    ghost view = { λ r. record { sets = r.tracks; tree = tree_of r.steps.items } };
+
+    ghost invariant = { λ r. IsPostfix r.steps.items × All (IsOver r.tracks) r.steps.items };
 }
 
 impl Regex {
-    ghost use Rattle.digit_tuple.specs.Sets.{IsLetterSet};
-    ghost use Rattle.regex_build.specs.Patterns.{IsOver};
-
-    /// The expression of these letters with stars, each of which has a member of each set.
-    pub fn new(header: Header, posts: Vec<Post<LetterTuple>>) -> Self
-        requires { All (IsOver (sets_of header)) posts.items }
-        ensures { result ≡ record { sets = sets_of header; posts = posts.items } }
+    /// The expression of these steps, which are in postfix order and whose letters have a member of
+    /// each set.
+    pub fn new(sets: Sets, steps: Vec<Step>) -> Self
+        requires postfix { IsPostfix steps.items }
+        requires letters { All (IsOver sets) steps.items }
+        ensures { result ≡ record { sets = sets; tree = tree_of steps.items } }
     {
         Regex {
-            tracks: header,
-            letters: posts,
+            tracks: sets,
+            steps,
         }
     }
 
-    /// The header whose sets have the letters' members.
-    pub fn header(&self) -> &Header
-        ensures { sets_of result.now ≡ self.now.sets }
+    /// The expression of these steps, or None if they are in no postfix order or a letter has no
+    /// member of some set, or more members than there are sets.
+    pub fn try_new(sets: Sets, steps: Vec<Step>) -> Option<Self>
+        ensures fits { IsSome result ↔ (IsPostfix steps.items × All (IsOver sets) steps.items) }
+        ensures value { IfSome result (λ regex. regex ≡ record { sets = sets; tree = tree_of steps.items }) }
+    {
+        if are_postfix(&steps) && have_members(sets.as_slice(), &steps) {
+            Some(Regex::new(sets, steps))
+        } else {
+            None
+        }
+    }
+
+    /// The sets of the tracks.
+    pub fn sets(&self) -> &Sets
+        ensures { result.now ≡ self.now.sets }
     {
         &self.tracks
     }
 
-    /// The sets of the tracks.
-    pub fn sets(&self) -> &[LetterSet]
-        ensures value { result.now ≡ self.now.sets }
-        ensures sets { All IsLetterSet result.now }
-    {
-        match &self.tracks {
-            Header::Sets(sets) => sets.as_slice(),
-        }
-    }
-
-    /// The letters, each with its stars.
-    pub fn posts(&self) -> &[Post<LetterTuple>]
-        ensures posts { result.now ≡ self.now.posts }
+    /// The steps, in postfix order.
+    pub fn steps(&self) -> &[Step]
+        ensures tree { tree_of result.now ≡ self.now.tree }
+        ensures postfix { IsPostfix result.now }
         ensures letters { All (IsOver self.now.sets) result.now }
     {
-        &self.letters
+        &self.steps
     }
 }

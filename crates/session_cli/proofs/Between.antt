@@ -1,8 +1,8 @@
 -- Where a run stands between two items, whatever may still come of the script.
-use Rattle.std.proofs.Common.{◌≡◌, ℕ, ◌<◌, ◌≤◌, ◌⊎◌, Bool, true, false, List, [], ◌∷◌, ◌++◌, length, Option, Result, Ok, Err, Vec, Global, refl, sym, ap, subst, inl, inr, arith, append_assoc, append-nil}
+use Rattle.std.proofs.Common.{◌≡◌, ℕ, ◌<◌, ◌≤◌, ◌⊎◌, Bool, true, false, List, [], ◌++◌, length, Option, Result, Ok, Err, Vec, Global, refl, sym, ap, subst, arith, append_assoc}
 use Rattle.std.specs.Io.KnownBytes.{Consumes, IsAtEnd as HasGivenAll}
 use Rattle.wal_outside.specs.Causes.{Rose}
-use Rattle.script_cut.specs.Cuts.{Ended, Terminated, Unterminated, PastLimit, Item, Place, Next, start, CutsTo, CutsCommand, CutsOpen, CutsOff, IsAtEnd, HasNoCommand}
+use Rattle.script_cut.specs.Cuts.{Ended, Terminated, Unterminated, PastLimit, Place, Next, start, CutsTo, CutsCommand, CutsOpen, CutsOff, IsAtEnd, HasNoCommand}
 use Rattle.script_cut.specs.Kept.{Kept, fresh}
 use Rattle.script_cut.specs.Cutting.{place_of, MayCome, GivesItem, HasCut}
 use Rattle.script_cut.specs.declared.cut.Cut.{Cut}
@@ -15,7 +15,6 @@ use Rattle.session_cli.specs.declared.fault.Fault.TheVariants as faults
 use Rattle.session_cli.specs.declared.tally.Tally.{Tally}
 use Rattle.session_cli.specs.declared.status.Status.{Status}
 use Rattle.session_cli.specs.declared.status.Status.TheVariants as status
-use Rattle.session_cli.specs.Trees.{Ledger}
 use Rattle.session_cli.specs.Views.{SourceView, StoreView, SinkView, IsTold}
 use Rattle.session_cli.specs.Whole.{RanThrough, RanToStop, RanToFault}
 use Rattle.session_cli.specs.Tallies.{tally_status}
@@ -24,18 +23,18 @@ use Rattle.session_cli.proofs.Coming.{some_more, may_come_before, told_of}
 use Rattle.session_cli.proofs.Standing.{Stands, begins, ends_there, open_step, limit_step, none_left, finishes}
 
 -- the items so far are those of what the source gave, with whatever may come behind that
-pub record IsBetween (from to : Option (List ℕ)) (kept : Kept) (old now : StoreView) (held told : Option (List ℕ)) (tally : Tally) : Type 0 where
+pub record IsBetween (limit : ℕ) (from to : Option (List ℕ)) (kept : Kept) (old now : StoreView) (held told : Option (List ℕ)) (tally : Tally) : Type 0 where
   pub gave : List ℕ
   pub taken : Consumes from to gave
   pub ended : kept.over ≡ true → HasGivenAll to
-  pub stands : (more : List ℕ) → MayCome kept.over to more → Stands (gave ++ more) old now held told (place_of kept more) tally
+  pub stands : (more : List ℕ) → MayCome kept.over to more → Stands limit (gave ++ more) old now held told (place_of kept more) tally
 
-pub between_first : (from : Option (List ℕ)) (old : StoreView) (held : Option (List ℕ)) → IsBetween from from fresh old old held held (record { refused = false; store = false; memory = false })
-between_first from old held = record {
+pub between_first : (limit : ℕ) (from : Option (List ℕ)) (old : StoreView) (held : Option (List ℕ)) → IsBetween limit from from fresh old old held held (record { refused = false; store = false; memory = false })
+between_first limit from old held = record {
   gave = [];
   taken = consumes-none from;
   ended = λ is. cc;
-  stands = λ more may. begins more old held;
+  stands = λ more may. begins limit more old held;
 }
 
 -- what may come behind a cut might have come before it
@@ -43,25 +42,25 @@ came : (kept next : Kept) (to now : Option (List ℕ)) (result : Result Cut CutF
 came kept next to now result more begun c may = rw begun (may_come_before next.over to now c.given more c.taken (c.ended begun) may)
 
 -- an item was answered
-pub between_next : (from to now : Option (List ℕ)) (kept next : Kept) (result : Result Cut CutFault) (old mid new : StoreView) (held told then : Option (List ℕ)) (tally counted : Tally)
-    → kept.over ≡ false → IsBetween from to kept old mid held told tally → HasCut kept to result next now
-    → ((script : List ℕ) (place behind : Place) → Stands script old mid held told place tally → GivesItem place result behind → Stands script old new held then behind counted)
-    → IsBetween from now next old new held then counted
-between_next from to now kept next result old mid new held told then tally counted begun b c step = record {
+pub between_next : (limit : ℕ) (from to now : Option (List ℕ)) (kept next : Kept) (result : Result Cut CutFault) (old mid new : StoreView) (held told then : Option (List ℕ)) (tally counted : Tally)
+    → kept.over ≡ false → IsBetween limit from to kept old mid held told tally → HasCut kept to result next now
+    → ((script : List ℕ) (place behind : Place) → Stands limit script old mid held told place tally → GivesItem place result behind → Stands limit script old new held then behind counted)
+    → IsBetween limit from now next old new held then counted
+between_next limit from to now kept next result old mid new held told then tally counted begun b c step = record {
   gave = b.gave ++ c.given;
   taken = consumes-then from to now b.gave c.given b.taken c.taken;
   ended = c.ended begun;
   stands = λ more may.
-      let P : List ℕ → Type 0 = λ script. Stands script old new held then (place_of next more) counted in
+      let P : List ℕ → Type 0 = λ script. Stands limit script old new held then (place_of next more) counted in
       subst P (sym (append_assoc b.gave c.given more)) (step (b.gave ++ (c.given ++ more)) (place_of kept (c.given ++ more)) (place_of next more) (b.stands (c.given ++ more) (came kept next to now result more begun c may)) (c.item more may));
 }
 
 -- the run ended with an item
-pub between_ends : (from to now : Option (List ℕ)) (kept next : Kept) (result : Result Cut CutFault) (old mid : StoreView) (held told : Option (List ℕ)) (tally : Tally) (Ended : List ℕ → Type 0)
-    → kept.over ≡ false → IsBetween from to kept old mid held told tally → HasCut kept to result next now
-    → ((script : List ℕ) (place behind : Place) → Stands script old mid held told place tally → GivesItem place result behind → Ended script)
+pub between_ends : (limit : ℕ) (from to now : Option (List ℕ)) (kept next : Kept) (result : Result Cut CutFault) (old mid : StoreView) (held told : Option (List ℕ)) (tally : Tally) (Ended : List ℕ → Type 0)
+    → kept.over ≡ false → IsBetween limit from to kept old mid held told tally → HasCut kept to result next now
+    → ((script : List ℕ) (place behind : Place) → Stands limit script old mid held told place tally → GivesItem place result behind → Ended script)
     → (script : List ℕ) × IsTold from script × Ended script
-between_ends from to now kept next result old mid held told tally Ended begun b c step =
+between_ends limit from to now kept next result old mid held told tally Ended begun b c step =
     let more : (more : List ℕ) × MayCome next.over now more = some_more next.over now in
     let may : MayCome kept.over to (c.given ++ more.0) = came kept next to now result more.0 begun c more.1 in (
       b.gave ++ (c.given ++ more.0),
@@ -70,53 +69,53 @@ between_ends from to now kept next result old mid held told tally Ended begun b 
     )
 
 -- the script's end
-pub between_end : (over : Bool) (from to now : Option (List ℕ)) (kept next : Kept) (old mid : StoreView) (held told : SinkView) (tally : Tally) (state : Status)
-    → kept.over ≡ over → IsBetween from to kept old mid held.held told.held tally → HasCut kept to (Ok cuts.End) next now → state ≡ tally_status tally
-    → (script : List ℕ) × IsTold from script × RanThrough script old mid held told state
-between_end false from to now kept next old mid held told tally state begun b c is =
-    between_ends from to now kept next (Ok cuts.End) old mid held.held told.held tally (λ script. RanThrough script old mid held told state) begun b c
-    (λ script place behind stands end. ends_there script old mid held told place tally state stands end is)
-between_end true from to now kept next old mid held told tally state over b c is =
+pub between_end : (limit : ℕ) (over : Bool) (from to now : Option (List ℕ)) (kept next : Kept) (old mid : StoreView) (held told : SinkView) (tally : Tally) (state : Status)
+    → kept.over ≡ over → IsBetween limit from to kept old mid held.held told.held tally → HasCut kept to (Ok cuts.End) next now → state ≡ tally_status tally
+    → (script : List ℕ) × IsTold from script × RanThrough limit script old mid held told state
+between_end limit false from to now kept next old mid held told tally state begun b c is =
+    between_ends limit from to now kept next (Ok cuts.End) old mid held.held told.held tally (λ script. RanThrough limit script old mid held told state) begun b c
+    (λ script place behind stands end. ends_there limit script old mid held told place tally state stands end is)
+between_end limit true from to now kept next old mid held told tally state over b c is =
     let may : MayCome kept.over to [] = rw over refl in
     let none : (place_of kept []).left ≡ [] = rw over refl in (
       b.gave ++ [],
       told_of from (b.gave ++ []) (may_come_before kept.over from to b.gave [] b.taken b.ended may),
-      ends_there (b.gave ++ []) old mid held told (place_of kept []) tally state (b.stands [] may) (none_left (place_of kept []) none) is,
+      ends_there limit (b.gave ++ []) old mid held told (place_of kept []) tally state (b.stands [] may) (none_left (place_of kept []) none) is,
     )
 
 -- a text without terminator, or the limit of the script
-pub between_finishes : (from to now : Option (List ℕ)) (kept next : Kept) (line len : ℕ) (old mid : StoreView) (held told then : SinkView) (tally : Tally) (state : Status)
-    → kept.over ≡ false → IsBetween from to kept old mid held.held told.held tally → HasCut kept to (Err (cut_faults.Syntax line len)) next now → held.faults ≤ told.faults
+pub between_finishes : (limit : ℕ) (from to now : Option (List ℕ)) (kept next : Kept) (line len : ℕ) (old mid : StoreView) (held told then : SinkView) (tally : Tally) (state : Status)
+    → kept.over ≡ false → IsBetween limit from to kept old mid held.held told.held tally → HasCut kept to (Err (cut_faults.Syntax line len)) next now → held.faults ≤ told.faults
     → Finishes told line (faults.Syntax parts.Command len) tally then state
-    → (script : List ℕ) × IsTold from script × (RanThrough script old mid held then state ⊎ RanToStop script old mid held then state)
-between_finishes from to now kept next line len old mid held told then tally state begun b c later ends =
-    between_ends from to now kept next (Err (cut_faults.Syntax line len)) old mid held.held told.held tally (λ script. RanThrough script old mid held then state ⊎ RanToStop script old mid held then state) begun b c
-    (λ script place behind stands (text, cut, len_is, short). finishes script old mid held told then place behind tally (record { text = text; line = line; ended = Unterminated }) (faults.Syntax parts.Command len) state stands cut (at_end place text behind cut.before cut.cut) later
-    (λ ledger. open_step ledger mid text line (faults.Syntax parts.Command len) (omega arith, len_is)) ends)
+    → (script : List ℕ) × IsTold from script × (RanThrough limit script old mid held then state ⊎ RanToStop limit script old mid held then state)
+between_finishes limit from to now kept next line len old mid held told then tally state begun b c later ends =
+    between_ends limit from to now kept next (Err (cut_faults.Syntax line len)) old mid held.held told.held tally (λ script. RanThrough limit script old mid held then state ⊎ RanToStop limit script old mid held then state) begun b c
+    (λ script place behind stands (text, cut, len_is, short). finishes limit script old mid held told then place behind tally (record { text = text; line = line; ended = Unterminated }) (faults.Syntax parts.Command len) state stands cut (at_end place text behind cut.before cut.cut) later
+    (λ ledger. open_step limit ledger mid text line len (omega arith) len_is) ends)
   where
     at_end : (place : Place) (text : List ℕ) (behind : Place) (before : List ℕ) → CutsOpen place before text behind → IsAtEnd behind
     at_end place text behind before cut = none_left behind cut.nothing_left
 
-pub between_limit : (from to now : Option (List ℕ)) (kept next : Kept) (line : ℕ) (old mid : StoreView) (held told then : SinkView) (tally : Tally) (state : Status)
-    → kept.over ≡ false → IsBetween from to kept old mid held.held told.held tally → HasCut kept to (Err (cut_faults.ScriptLimit line)) next now → held.faults ≤ told.faults
+pub between_limit : (limit : ℕ) (from to now : Option (List ℕ)) (kept next : Kept) (line : ℕ) (old mid : StoreView) (held told then : SinkView) (tally : Tally) (state : Status)
+    → kept.over ≡ false → IsBetween limit from to kept old mid held.held told.held tally → HasCut kept to (Err (cut_faults.ScriptLimit line)) next now → held.faults ≤ told.faults
     → Finishes told line faults.ScriptLimit tally then state
-    → (script : List ℕ) × IsTold from script × (RanThrough script old mid held then state ⊎ RanToStop script old mid held then state)
-between_limit from to now kept next line old mid held told then tally state begun b c later ends =
-    between_ends from to now kept next (Err (cut_faults.ScriptLimit line)) old mid held.held told.held tally (λ script. RanThrough script old mid held then state ⊎ RanToStop script old mid held then state) begun b c
-    (λ script place behind stands (last, cut). finishes script old mid held told then place last tally (record { text = []; line = line; ended = PastLimit }) faults.ScriptLimit state stands cut (at_end place last cut.before cut.cut) later
-    (λ ledger. limit_step ledger mid line) ends)
+    → (script : List ℕ) × IsTold from script × (RanThrough limit script old mid held then state ⊎ RanToStop limit script old mid held then state)
+between_limit limit from to now kept next line old mid held told then tally state begun b c later ends =
+    between_ends limit from to now kept next (Err (cut_faults.ScriptLimit line)) old mid held.held told.held tally (λ script. RanThrough limit script old mid held then state ⊎ RanToStop limit script old mid held then state) begun b c
+    (λ script place behind stands (last, cut). finishes limit script old mid held told then place last tally (record { text = []; line = line; ended = PastLimit }) faults.ScriptLimit state stands cut (at_end place last cut.before cut.cut) later
+    (λ ledger. limit_step limit ledger mid line) ends)
   where
     at_end : (place last : Place) (before : List ℕ) → CutsOff place before [] last → IsAtEnd last
     at_end place last before off = none_left last off.nothing_left
 
 -- the source failed, or there was no memory for the next item
-pub between_fault : (from to then : SourceView) (kept next : Kept) (result : Result Cut CutFault) (old mid : StoreView) (held told : SinkView) (tally : Tally) (state : Status)
-    → kept.over ≡ false → IsBetween from.left to.left kept old mid held.held told.held tally → (c : HasCut kept to.left result next then.left)
+pub between_fault : (limit : ℕ) (from to then : SourceView) (kept next : Kept) (result : Result Cut CutFault) (old mid : StoreView) (held told : SinkView) (tally : Tally) (state : Status)
+    → kept.over ≡ false → IsBetween limit from.left to.left kept old mid held.held told.held tally → (c : HasCut kept to.left result next then.left)
     → ((state ≡ status.Outside) × Rose from.faults then.faults × HasNoCommand (kept.held ++ c.given)) ⊎ (state ≡ status.Memory)
-    → RanToFault from then old mid held told state
-between_fault from to then kept next result old mid held told tally state begun b c cause =
+    → RanToFault limit from then old mid held told state
+between_fault limit from to then kept next result old mid held told tally state begun b c cause =
     let more : (more : List ℕ) × MayCome false then.left more = some_more false then.left in
-    let s : Stands (b.gave ++ (c.given ++ more.0)) old mid held.held told.held (place_of kept (c.given ++ more.0)) tally = b.stands (c.given ++ more.0) (rw begun (may_come_before false to.left then.left c.given more.0 c.taken (λ is. cc) more.1)) in
+    let s : Stands limit (b.gave ++ (c.given ++ more.0)) old mid held.held told.held (place_of kept (c.given ++ more.0)) tally = b.stands (c.given ++ more.0) (rw begun (may_come_before false to.left then.left c.given more.0 c.taken (λ is. cc) more.1)) in
     let P : List ℕ → Type 0 = λ script. CutsTo (start script) s.items (place_of kept (c.given ++ more.0)) in
     record {
       gave = b.gave ++ c.given;

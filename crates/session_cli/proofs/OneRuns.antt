@@ -1,5 +1,6 @@
 -- Runs over one script end alike, unless the store, the sink or memory fails.
 use Rattle.std.proofs.Common.{◌≡◌, ℕ, ◌+◌, ◌-◌, ◌^◌, ◌<◌, ◌≤◌, min, ◌⊎◌, Bool, true, false, ◌||◌, if◌then◌else◌, List, [], ◌∷◌, length, Option, Some, Ok, Err, refl, sym, ap, ◌∙◌, subst, inl, inr, arith}
+use Rattle.std.specs.Prelude.{⊤}
 use Rattle.std.specs.Option.{option_map}
 use Rattle.wal_outside.specs.Causes.{Rose}
 use Rattle.wal_outside.specs.Files.{Files, put}
@@ -16,38 +17,48 @@ use Rattle.session_cli.specs.Trees.{Ledger}
 use Rattle.session_cli.specs.Outcomes.{Answer, after, Outcome, OpenOutcome}
 use Rattle.session_cli.specs.Views.{SourceView, SinkView, StoreView, IsTold}
 use Rattle.session_cli.specs.Runs.{IsAnswer, IsAnswerOf, Changes, Run, first_ledger, of_fault, is_store_fault, is_memory_fault, is_refusal, some_of, status_by, status_of, printed}
-use Rattle.session_cli.specs.Whole.{StopsWith, RanThrough, HasRun}
+use Rattle.session_cli.specs.Whole.{StopsWith, RanThrough, HasRun, PrintsUsage, HasCalled}
 use Rattle.session_cli.specs.Laws.{IsClean, EndAlike, store_faults}
+use Rattle.session_cli.specs.Words.{GivesLimit}
+use Rattle.session_cli.proofs.OneLimits.{one_limit}
 use Rattle.session_cli.proofs.OneOutcomes.{one_text, one_answer}
 
 -- the count of store faults
-pub counted : (ledger last : Ledger) (old new : StoreView) (items : List Item) (answers : List Answer) → Run ledger old items answers last new → min (old.faults + store_faults answers) (2 ^ 64 - 1) ≤ new.faults
-counted ledger last old new [] [] run = let same : new.faults ≡ old.faults = ap (λ (s : StoreView). s.faults) run.1 in omega arith
-counted ledger last old new [] (answer ∷ answers) run = absurd run
-counted ledger last old new (item ∷ items) [] run = absurd run
-counted ledger last old new (item ∷ items) (answer ∷ answers) run =
-    more (of_fault is_store_fault answer) (store_faults answers) old.faults run.0.faults new.faults run.1.later run.1.cause (counted (after ledger answer) last run.0 new items answers run.2)
+pub counted : (limit : ℕ) (ledger last : Ledger) (old new : StoreView) (items : List Item) (answers : List Answer) → Run limit ledger old items answers last new → min (old.faults + store_faults answers) (2 ^ 64 - 1) ≤ new.faults
+counted limit ledger last old new [] [] run = let same : new.faults ≡ old.faults = ap (λ (s : StoreView). s.faults) run.1 in omega arith
+counted limit ledger last old new [] (answer ∷ answers) run = absurd run
+counted limit ledger last old new (item ∷ items) [] run = absurd run
+counted limit ledger last old new (item ∷ items) (answer ∷ answers) run =
+    more (of_fault is_store_fault answer) (store_faults answers) old.faults run.0.faults new.faults run.1.later run.1.cause (counted limit (after ledger answer) last run.0 new items answers run.2)
   where
     more : (v : Bool) (k a b c : ℕ) → a ≤ b → (v ≡ true → min (a + 1) (2 ^ 64 - 1) ≤ b) → min (b + k) (2 ^ 64 - 1) ≤ c → min (a + ((if v then 1 else 0) + k)) (2 ^ 64 - 1) ≤ c
     more true k a b c later cause rest = omega (arith, cause refl)
     more false k a b c later cause rest = omega arith
 
 -- an answer that is neither the store's nor memory's is the proper outcome
-proper : (ledger : Ledger) (text : List ℕ) (answer : Answer) → IsAnswer ledger text answer → of_fault is_store_fault answer ≡ false → of_fault is_memory_fault answer ≡ false → Outcome ledger text answer
-proper ledger text (Ok success) is store memory = is
-proper ledger text (Err (faults.Store folder name)) is store memory = cc
-proper ledger text (Err faults.Memory) is store memory = cc
-proper ledger text (Err faults.ScriptLimit) is store memory = absurd is
-proper ledger text (Err faults.Command) is store memory = is
-proper ledger text (Err (faults.Syntax part at)) is store memory = is
-proper ledger text (Err (faults.Number part at)) is store memory = is
-proper ledger text (Err (faults.Long limit)) is store memory = is
+proper : (limit : ℕ) (ledger : Ledger) (text : List ℕ) (shown : Bool) (answer : Answer) → IsAnswer limit ledger text shown answer → of_fault is_store_fault answer ≡ false → of_fault is_memory_fault answer ≡ false → Outcome limit ledger text shown answer
+proper limit ledger text shown (Ok success) is store memory = is
+proper limit ledger text shown (Err (faults.Store folder name)) is store memory = cc
+proper limit ledger text shown (Err faults.Memory) is store memory = cc
+proper limit ledger text shown (Err faults.ScriptLimit) is store memory = absurd is
+proper limit ledger text shown (Err faults.Command) is store memory = is
+proper limit ledger text shown (Err (faults.Syntax part at)) is store memory = is
+proper limit ledger text shown (Err (faults.Number part at)) is store memory = is
+proper limit ledger text shown (Err (faults.Depth part at)) is store memory = is
+proper limit ledger text shown (Err (faults.Long bytes)) is store memory = is
+proper limit ledger text shown (Err (faults.SystemUnknown name)) is store memory = is
+proper limit ledger text shown (Err (faults.Letters step)) is store memory = is
+proper limit ledger text shown (Err (faults.States step)) is store memory = is
 
 -- how a text without terminator is refused
 open_is : (text : List ℕ) (answer : Answer) → OpenOutcome text answer → ((65536 < length text) × (answer ≡ Err (faults.Long 65536))) ⊎ ((length text ≤ 65536) × (answer ≡ Err (faults.Syntax parts.Command (length text))))
-open_is text (Err (faults.Long limit)) (is, long) = inl (long, ap (λ (n : ℕ). let a : Answer = Err (faults.Long n) in a) is)
+open_is text (Err (faults.Long bytes)) (is, long) = inl (long, ap (λ (n : ℕ). let a : Answer = Err (faults.Long n) in a) is)
 open_is text (Err (faults.Syntax parts.Command at)) (short, is) = inr (short, ap (λ (n : ℕ). let a : Answer = Err (faults.Syntax parts.Command n) in a) is)
 open_is text (Err (faults.Syntax parts.Regex at)) is = absurd is
+open_is text (Err (faults.Depth part at)) is = absurd is
+open_is text (Err (faults.SystemUnknown name)) is = absurd is
+open_is text (Err (faults.Letters step)) is = absurd is
+open_is text (Err (faults.States step)) is = absurd is
 open_is text (Err (faults.Number part at)) is = absurd is
 open_is text (Err (faults.Store folder name)) is = absurd is
 open_is text (Err faults.Command) is = absurd is
@@ -66,11 +77,11 @@ same_open text answer other a b = by_cases (open_is text answer a) (open_is text
     by_cases (inr (short, is)) (inr (short', is')) = is ∙ sym is'
 
 -- an item has one answer that is neither the store's nor memory's
-same_item : (ended : Ended) (ledger : Ledger) (text : List ℕ) (answer other : Answer) → IsAnswerOf ended ledger text answer → IsAnswerOf ended ledger text other
+same_item : (limit : ℕ) (ended : Ended) (ledger : Ledger) (text : List ℕ) (answer other : Answer) → IsAnswerOf limit ended ledger text answer → IsAnswerOf limit ended ledger text other
     → of_fault is_store_fault answer ≡ false → of_fault is_memory_fault answer ≡ false → of_fault is_store_fault other ≡ false → of_fault is_memory_fault other ≡ false → answer ≡ other
-same_item (Terminated shown) ledger text answer other a b s m s' m' = one_answer ledger text answer other (proper ledger text answer a s m) (proper ledger text other b s' m')
-same_item Unterminated ledger text answer other a b s m s' m' = same_open text answer other a b
-same_item PastLimit ledger text answer other a b s m s' m' = a ∙ sym b
+same_item limit (Terminated shown) ledger text answer other a b s m s' m' = one_answer limit ledger text shown answer other (proper limit ledger text shown answer a s m) (proper limit ledger text shown other b s' m')
+same_item limit Unterminated ledger text answer other a b s m s' m' = same_open text answer other a b
+same_item limit PastLimit ledger text answer other a b s m s' m' = a ∙ sym b
 
 -- one answer changes the same files in one way
 same_changes : (answer : Answer) (old old' new new' : Option Files) → old ≡ old' → Changes old answer new → Changes old' answer new' → new ≡ new'
@@ -103,24 +114,24 @@ record SameEnd (answers others : List Answer) (new new' : StoreView) : Type 0 wh
   answers_are : answers ≡ others
   files : new.files ≡ new'.files
 
-same_answers : (items : List Item) (answers others : List Answer) (ledger last last' : Ledger) (old old' new new' : StoreView) → old.files ≡ old'.files → Run ledger old items answers last new → Run ledger old' items others last' new'
+same_answers : (limit : ℕ) (items : List Item) (answers others : List Answer) (ledger last last' : Ledger) (old old' new new' : StoreView) → old.files ≡ old'.files → Run limit ledger old items answers last new → Run limit ledger old' items others last' new'
     → AreProper answers → AreProper others → SameEnd answers others new new'
-same_answers [] [] [] ledger last last' old old' new new' same run run' are are' = record {
+same_answers limit [] [] [] ledger last last' old old' new new' same run run' are are' = record {
   answers_are = refl;
   files = ap (λ (s : StoreView). s.files) run.1 ∙ (same ∙ sym (ap (λ (s : StoreView). s.files) run'.1));
 }
-same_answers [] [] (b ∷ others) ledger last last' old old' new new' same run run' are are' = absurd run'
-same_answers [] (a ∷ answers) others ledger last last' old old' new new' same run run' are are' = absurd run
-same_answers (item ∷ items) [] others ledger last last' old old' new new' same run run' are are' = absurd run
-same_answers (item ∷ items) (a ∷ answers) [] ledger last last' old old' new new' same run run' are are' = absurd run'
-same_answers (item ∷ items) (a ∷ answers) (b ∷ others) ledger last last' old old' new new' same run run' are are' =
-    let first : a ≡ b = same_item item.ended ledger item.text a b run.1.answered run'.1.answered
+same_answers limit [] [] (b ∷ others) ledger last last' old old' new new' same run run' are are' = absurd run'
+same_answers limit [] (a ∷ answers) others ledger last last' old old' new new' same run run' are are' = absurd run
+same_answers limit (item ∷ items) [] others ledger last last' old old' new new' same run run' are are' = absurd run
+same_answers limit (item ∷ items) (a ∷ answers) [] ledger last last' old old' new new' same run run' are are' = absurd run'
+same_answers limit (item ∷ items) (a ∷ answers) (b ∷ others) ledger last last' old old' new new' same run run' are are' =
+    let first : a ≡ b = same_item limit item.ended ledger item.text a b run.1.answered run'.1.answered
     (none_first (of_fault is_store_fault a) (some_of (of_fault is_store_fault) answers) are.store) (none_first (of_fault is_memory_fault a) (some_of (of_fault is_memory_fault) answers) are.memory)
     (none_first (of_fault is_store_fault b) (some_of (of_fault is_store_fault) others) are'.store) (none_first (of_fault is_memory_fault b) (some_of (of_fault is_memory_fault) others) are'.memory) in
     let P : Answer → Type 0 = λ x. Changes old'.files x run'.0.files in
     let mids : run.0.files ≡ run'.0.files = same_changes a old.files old'.files run.0.files run'.0.files same run.1.files (subst P (sym first) run'.1.files) in
-    let Q : Answer → Type 0 = λ x. Run (after ledger x) run'.0 items others last' new' in
-    let rest : SameEnd answers others new new' = same_answers items answers others (after ledger a) last last' run.0 run'.0 new new' mids run.2 (subst Q (sym first) run'.2) (proper_rest a answers are) (proper_rest b others are') in
+    let Q : Answer → Type 0 = λ x. Run limit (after ledger x) run'.0 items others last' new' in
+    let rest : SameEnd answers others new new' = same_answers limit items answers others (after ledger a) last last' run.0 run'.0 new new' mids run.2 (subst Q (sym first) run'.2) (proper_rest a answers are) (proper_rest b others are') in
     record { answers_are = λ i. first i ∷ rest.answers_are i; files = rest.files }
 
 clean_store : (refused store memory : Bool) → IsClean (status_by refused store memory) → (store ≡ false) × (memory ≡ false)
@@ -136,14 +147,14 @@ clean_answers answers state is clean =
     let both : (some_of (of_fault is_store_fault) answers ≡ false) × (some_of (of_fault is_memory_fault) answers ≡ false) = clean_store (some_of is_refusal answers) (some_of (of_fault is_store_fault) answers) (some_of (of_fault is_memory_fault) answers) (subst P is clean) in
     record { store = both.0; memory = both.1 }
 
-through_alike : (script : List ℕ) (old new old' new' : StoreView) (held now held' now' : SinkView) (state state' : Status) → RanThrough script old new held now state → RanThrough script old' new' held' now' state'
+through_alike : (limit : ℕ) (script : List ℕ) (old new old' new' : StoreView) (held now held' now' : SinkView) (state state' : Status) → RanThrough limit script old new held now state → RanThrough limit script old' new' held' now' state'
     → old.files ≡ old'.files → IsClean state → IsClean state' → EndAlike new new' held now held' now' state state'
-through_alike script old new old' new' held now held' now' state state' a b same clean clean' =
+through_alike limit script old new old' new' held now held' now' state state' a b same clean clean' =
     let items : a.items ≡ b.items = same_lists (start script) a.items b.items (record { last = a.last; cut = a.cut; end = a.end }) (record { last = b.last; cut = b.cut; end = b.end }) in
-    let P : List Item → Type 0 = λ is. Run (first_ledger old'.files) old' is b.answers b.ledger new' in
-    let Q : Option Files → Type 0 = λ files. Run (first_ledger files) old' a.items b.answers b.ledger new' in
-    let run : Run (first_ledger old.files) old' a.items b.answers b.ledger new' = subst Q (sym same) (subst P (sym items) b.run) in
-    let ends : SameEnd a.answers b.answers new new' = same_answers a.items a.answers b.answers (first_ledger old.files) a.ledger b.ledger old old' new new' same a.run run (clean_answers a.answers state a.state_is clean) (clean_answers b.answers state' b.state_is clean') in
+    let P : List Item → Type 0 = λ is. Run limit (first_ledger old'.files) old' is b.answers b.ledger new' in
+    let Q : Option Files → Type 0 = λ files. Run limit (first_ledger files) old' a.items b.answers b.ledger new' in
+    let run : Run limit (first_ledger old.files) old' a.items b.answers b.ledger new' = subst Q (sym same) (subst P (sym items) b.run) in
+    let ends : SameEnd a.answers b.answers new new' = same_answers limit a.items a.answers b.answers (first_ledger old.files) a.ledger b.ledger old old' new new' same a.run run (clean_answers a.answers state a.state_is clean) (clean_answers b.answers state' b.state_is clean') in
     let texts : printed b.items b.answers ≡ printed a.items a.answers = λ i. printed (sym items i) (sym ends.answers_are i) in
     record {
       status = a.state_is ∙ (ap (λ (xs : List Answer). status_of xs) ends.answers_are ∙ sym b.state_is);
@@ -167,18 +178,37 @@ no_fault P Q state (inl (is, rose, none)) (inr refused) = cc
 no_fault P Q state (inr is) (inl done) = cc
 no_fault P Q state (inr is) (inr refused) = cc
 
-clean_through : (script : List ℕ) (from to : SourceView) (old new : StoreView) (held now : SinkView) (state : Status) → HasRun from to old new held now state → from.left ≡ Some script → IsClean state → RanThrough script old new held now state
-clean_through script from to old new held now state (inl (read, told, inl ran)) is clean =
+clean_through : (limit : ℕ) (script : List ℕ) (from to : SourceView) (old new : StoreView) (held now : SinkView) (state : Status) → HasRun limit from to old new held now state → from.left ≡ Some script → IsClean state → RanThrough limit script old new held now state
+clean_through limit script from to old new held now state (inl (read, told, inl ran)) is clean =
     let P : Option (List ℕ) → Type 0 = λ left. IsTold left read in
     let same : read ≡ script = subst P is told in
-    let Q : List ℕ → Type 0 = λ s. RanThrough s old new held now state in subst Q same ran
-clean_through script from to old new held now state (inl (read, told, inr ran)) is clean = absurd (not_stopped ran.fault held now state ran.state_is clean)
-clean_through script from to old new held now state (inr fault) is clean = absurd (no_fault (Rose from.faults to.faults) (HasNoCommand fault.behind) state fault.cause clean)
+    let Q : List ℕ → Type 0 = λ s. RanThrough limit s old new held now state in subst Q same ran
+clean_through limit script from to old new held now state (inl (read, told, inr ran)) is clean = absurd (not_stopped ran.fault held now state ran.state_is clean)
+clean_through limit script from to old new held now state (inr fault) is clean = absurd (no_fault (Rose from.faults to.faults) (HasNoCommand fault.behind) state fault.cause clean)
 
--- runs over one script, from the same files, that end clean end alike
-pub runs_alike : (script : List ℕ) (from to from' to' : SourceView) (old new old' new' : StoreView) (held now held' now' : SinkView) (state state' : Status)
-    → HasRun from to old new held now state → HasRun from' to' old' new' held' now' state'
+-- a clean call ran with the limit that the words give
+clean_run : (words : List (List ℕ)) (from to : SourceView) (old new : StoreView) (held now : SinkView) (state : Status) → HasCalled words from to old new held now state → IsClean state → (limit : ℕ) × GivesLimit words limit × HasRun limit from to old new held now state
+clean_run words from to old new held now state (inl ran) clean = ran
+clean_run words from to old new held now state (inr (inl (none, usage))) clean = absurd (not_usage usage.shown)
+  where
+    not_usage : PrintsUsage held now state → ⊥
+    not_usage (inl (sent, is)) = unclean is clean
+      where
+        unclean : state ≡ status.Usage → IsClean state → ⊥
+        unclean is (inl done) = cc
+        unclean is (inr refused) = cc
+    not_usage (inr (fault, sent, stops)) = not_stopped fault held now state stops clean
+clean_run words from to old new held now state (inr (inr unread)) clean = absurd (no_fault ⊤ ⊤ state (inr unread.state_is) clean)
+
+-- calls with the same words over one script, from the same files, that end clean end alike
+pub calls_alike : (words : List (List ℕ)) (script : List ℕ) (from to from' to' : SourceView) (old new old' new' : StoreView) (held now held' now' : SinkView) (state state' : Status)
+    → HasCalled words from to old new held now state → HasCalled words from' to' old' new' held' now' state'
     → from.left ≡ Some script → from'.left ≡ Some script → old.files ≡ old'.files → IsClean state → IsClean state'
     → EndAlike new new' held now held' now' state state'
-runs_alike script from to from' to' old new old' new' held now held' now' state state' ran ran' is is' same clean clean' =
-    through_alike script old new old' new' held now held' now' state state' (clean_through script from to old new held now state ran is clean) (clean_through script from' to' old' new' held' now' state' ran' is' clean') same clean clean'
+calls_alike words script from to from' to' old new old' new' held now held' now' state state' call call' is is' same clean clean' =
+    let ran : (limit : ℕ) × GivesLimit words limit × HasRun limit from to old new held now state = clean_run words from to old new held now state call clean in
+    let ran' : (limit : ℕ) × GivesLimit words limit × HasRun limit from' to' old' new' held' now' state' = clean_run words from' to' old' new' held' now' state' call' clean' in
+    let limits : ran'.0 ≡ ran.0 = one_limit words ran'.0 ran.0 ran'.1 ran.1 in
+    let P : ℕ → Type 0 = λ limit. HasRun limit from' to' old' new' held' now' state' in
+    through_alike ran.0 script old new old' new' held now held' now' state state' (clean_through ran.0 script from to old new held now state ran.2 is clean)
+    (clean_through ran.0 script from' to' old' new' held' now' state' (subst P limits ran'.2) is' clean') same clean clean'

@@ -1,95 +1,78 @@
--- The listing of an expression's table is its text.
-use Rattle.std.proofs.Common.{◌≡◌, ℕ, zero, suc, ◌↔◌, List, [], ◌∷◌, ◌++◌, ℤ, pos, map, refl, sym, ap, ◌∙◌, subst, Ok}
-use Rattle.std.specs.Prelude.{Contains}
+-- The automaton of an expression, and its text.
+use Rattle.std.proofs.Common.{◌≡◌, ◌↔◌, ℕ, Bool, true, false, IsTrue, List, [], ◌∷◌, ℤ, refl, sym, ap, ◌∙◌, subst}
 use Rattle.std.specs.List.{AllByRecursion}
-use Rattle.std.proofs.lemmas.List.{get_or_default}
-use Rattle.digit_tuple.specs.Automaton.{Branching, IsBranchTable, letters_of}
+use Rattle.digit_tuple.specs.Deterministic.{Automaton, letters_of, accepts_of}
+use Rattle.digit_tuple.specs.Letters.{IsWord, product}
 use Rattle.digit_tuple.specs.Sets.{sizes_of}
-use Rattle.digit_tuple.specs.Tuples.{IsLetterOf, Codes}
-use Rattle.regex_build.specs.declared.post.Post.{Post}
-use Rattle.regex_build.specs.Expression.{Expression, letter, letters_in}
+use Rattle.digit_tuple.specs.Tuples.{Codes}
+use Rattle.digit_tuple.specs.declared.header.Header.TheVariants as headers
+use Rattle.digit_tuple.proofs.TupleLemmas.{tuple_from_letter, letter_from_members, members_from_letter}
+use Rattle.minimise.proofs.CanonicalLemmas.{canonical_forms}
+use Rattle.regex_build.specs.Expression.{Expression}
 use Rattle.regex_build.specs.Matches.{Matches}
-use Rattle.regex_build.specs.Posts.{tree_of, starred}
-use Rattle.regex_build.specs.Patterns.{Pattern}
-use Rattle.regex_build.specs.Parsing.{Parses, IsMemberPost, letter_of_digit, pattern_of}
-use Rattle.regex_build.specs.Positions.{IsPositionTable}
-use Rattle.regex_build.proofs.Accepting.{accepts_the_matches}
-use Rattle.dfa_text.specs.Listing.{listing}
-use Rattle.dfa_text.specs.Meaning.{FileAccepts, AreTrackSets, IsTableOver}
-use Rattle.dfa_text.proofs.ListedPaths.{accepts_words, accepts_only_codes}
-use Rattle.session_cli.specs.Texts.{IsRegexText}
-use Rattle.session_cli.proofs.MatchedWords.{matched_letters, coded_word}
+use Rattle.regex_build.specs.Patterns.{AreMembers}
+use Rattle.dfa_text.specs.Meaning.{FileAccepts, AreTrackSets}
+use Rattle.dfa_text.specs.RelationText.{relation_text}
+use Rattle.dfa_text.specs.RelationLaws.{IsAutomatonOver}
+use Rattle.dfa_text.proofs.RelationPaths.{text_accepts_words, text_accepts_only_codes}
+use Rattle.session_cli.specs.Texts.{IsRegexAutomaton, IsRegexText}
 
--- each tuple has a letter
-abbrev pub HasLetter : List (List ℤ) → List ℤ → Type 0
-HasLetter sets tuple = (a : ℕ) × IsLetterOf sets tuple a
+-- each word of letters stands for a word of tuples
+coded_tuples : (sets : List (List ℤ)) (word : List ℕ) → IsWord (product (sizes_of sets)) word → (tuples : List (List ℤ)) × Codes sets tuples word
+coded_tuples sets [] is = ([], tt)
+coded_tuples sets (letter ∷ word) is =
+    let first = tuple_from_letter sets letter is.0 in
+    let rest : (tuples : List (List ℤ)) × Codes sets tuples word = coded_tuples sets word is.1 in
+    (first.0 ∷ rest.0, (first.1, rest.1))
 
--- a member of the set of one track has a letter
-member_letter : (set : List ℤ) (n : ℤ) → Contains set n → HasLetter (set ∷ []) (n ∷ [])
-member_letter set n (k, inside, is) = (
-  _,
-  record {
-    digits = k ∷ [];
-    fit = (inside, tt);
-    tuple_is = ap (λ (m : ℤ). m ∷ []) (sym (get_or_default set k (pos 0) n inside ∙ is));
-    letter_is = refl;
-  },
-)
+-- each word over the sets has a word of letters
+coded_letters : (sets : List (List ℤ)) (tuples : List (List ℤ)) → AllByRecursion (AreMembers sets) tuples → (word : List ℕ) × Codes sets tuples word
+coded_letters sets [] are = ([], tt)
+coded_letters sets (tuple ∷ tuples) are =
+    let first = letter_from_members sets tuple are.0 in
+    let rest : (word : List ℕ) × Codes sets tuples word = coded_letters sets tuples are.1 in
+    (first.0 ∷ rest.0, (first.1, rest.1))
 
-letters_of_starred : {L : Type 0} (n : ℕ) (x : L) → letters_in (starred n (letter x)) ≡ x ∷ []
-letters_of_starred zero x = refl
-letters_of_starred (suc n) x = letters_of_starred n x
+-- and what has one is over the sets
+members_of_coded : (sets : List (List ℤ)) (tuples : List (List ℤ)) (word : List ℕ) → Codes sets tuples word → AllByRecursion (AreMembers sets) tuples
+members_of_coded sets [] [] codes = tt
+members_of_coded sets [] (letter ∷ word) codes = absurd codes
+members_of_coded sets (tuple ∷ tuples) [] codes = absurd codes
+members_of_coded sets (tuple ∷ tuples) (letter ∷ word) codes = (members_from_letter sets tuple letter codes.0, members_of_coded sets tuples word codes.1)
 
--- the letters of an expression over a set have letters
-letters_have : (set : List ℤ) (posts : List (Post ℕ)) → AllByRecursion (IsMemberPost set) posts → AllByRecursion (HasLetter (set ∷ [])) (letters_in (tree_of (map letter_of_digit posts)))
-letters_have set [] members = tt
-letters_have set (p ∷ posts) members =
-    let P : List (List ℤ) → Type 0 = λ letters. AllByRecursion (HasLetter (set ∷ [])) (letters ++ letters_in (tree_of (map letter_of_digit posts))) in
-    subst P (sym (letters_of_starred p.stars (pos p.letter ∷ []))) (member_letter set (pos p.letter) members.0, letters_have set posts members.1)
+same_truth : (v w : Bool) (P : Type 0) → (IsTrue v ↔ P) → (IsTrue w ↔ P) → v ≡ w
+same_truth true true P one other = refl
+same_truth true false P one other = let yes : IsTrue false = other.1 (one.0 refl) in cc
+same_truth false true P one other = let yes : IsTrue false = one.1 (other.0 refl) in cc
+same_truth false false P one other = refl
 
--- what a parsed expression is over
-record IsParsed (sets : List (List ℤ)) (pattern : Pattern) : Type 0 where
-  sets_are : pattern.sets ≡ sets
-  letters : AllByRecursion (HasLetter sets) (letters_in (tree_of pattern.posts))
-
-parsed_one : (set : List ℤ) (pattern : Pattern) (posts : List (Post ℕ)) → AllByRecursion (IsMemberPost set) posts → pattern ≡ pattern_of set posts → IsParsed (set ∷ []) pattern
-parsed_one set pattern posts members is =
-    let P : Pattern → Type 0 = λ p. IsParsed (set ∷ []) p in
-    subst P (sym is) (record { sets_are = refl; letters = letters_have set posts members })
-
-parsed : (sets : List (List ℤ)) (body : List ℕ) (pattern : Pattern) → Parses sets body (Ok pattern) → IsParsed sets pattern
-parsed [] body pattern parses = absurd parses
-parsed (set ∷ []) body pattern (posts, reads, is) = parsed_one set pattern posts reads.1 is
-parsed (set ∷ other ∷ sets) body pattern parses = absurd parses
-
--- the expression that is parsed is over the sets
-pub parsed_sets : (sets : List (List ℤ)) (body : List ℕ) (pattern : Pattern) → Parses sets body (Ok pattern) → pattern.sets ≡ sets
-parsed_sets sets body pattern parses = (parsed sets body pattern parses).sets_are
-
--- the listing accepts the matches
-listing_accepts : (sets : List (List ℤ)) (e : Expression (List ℤ)) (n : Branching) → IsTableOver sets n → IsPositionTable (IsLetterOf sets) e n → AllByRecursion (HasLetter sets) (letters_in e) → (word : List (List ℤ)) → FileAccepts (listing sets n) word ↔ Matches e word
-listing_accepts sets e n over table letters word = (λ accepts. matches accepts, λ match. accepted match)
+-- an expression over sets has one automaton
+pub one_automaton : (sets : List (List ℤ)) (e : Expression (List ℤ)) (d f : Automaton) → IsRegexAutomaton sets e d → IsRegexAutomaton sets e f → d ≡ f
+one_automaton sets e d f one other = canonical_forms d f one.canonical other.canonical (one.sizes ∙ sym other.sizes) same
   where
-    matches : FileAccepts (listing sets n) word → Matches e word
-    matches accepts =
-        let coded : (w : List ℕ) × Codes sets word w = accepts_only_codes sets n over word accepts in
-        (accepts_the_matches sets e n table word coded.0 coded.1).0 ((accepts_words sets n over word coded.0 coded.1).0 accepts)
+    same : (word : List ℕ) → IsWord (letters_of d) word → accepts_of d word ≡ accepts_of f word
+    same word is =
+        let P : List ℕ → Type 0 = λ sizes. IsWord (product sizes) word in
+        let coded : (tuples : List (List ℤ)) × Codes sets tuples word = coded_tuples sets word (subst P one.sizes is) in
+        same_truth (accepts_of d word) (accepts_of f word) (Matches e coded.0) (one.language coded.0 word coded.1) (other.language coded.0 word coded.1)
 
-    accepted : Matches e word → FileAccepts (listing sets n) word
-    accepted match =
-        let coded : (w : List ℕ) × Codes sets word w = coded_word sets word (matched_letters (HasLetter sets) e word letters match) in
-        (accepts_words sets n over word coded.0 coded.1).1 ((accepts_the_matches sets e n table word coded.0 coded.1).1 match)
+-- and one text
+pub one_regex_text : (sets : List (List ℤ)) (e : Expression (List ℤ)) (text other : List ℕ) → IsRegexText sets e text → IsRegexText sets e other → text ≡ other
+one_regex_text sets e text other a b =
+    a.text_is ∙ (ap (λ (d : Automaton). relation_text (headers.Sets sets) d) (one_automaton sets e a.automaton b.automaton a.of_regex b.of_regex) ∙ sym b.text_is)
 
--- the text of a parsed expression
-pub regex_text : (sets : List (List ℤ)) (body : List ℕ) (pattern : Pattern) (n : Branching) (text : List ℕ) → AreTrackSets sets → Parses sets body (Ok pattern) → n.sizes ≡ sizes_of sets → IsBranchTable (letters_of n) n.states
-    → IsPositionTable (IsLetterOf sets) (tree_of pattern.posts) n → text ≡ listing sets n → IsRegexText sets (tree_of pattern.posts) text
-regex_text sets body pattern n text tracks parses sizes rows table is =
-    let over : IsTableOver sets n = record { tracks = tracks; sizes = sizes; table = rows } in
-    record {
-      accepts = λ word. rw is (listing_accepts sets (tree_of pattern.posts) n over table (parsed sets body pattern parses).letters word);
-      table = n;
-      sizes = sizes;
-      rows = rows;
-      positions = table;
-      listed = is;
-    }
+-- the text of the automaton
+pub regex_text : (sets : List (List ℤ)) (e : Expression (List ℤ)) (d : Automaton) (text : List ℕ) → AreTrackSets sets → IsRegexAutomaton sets e d → text ≡ relation_text (headers.Sets sets) d → IsRegexText sets e text
+regex_text sets e d text tracks of_regex is =
+    let over : IsAutomatonOver sets d = record { tracks = tracks; sizes = of_regex.sizes; table = of_regex.canonical.table } in
+    record { accepts = λ word. rw is (accepted over word, accepts over word); automaton = d; of_regex = of_regex; text_is = is }
+  where
+    accepted : IsAutomatonOver sets d → (word : List (List ℤ)) → FileAccepts (relation_text (headers.Sets sets) d) word → AllByRecursion (AreMembers sets) word × Matches e word
+    accepted over word file =
+        let coded : (letters : List ℕ) × Codes sets word letters = text_accepts_only_codes sets d over word file in
+        (members_of_coded sets word coded.0 coded.1, (of_regex.language word coded.0 coded.1).0 ((text_accepts_words sets d over word coded.0 coded.1).0 file))
+
+    accepts : IsAutomatonOver sets d → (word : List (List ℤ)) → AllByRecursion (AreMembers sets) word × Matches e word → FileAccepts (relation_text (headers.Sets sets) d) word
+    accepts over word (members, matches) =
+        let coded : (letters : List ℕ) × Codes sets word letters = coded_letters sets word members in
+        (text_accepts_words sets d over word coded.0 coded.1).1 ((of_regex.language word coded.0 coded.1).1 matches)

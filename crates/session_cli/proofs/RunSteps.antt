@@ -32,24 +32,24 @@ stores_after ledger (Ok success) (Some files) new stores (stored, has, is) =
 stores_after ledger (Err fault) old new stores is = let P : Option Files → Type 0 = λ files. StoresTold ledger files in subst P (sym is) stores
 
 -- one item more
-pub run_more : (items : List Item) (answers : List Answer) (ledger last : Ledger) (old mid : StoreView) (item : Item) (answer : Answer) (new : StoreView) → Run ledger old items answers last mid → Answers last mid item answer new → Run ledger old (items ++ item ∷ []) (answers ++ answer ∷ []) (after last answer) new
-run_more [] [] ledger last old mid item answer new run step =
-    let P : Ledger → Type 0 = λ l. Answers l mid item answer new in
-    let Q : StoreView → Type 0 = λ s. Answers ledger s item answer new in
+pub run_more : (limit : ℕ) (items : List Item) (answers : List Answer) (ledger last : Ledger) (old mid : StoreView) (item : Item) (answer : Answer) (new : StoreView) → Run limit ledger old items answers last mid → Answers limit last mid item answer new → Run limit ledger old (items ++ item ∷ []) (answers ++ answer ∷ []) (after last answer) new
+run_more limit [] [] ledger last old mid item answer new run step =
+    let P : Ledger → Type 0 = λ l. Answers limit l mid item answer new in
+    let Q : StoreView → Type 0 = λ s. Answers limit ledger s item answer new in
     (new, subst Q run.1 (subst P run.0 step), (ap (λ (l : Ledger). after l answer) run.0, refl))
-run_more [] (a ∷ answers) ledger last old mid item answer new run step = absurd run
-run_more (i ∷ items) [] ledger last old mid item answer new run step = absurd run
-run_more (i ∷ items) (a ∷ answers) ledger last old mid item answer new run step = (run.0, run.1, run_more items answers (after ledger a) last run.0 mid item answer new run.2 step)
+run_more limit [] (a ∷ answers) ledger last old mid item answer new run step = absurd run
+run_more limit (i ∷ items) [] ledger last old mid item answer new run step = absurd run
+run_more limit (i ∷ items) (a ∷ answers) ledger last old mid item answer new run step = (run.0, run.1, run_more limit items answers (after ledger a) last run.0 mid item answer new run.2 step)
 
 pub cuts_more : (items : List Item) (old mid : Place) (item : Item) (new : Place) → CutsTo old items mid → Next mid item new → CutsTo old (items ++ item ∷ []) new
 cuts_more [] old mid item new cut next = let P : Place → Type 0 = λ place. Next place item new in (new, subst P cut next, refl)
 cuts_more (i ∷ items) old mid item new cut next = (cut.0, cut.1, cuts_more items cut.0 mid item new cut.2 next)
 
-pub printed_more : (items : List Item) (answers : List Answer) (ledger last : Ledger) (old mid : StoreView) (item : Item) (answer : Answer) → Run ledger old items answers last mid → printed (items ++ item ∷ []) (answers ++ answer ∷ []) ≡ printed items answers ++ line_of item answer
-printed_more [] [] ledger last old mid item answer run = append-nil (line_of item answer)
-printed_more [] (a ∷ answers) ledger last old mid item answer run = absurd run
-printed_more (i ∷ items) [] ledger last old mid item answer run = absurd run
-printed_more (i ∷ items) (a ∷ answers) ledger last old mid item answer run = rw append_assoc (ap (λ (l : List ℕ). line_of i a ++ l) (printed_more items answers (after ledger a) last run.0 mid item answer run.2))
+pub printed_more : (limit : ℕ) (items : List Item) (answers : List Answer) (ledger last : Ledger) (old mid : StoreView) (item : Item) (answer : Answer) → Run limit ledger old items answers last mid → printed (items ++ item ∷ []) (answers ++ answer ∷ []) ≡ printed items answers ++ line_of item answer
+printed_more limit [] [] ledger last old mid item answer run = append-nil (line_of item answer)
+printed_more limit [] (a ∷ answers) ledger last old mid item answer run = absurd run
+printed_more limit (i ∷ items) [] ledger last old mid item answer run = absurd run
+printed_more limit (i ∷ items) (a ∷ answers) ledger last old mid item answer run = rw append_assoc (ap (λ (l : List ℕ). line_of i a ++ l) (printed_more limit items answers (after ledger a) last run.0 mid item answer run.2))
 
 pub some_of-append : (p : Answer → Bool) (answers : List Answer) (answer : Answer) → some_of p (answers ++ answer ∷ []) ≡ (some_of p answers || p answer)
 some_of-append p [] answer = or_false (p answer)

@@ -5,30 +5,32 @@ use Rattle.wal_outside.specs.Sending.{Sends, HasSent}
 use Rattle.wal_outside.specs.declared.sink.WriteFault.{WriteFault}
 use Rattle.wal_outside.specs.declared.sink.WriteFault.TheVariants as writes
 use Rattle.wal_outside.proofs.SendingSteps.{none_sent, sends_then}
-use Rattle.script_cut.specs.Cuts.{Ended, Terminated, Unterminated, PastLimit, Item, Place, Next, start, CutsTo, CutsOpen, CutsOff, IsAtEnd}
+use Rattle.script_cut.specs.Cuts.{Ended, Terminated, Unterminated, PastLimit, Item, Place, Next, start, CutsTo, CutsOff, IsAtEnd}
+use Rattle.session_cli.specs.declared.fault.Part.TheVariants as parts
 use Rattle.session_cli.specs.declared.fault.Fault.{Fault}
 use Rattle.session_cli.specs.declared.fault.Fault.TheVariants as faults
 use Rattle.session_cli.specs.declared.tally.Tally.{Tally}
 use Rattle.session_cli.specs.declared.status.Status.{Status}
 use Rattle.session_cli.specs.Trees.{Ledger}
 use Rattle.session_cli.specs.Lines.{fault_line}
-use Rattle.session_cli.specs.Outcomes.{Success, Answer, after, OpenOutcome}
+use Rattle.session_cli.specs.Outcomes.{Success, Answer, after}
 use Rattle.session_cli.specs.Views.{StoreView, SinkView}
-use Rattle.session_cli.specs.Runs.{Answers, Run, of_fault, is_refusal, is_store_fault, is_memory_fault, some_of, first_ledger, StoresTold, line_of, printed}
+use Rattle.session_cli.specs.Runs.{IsAnswerOf, Answers, Run, of_fault, is_refusal, is_store_fault, is_memory_fault, some_of, first_ledger, StoresTold, line_of, printed}
 use Rattle.session_cli.specs.Whole.{StopsWith, RanThrough, RanToStop}
-use Rattle.session_cli.specs.Commands.{Gives, Commands}
+use Rattle.session_cli.specs.Commands.{Gives, Stored, Commands}
 use Rattle.session_cli.specs.Tallies.{AddsFault, AddsResult, Counts, tally_status}
-use Rattle.session_cli.specs.Handing.{result_line, HasAnswered, stop_status}
+use Rattle.session_cli.specs.Handing.{result_text, HasAnswered, stop_status}
 use Rattle.session_cli.specs.Ending.{Finishes}
+use Rattle.session_cli.proofs.CommandSteps.{kept_store}
 use Rattle.session_cli.proofs.RunSteps.{stores_first, stores_after, run_more, cuts_more, printed_more, some_of-append}
 
 -- what was answered and printed so far
-pub record Stands (script : List ℕ) (old now : StoreView) (held told : Option (List ℕ)) (place : Place) (tally : Tally) : Type 0 where
+pub record Stands (limit : ℕ) (script : List ℕ) (old now : StoreView) (held told : Option (List ℕ)) (place : Place) (tally : Tally) : Type 0 where
   pub items : List Item
   pub answers : List Answer
   pub ledger : Ledger
   pub cut : CutsTo (start script) items place
-  pub run : Run (first_ledger old.files) old items answers ledger now
+  pub run : Run limit (first_ledger old.files) old items answers ledger now
   pub stores : StoresTold ledger now.files
   pub sent : HasSent held told (printed items answers)
   pub counts : Counts tally answers
@@ -44,8 +46,8 @@ stop_is writes.Failed held told now state is later cause = stops_later writes.Fa
 stop_is writes.Memory held told now state is later cause = is
 
 -- before the first item
-pub begins : (script : List ℕ) (old : StoreView) (held : Option (List ℕ)) → Stands script old old held held (start script) (record { refused = false; store = false; memory = false })
-begins script old held = record {
+pub begins : (limit : ℕ) (script : List ℕ) (old : StoreView) (held : Option (List ℕ)) → Stands limit script old old held held (start script) (record { refused = false; store = false; memory = false })
+begins limit script old held = record {
   items = [];
   answers = [];
   ledger = first_ledger old.files;
@@ -56,12 +58,12 @@ begins script old held = record {
   counts = record { refused = refl; store = refl; memory = refl };
 }
 
--- the same line
-line_same : (text : List ℕ) (line : ℕ) (ended : Ended) (result : Result (Unit {0}) Fault) (answer : Answer) → Gives result answer → result_line line result ≡ line_of (record { text = text; line = line; ended = ended }) answer
-line_same text line ended (Ok x) (Ok success) gives = sym gives
-line_same text line ended (Ok x) (Err fault) gives = absurd gives
-line_same text line ended (Err fault) (Ok success) gives = absurd gives
-line_same text line ended (Err fault) (Err refusal) gives = ap (λ (f : Fault). fault_line line f) gives
+-- the same text
+text_same : (text : List ℕ) (line : ℕ) (ended : Ended) (result : Result (Unit {0}) Fault) (printed : List ℕ) (answer : Answer) → Gives result printed answer → result_text line printed result ≡ line_of (record { text = text; line = line; ended = ended }) answer
+text_same text line ended (Ok x) printed (Ok success) gives = gives
+text_same text line ended (Ok x) printed (Err fault) gives = absurd gives
+text_same text line ended (Err fault) printed (Ok success) gives = absurd gives
+text_same text line ended (Err fault) printed (Err refusal) gives = ap (λ (f : Fault). fault_line line f) gives.0
 
 or_false : (v : Bool) → v ≡ (v || false)
 or_false true = refl
@@ -85,15 +87,15 @@ counts_ok tally answers success counts = record {
   memory = rw (counts.memory, some_of-append (of_fault is_memory_fault) answers (Ok success)) (or_false (some_of (of_fault is_memory_fault) answers));
 }
 
-counts_more : (tally after : Tally) (answers : List Answer) (result : Result (Unit {0}) Fault) (answer : Answer) → Gives result answer → Counts tally answers → AddsResult tally result after → Counts after (answers ++ answer ∷ [])
-counts_more tally after answers (Ok x) (Ok success) gives counts adds = let P : Tally → Type 0 = λ t. Counts t (answers ++ Ok success ∷ []) in subst P (sym adds) (counts_ok tally answers success counts)
-counts_more tally after answers (Ok x) (Err fault) gives counts adds = absurd gives
-counts_more tally after answers (Err fault) (Ok success) gives counts adds = absurd gives
-counts_more tally after answers (Err fault) (Err refusal) gives counts adds = let P : Fault → Type 0 = λ f. Counts after (answers ++ Err f ∷ []) in subst P gives (counts_fault tally after answers fault counts adds)
+counts_more : (tally after : Tally) (answers : List Answer) (result : Result (Unit {0}) Fault) (printed : List ℕ) (answer : Answer) → Gives result printed answer → Counts tally answers → AddsResult tally result after → Counts after (answers ++ answer ∷ [])
+counts_more tally after answers (Ok x) printed (Ok success) gives counts adds = let P : Tally → Type 0 = λ t. Counts t (answers ++ Ok success ∷ []) in subst P (sym adds) (counts_ok tally answers success counts)
+counts_more tally after answers (Ok x) printed (Err fault) gives counts adds = absurd gives
+counts_more tally after answers (Err fault) printed (Ok success) gives counts adds = absurd gives
+counts_more tally after answers (Err fault) printed (Err refusal) gives counts adds = let P : Fault → Type 0 = λ f. Counts after (answers ++ Err f ∷ []) in subst P gives.0 (counts_fault tally after answers fault counts adds)
 
 -- one command's step
-step_of : (ledger : Ledger) (old new : StoreView) (text : List ℕ) (shown : Bool) (line : ℕ) (result : Result (Unit {0}) Fault) → (c : Commands ledger old text result new) → Answers ledger old (record { text = text; line = line; ended = Terminated shown }) c.answer new
-step_of ledger old new text shown line result c = record {
+step_of : (limit : ℕ) (ledger : Ledger) (old new : StoreView) (text : List ℕ) (shown : Bool) (line : ℕ) (result : Result (Unit {0}) Fault) (printed : List ℕ) → (c : Commands limit ledger old text shown result printed new) → Answers limit ledger old (record { text = text; line = line; ended = Terminated shown }) c.answer new
+step_of limit ledger old new text shown line result printed c = record {
   answered = c.answered;
   files = c.stored.files;
   later = c.stored.later;
@@ -102,35 +104,35 @@ step_of ledger old new text shown line result c = record {
 }
 
 -- a command was answered and its line handed over
-pub goes_on : (script : List ℕ) (old mid new : StoreView) (held told now : Option (List ℕ)) (place next : Place) (tally counted : Tally) (text : List ℕ) (shown : Bool) (line : ℕ)
-    → Stands script old mid held told place tally → Next place (record { text = text; line = line; ended = Terminated shown }) next
-    → ((ledger : Ledger) → StoresTold ledger mid.files → HasAnswered ledger mid text line told tally (Ok tt) new now counted)
-    → Stands script old new held now next counted
-goes_on script old mid new held told now place next tally counted text shown line stands cut answered =
-    let a : HasAnswered stands.ledger mid text line told tally (Ok tt) new now counted = answered stands.ledger stands.stores in
-    let c : Commands stands.ledger mid text a.result new = a.commands in
+pub goes_on : (limit : ℕ) (script : List ℕ) (old mid new : StoreView) (held told now : Option (List ℕ)) (place next : Place) (tally counted : Tally) (text : List ℕ) (shown : Bool) (line : ℕ)
+    → Stands limit script old mid held told place tally → Next place (record { text = text; line = line; ended = Terminated shown }) next
+    → ((ledger : Ledger) → StoresTold ledger mid.files → HasAnswered limit ledger mid text shown line told tally (Ok tt) new now counted)
+    → Stands limit script old new held now next counted
+goes_on limit script old mid new held told now place next tally counted text shown line stands cut answered =
+    let a : HasAnswered limit stands.ledger mid text shown line told tally (Ok tt) new now counted = answered stands.ledger stands.stores in
+    let c : Commands limit stands.ledger mid text shown a.result a.printed new = a.commands in
     let item : Item = record { text = text; line = line; ended = Terminated shown } in
-    let line_is : result_line line a.result ≡ line_of item c.answer = line_same text line (Terminated shown) a.result c.answer c.gives in
+    let text_is : result_text line a.printed a.result ≡ line_of item c.answer = text_same text line (Terminated shown) a.result a.printed c.answer c.gives in
     record {
       items = stands.items ++ item ∷ [];
       answers = stands.answers ++ c.answer ∷ [];
       ledger = after stands.ledger c.answer;
       cut = cuts_more stands.items (start script) place item next stands.cut cut;
-      run = run_more stands.items stands.answers (first_ledger old.files) stands.ledger old mid item c.answer new stands.run (step_of stands.ledger mid new text shown line a.result c);
+      run = run_more limit stands.items stands.answers (first_ledger old.files) stands.ledger old mid item c.answer new stands.run (step_of limit stands.ledger mid new text shown line a.result a.printed c);
       stores = stores_after stands.ledger c.answer mid.files new.files stands.stores c.stored.files;
-      sent = rw (printed_more stands.items stands.answers (first_ledger old.files) stands.ledger old mid item c.answer stands.run)
-          (sends_then {T = Unit {0}} held told now (printed stands.items stands.answers) (line_of item c.answer) (Ok tt) stands.sent (rw line_is at a.sends));
-      counts = counts_more tally counted stands.answers a.result c.answer c.gives stands.counts a.adds;
+      sent = rw (printed_more limit stands.items stands.answers (first_ledger old.files) stands.ledger old mid item c.answer stands.run)
+          (sends_then {T = Unit {0}} held told now (printed stands.items stands.answers) (line_of item c.answer) (Ok tt) stands.sent (rw text_is at a.sends));
+      counts = counts_more tally counted stands.answers a.result a.printed c.answer c.gives stands.counts a.adds;
     }
 
 -- a command was answered, and the sink stopped in its line
-pub stops : (script : List ℕ) (old mid new : StoreView) (held now : SinkView) (told : Option (List ℕ)) (place next : Place) (tally counted : Tally) (text : List ℕ) (shown : Bool) (line : ℕ) (fault : WriteFault) (state : Status)
-    → Stands script old mid held.held told place tally → Next place (record { text = text; line = line; ended = Terminated shown }) next
-    → ((ledger : Ledger) → StoresTold ledger mid.files → HasAnswered ledger mid text line told tally (Err fault) new now.held counted)
-    → StopsWith fault held now state → RanToStop script old new held now state
-stops script old mid new held now told place next tally counted text shown line fault state stands cut answered state_is =
-    let a : HasAnswered stands.ledger mid text line told tally (Err fault) new now.held counted = answered stands.ledger stands.stores in
-    let c : Commands stands.ledger mid text a.result new = a.commands in
+pub stops : (limit : ℕ) (script : List ℕ) (old mid new : StoreView) (held now : SinkView) (told : Option (List ℕ)) (place next : Place) (tally counted : Tally) (text : List ℕ) (shown : Bool) (line : ℕ) (fault : WriteFault) (state : Status)
+    → Stands limit script old mid held.held told place tally → Next place (record { text = text; line = line; ended = Terminated shown }) next
+    → ((ledger : Ledger) → StoresTold ledger mid.files → HasAnswered limit ledger mid text shown line told tally (Err fault) new now.held counted)
+    → StopsWith fault held now state → RanToStop limit script old new held now state
+stops limit script old mid new held now told place next tally counted text shown line fault state stands cut answered state_is =
+    let a : HasAnswered limit stands.ledger mid text shown line told tally (Err fault) new now.held counted = answered stands.ledger stands.stores in
+    let c : Commands limit stands.ledger mid text shown a.result a.printed new = a.commands in
     let item : Item = record { text = text; line = line; ended = Terminated shown } in
     record {
       items = stands.items;
@@ -140,18 +142,18 @@ stops script old mid new held now told place next tally counted text shown line 
       last = next;
       cut = cuts_more stands.items (start script) place item next stands.cut cut;
       ledger = after stands.ledger c.answer;
-      run = run_more stands.items stands.answers (first_ledger old.files) stands.ledger old mid item c.answer new stands.run (step_of stands.ledger mid new text shown line a.result c);
+      run = run_more limit stands.items stands.answers (first_ledger old.files) stands.ledger old mid item c.answer new stands.run (step_of limit stands.ledger mid new text shown line a.result a.printed c);
       stores = stores_after stands.ledger c.answer mid.files new.files stands.stores c.stored.files;
       mid = told;
       sent = stands.sent;
       fault = fault;
-      stopped = rw (line_same text line (Terminated shown) a.result c.answer c.gives) at a.sends;
+      stopped = rw (text_same text line (Terminated shown) a.result a.printed c.answer c.gives) at a.sends;
       state_is = state_is;
     }
 
 -- nothing but gaps is left
-pub ends_there : (script : List ℕ) (old now : StoreView) (held told : SinkView) (place : Place) (tally : Tally) (state : Status) → Stands script old now held.held told.held place tally → IsAtEnd place → state ≡ tally_status tally → RanThrough script old now held told state
-ends_there script old now held told place tally state stands end state_is = record {
+pub ends_there : (limit : ℕ) (script : List ℕ) (old now : StoreView) (held told : SinkView) (place : Place) (tally : Tally) (state : Status) → Stands limit script old now held.held told.held place tally → IsAtEnd place → state ≡ tally_status tally → RanThrough limit script old now held told state
+ends_there limit script old now held told place tally state stands end state_is = record {
   items = stands.items;
   answers = stands.answers;
   last = place;
@@ -165,25 +167,25 @@ ends_there script old now held told place tally state stands end state_is = reco
 }
 
 -- a text without terminator is refused, and the store stays
-pub open_step : (ledger : Ledger) (store : StoreView) (text : List ℕ) (line : ℕ) (fault : Fault) → OpenOutcome text (Err fault) → Answers ledger store (record { text = text; line = line; ended = Unterminated }) (Err fault) store
-open_step ledger store text line faults.Command outcome = absurd outcome
-open_step ledger store text line (faults.Syntax part at) outcome = record { answered = outcome; files = refl; later = omega arith; cause = λ is. cc; failed = refl }
-open_step ledger store text line (faults.Number part at) outcome = record { answered = outcome; files = refl; later = omega arith; cause = λ is. cc; failed = refl }
-open_step ledger store text line (faults.Long limit) outcome = record { answered = outcome; files = refl; later = omega arith; cause = λ is. cc; failed = refl }
-open_step ledger store text line (faults.Store folder name) outcome = absurd outcome
-open_step ledger store text line faults.Memory outcome = absurd outcome
-open_step ledger store text line faults.ScriptLimit outcome = absurd outcome
+kept_step : (limit : ℕ) (ledger : Ledger) (store : StoreView) (item : Item) (fault : Fault) → is_store_fault fault ≡ false → IsAnswerOf limit item.ended ledger item.text (Err fault) → Answers limit ledger store item (Err fault) store
+kept_step limit ledger store item fault other answered =
+    let kept : Stored store (Err fault) store = kept_store store fault other in
+    record { answered = answered; files = kept.files; later = kept.later; cause = kept.cause; failed = kept.failed }
+
+pub open_step : (limit : ℕ) (ledger : Ledger) (store : StoreView) (text : List ℕ) (line at : ℕ) → length text ≤ 65536 → at ≡ length text
+    → Answers limit ledger store (record { text = text; line = line; ended = Unterminated }) (Err (faults.Syntax parts.Command at)) store
+open_step limit ledger store text line at short is = kept_step limit ledger store (record { text = text; line = line; ended = Unterminated }) (faults.Syntax parts.Command at) refl (short, is)
 
 -- past the limit nothing is done
-pub limit_step : (ledger : Ledger) (store : StoreView) (line : ℕ) → Answers ledger store (record { text = []; line = line; ended = PastLimit }) (Err faults.ScriptLimit) store
-limit_step ledger store line = record { answered = refl; files = refl; later = omega arith; cause = λ is. cc; failed = refl }
+pub limit_step : (limit : ℕ) (ledger : Ledger) (store : StoreView) (line : ℕ) → Answers limit ledger store (record { text = []; line = line; ended = PastLimit }) (Err faults.ScriptLimit) store
+limit_step limit ledger store line = record { answered = refl; files = refl; later = omega arith; cause = λ is. cc; failed = refl }
 
 -- an item that is too long is refused, and the store stays
-pub long_step : (ended : Ended) (ledger : Ledger) (store : StoreView) (place : Place) (text : List ℕ) (line : ℕ) (next : Place) → Next place (record { text = text; line = line; ended = ended }) next → 65536 < length text
-    → Answers ledger store (record { text = text; line = line; ended = ended }) (Err (faults.Long 65536)) store
-long_step (Terminated shown) ledger store place text line next cut long = record { answered = inl (refl, long); files = refl; later = omega arith; cause = λ is. cc; failed = refl }
-long_step Unterminated ledger store place text line next cut long = record { answered = (refl, long); files = refl; later = omega arith; cause = λ is. cc; failed = refl }
-long_step PastLimit ledger store place text line next cut long = absurd (no_text cut.before cut.cut)
+pub long_step : (limit : ℕ) (ended : Ended) (ledger : Ledger) (store : StoreView) (place : Place) (text : List ℕ) (line : ℕ) (next : Place) → Next place (record { text = text; line = line; ended = ended }) next → 65536 < length text
+    → Answers limit ledger store (record { text = text; line = line; ended = ended }) (Err (faults.Long 65536)) store
+long_step limit (Terminated shown) ledger store place text line next cut long = record { answered = inl (refl, long); files = refl; later = omega arith; cause = λ is. cc; failed = refl }
+long_step limit Unterminated ledger store place text line next cut long = record { answered = (refl, long); files = refl; later = omega arith; cause = λ is. cc; failed = refl }
+long_step limit PastLimit ledger store place text line next cut long = absurd (no_text cut.before cut.cut)
   where
     no_text : (before : List ℕ) → CutsOff place before text next → ⊥
     no_text before off = omega (arith, ap length off.no_text, long)
@@ -193,26 +195,26 @@ pub none_left : (place : Place) → place.left ≡ [] → IsAtEnd place
 none_left place is = record { gaps = rw is refl; within = omega (arith, ap length is) }
 
 -- an item was refused, its line handed over, and the store stays
-pub refuses : (script : List ℕ) (old mid : StoreView) (held told now : Option (List ℕ)) (place next : Place) (tally counted : Tally) (item : Item) (fault : Fault)
-    → Stands script old mid held told place tally → Next place item next → ((ledger : Ledger) → Answers ledger mid item (Err fault) mid)
-    → HasSent told now (fault_line item.line fault) → AddsFault tally fault counted → Stands script old mid held now next counted
-refuses script old mid held told now place next tally counted item fault stands cut step sent adds = record {
+pub refuses : (limit : ℕ) (script : List ℕ) (old mid : StoreView) (held told now : Option (List ℕ)) (place next : Place) (tally counted : Tally) (item : Item) (fault : Fault)
+    → Stands limit script old mid held told place tally → Next place item next → ((ledger : Ledger) → Answers limit ledger mid item (Err fault) mid)
+    → HasSent told now (fault_line item.line fault) → AddsFault tally fault counted → Stands limit script old mid held now next counted
+refuses limit script old mid held told now place next tally counted item fault stands cut step sent adds = record {
   items = stands.items ++ item ∷ [];
   answers = stands.answers ++ Err fault ∷ [];
   ledger = stands.ledger;
   cut = cuts_more stands.items (start script) place item next stands.cut cut;
-  run = run_more stands.items stands.answers (first_ledger old.files) stands.ledger old mid item (Err fault) mid stands.run (step stands.ledger);
+  run = run_more limit stands.items stands.answers (first_ledger old.files) stands.ledger old mid item (Err fault) mid stands.run (step stands.ledger);
   stores = stands.stores;
-  sent = rw (printed_more stands.items stands.answers (first_ledger old.files) stands.ledger old mid item (Err fault) stands.run)
+  sent = rw (printed_more limit stands.items stands.answers (first_ledger old.files) stands.ledger old mid item (Err fault) stands.run)
       (sends_then {T = Unit {0}} held told now (printed stands.items stands.answers) (fault_line item.line fault) (Ok tt) stands.sent sent);
   counts = counts_fault tally counted stands.answers fault stands.counts adds;
 }
 
 -- or the sink stopped in its line
-pub refuses_stop : (script : List ℕ) (old mid : StoreView) (held now : SinkView) (told : Option (List ℕ)) (place next : Place) (tally : Tally) (item : Item) (fault : Fault) (stop : WriteFault) (state : Status)
-    → Stands script old mid held.held told place tally → Next place item next → ((ledger : Ledger) → Answers ledger mid item (Err fault) mid)
-    → Sends {T = Unit {0}} told now.held (fault_line item.line fault) (Err stop) → StopsWith stop held now state → RanToStop script old mid held now state
-refuses_stop script old mid held now told place next tally item fault stop state stands cut step stopped state_is = record {
+pub refuses_stop : (limit : ℕ) (script : List ℕ) (old mid : StoreView) (held now : SinkView) (told : Option (List ℕ)) (place next : Place) (tally : Tally) (item : Item) (fault : Fault) (stop : WriteFault) (state : Status)
+    → Stands limit script old mid held.held told place tally → Next place item next → ((ledger : Ledger) → Answers limit ledger mid item (Err fault) mid)
+    → Sends {T = Unit {0}} told now.held (fault_line item.line fault) (Err stop) → StopsWith stop held now state → RanToStop limit script old mid held now state
+refuses_stop limit script old mid held now told place next tally item fault stop state stands cut step stopped state_is = record {
   items = stands.items;
   answers = stands.answers;
   item = item;
@@ -220,7 +222,7 @@ refuses_stop script old mid held now told place next tally item fault stop state
   last = next;
   cut = cuts_more stands.items (start script) place item next stands.cut cut;
   ledger = stands.ledger;
-  run = run_more stands.items stands.answers (first_ledger old.files) stands.ledger old mid item (Err fault) mid stands.run (step stands.ledger);
+  run = run_more limit stands.items stands.answers (first_ledger old.files) stands.ledger old mid item (Err fault) mid stands.run (step stands.ledger);
   stores = stands.stores;
   mid = told;
   sent = stands.sent;
@@ -230,11 +232,11 @@ refuses_stop script old mid held now told place next tally item fault stop state
 }
 
 -- the last item is a refusal that leaves the store
-pub finishes : (script : List ℕ) (old mid : StoreView) (held told now : SinkView) (place last : Place) (tally : Tally) (item : Item) (fault : Fault) (state : Status)
-    → Stands script old mid held.held told.held place tally → Next place item last → IsAtEnd last → held.faults ≤ told.faults
-    → ((ledger : Ledger) → Answers ledger mid item (Err fault) mid)
-    → Finishes told item.line fault tally now state → RanThrough script old mid held now state ⊎ RanToStop script old mid held now state
-finishes script old mid held told now place last tally item fault state stands cut end later step (inl whole) =
-    inl (ends_there script old mid held now last whole.counted state (refuses script old mid held.held told.held now.held place last tally whole.counted item fault stands cut step whole.sent whole.adds) end whole.state_is)
-finishes script old mid held told now place last tally item fault state stands cut end later step (inr part) =
-    inr (refuses_stop script old mid held now told.held place last tally item fault part.stop state stands cut step part.stopped (stops_later part.stop held told now state later part.state_is))
+pub finishes : (limit : ℕ) (script : List ℕ) (old mid : StoreView) (held told now : SinkView) (place last : Place) (tally : Tally) (item : Item) (fault : Fault) (state : Status)
+    → Stands limit script old mid held.held told.held place tally → Next place item last → IsAtEnd last → held.faults ≤ told.faults
+    → ((ledger : Ledger) → Answers limit ledger mid item (Err fault) mid)
+    → Finishes told item.line fault tally now state → RanThrough limit script old mid held now state ⊎ RanToStop limit script old mid held now state
+finishes limit script old mid held told now place last tally item fault state stands cut end later step (inl whole) =
+    inl (ends_there limit script old mid held now last whole.counted state (refuses limit script old mid held.held told.held now.held place last tally whole.counted item fault stands cut step whole.sent whole.adds) end whole.state_is)
+finishes limit script old mid held told now place last tally item fault state stands cut end later step (inr part) =
+    inr (refuses_stop limit script old mid held now told.held place last tally item fault part.stop state stands cut step part.stopped (stops_later part.stop held told now state later part.state_is))

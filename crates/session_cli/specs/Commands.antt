@@ -1,5 +1,5 @@
 -- One command, and the store before and after it.
-use Rattle.std.specs.Prelude.{◌≡◌, ℕ, ◌≤◌, List, [], Option, Some, Result, Ok, Err, IsTrue}
+use Rattle.std.specs.Prelude.{◌≡◌, ℕ, ◌≤◌, Bool, List, [], Option, Some, Result, Ok, Err, IsTrue}
 use Rattle.std.specs.Option.{option_map}
 use Rattle.wal_outside.specs.Causes.{Rose}
 use Rattle.wal_outside.specs.Files.{Files, put}
@@ -11,12 +11,12 @@ use Rattle.session_cli.specs.Outcomes.{Answer}
 use Rattle.session_cli.specs.Runs.{IsAnswer, Changes, of_fault, is_store_fault, failed_after}
 use Rattle.session_cli.specs.Views.{StoreView}
 
--- a function's result is the answer: accepted, with nothing to print, or the same fault
-abbrev pub Gives : Result (Unit {0}) Fault → Answer → Type 0
-Gives (Ok _) (Ok success) = success.shown ≡ []
-Gives (Ok _) (Err fault) = ⊥
-Gives (Err fault) (Ok success) = ⊥
-Gives (Err fault) (Err refusal) = fault ≡ refusal
+-- A call's result and the text to print are the answer: accepted, with what it prints; or the same fault, and then the text is empty.
+abbrev pub Gives : Result (Unit {0}) Fault → List ℕ → Answer → Type 0
+Gives (Ok _) printed (Ok success) = printed ≡ success.shown
+Gives (Ok _) printed (Err fault) = ⊥
+Gives (Err fault) printed (Ok success) = ⊥
+Gives (Err fault) printed (Err refusal) = (fault ≡ refusal) × (printed ≡ [])
 
 -- a store before and after an answer
 pub record Stored (old : StoreView) (answer : Answer) (new : StoreView) : Type 0 where
@@ -25,11 +25,11 @@ pub record Stored (old : StoreView) (answer : Answer) (new : StoreView) : Type 0
   pub cause : IsTrue (of_fault is_store_fault answer) → Rose old.faults new.faults
   pub failed : new.failed ≡ failed_after old.failed answer
 
--- a command has an answer that the result gives
-pub record Commands (ledger : Ledger) (old : StoreView) (text : List ℕ) (result : Result (Unit {0}) Fault) (new : StoreView) : Type 0 where
+-- a command has an answer that the call gives
+pub record Commands (limit : ℕ) (ledger : Ledger) (old : StoreView) (text : List ℕ) (shown : Bool) (result : Result (Unit {0}) Fault) (printed : List ℕ) (new : StoreView) : Type 0 where
   pub answer : Answer
-  pub gives : Gives result answer
-  pub answered : IsAnswer ledger text answer
+  pub gives : Gives result printed answer
+  pub answered : IsAnswer limit ledger text shown answer
   pub stored : Stored old answer new
 
 -- files after a write, where they are told
@@ -41,11 +41,7 @@ WritesFile old name stored (Err fault) new = new ≡ old
 abbrev pub IsWriteFault : List ℕ → StoreView → StoreView → Fault → Type 0
 IsWriteFault name old new (faults.Store folder at) = (folder ≡ Automata) × (at ≡ name) × Rose old.faults new.faults × (new.failed ≡ option_map (λ _. Some (folder, at)) old.failed)
 IsWriteFault name old new faults.Memory = new.failed ≡ old.failed
-IsWriteFault name old new faults.Command = ⊥
-IsWriteFault name old new (faults.Syntax part at) = ⊥
-IsWriteFault name old new (faults.Number part at) = ⊥
-IsWriteFault name old new (faults.Long limit) = ⊥
-IsWriteFault name old new faults.ScriptLimit = ⊥
+IsWriteFault name old new _ = ⊥
 
 abbrev pub WriteCause : List ℕ → StoreView → StoreView → Result (Unit {0}) Fault → Type 0
 WriteCause name old new (Ok _) = new.failed ≡ old.failed

@@ -1,5 +1,5 @@
 -- What is handed over of a result.
-use Rattle.std.specs.Prelude.{ℕ, List, [], Option, Result, Ok, Err}
+use Rattle.std.specs.Prelude.{ℕ, Bool, List, Option, Result, Ok, Err}
 use Rattle.wal_outside.specs.Sending.{Sends}
 use Rattle.wal_outside.specs.declared.sink.WriteFault.{WriteFault}
 use Rattle.wal_outside.specs.declared.sink.WriteFault.TheVariants as writes
@@ -13,17 +13,18 @@ use Rattle.session_cli.specs.Views.{StoreView}
 use Rattle.session_cli.specs.Commands.{Commands}
 use Rattle.session_cli.specs.Tallies.{AddsResult}
 
--- the line of a refusal, and nothing of an accepted command
-abbrev pub result_line : ℕ → Result (Unit {0}) Fault → List ℕ
-result_line line (Ok _) = []
-result_line line (Err fault) = fault_line line fault
+-- the text to print of an accepted command, and the line of a refusal
+abbrev pub result_text : ℕ → List ℕ → Result (Unit {0}) Fault → List ℕ
+result_text line printed (Ok _) = printed
+result_text line printed (Err fault) = fault_line line fault
 
--- a command was answered, its answer counted, and its line handed over, or a front of that where the sink stopped
-pub record HasAnswered (ledger : Ledger) (old : StoreView) (text : List ℕ) (line : ℕ) (told : Option (List ℕ)) (tally : Tally) (sent : Result (Unit {0}) WriteFault)
+-- a command was answered, its answer counted, and its text handed over, or a front of that where the sink stopped
+pub record HasAnswered (limit : ℕ) (ledger : Ledger) (old : StoreView) (text : List ℕ) (shown : Bool) (line : ℕ) (told : Option (List ℕ)) (tally : Tally) (sent : Result (Unit {0}) WriteFault)
     (new : StoreView) (now : Option (List ℕ)) (counted : Tally) : Type 0 where
   pub result : Result (Unit {0}) Fault
-  pub commands : Commands ledger old text result new
-  pub sends : Sends told now (result_line line result) sent
+  pub printed : List ℕ
+  pub commands : Commands limit ledger old text shown result printed new
+  pub sends : Sends told now (result_text line printed result) sent
   pub adds : AddsResult tally result counted
 
 -- how a run ends that a sink stopped

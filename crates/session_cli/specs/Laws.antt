@@ -1,5 +1,5 @@
 -- What holds of all runs.
-use Rattle.std.specs.Prelude.{◌≡◌, ◌⊎◌, ℕ, ◌+◌, ◌-◌, ◌^◌, ◌≤◌, min, if◌then◌else◌, List, [], ◌∷◌, Some}
+use Rattle.std.specs.Prelude.{◌≡◌, ◌⊎◌, ℕ, ◌+◌, ◌-◌, ◌^◌, ◌≤◌, min, Bool, if◌then◌else◌, List, [], ◌∷◌, Some}
 use Rattle.wal_outside.specs.Sending.{HasSent}
 use Rattle.script_cut.specs.Cuts.{Item}
 use Rattle.session_cli.specs.declared.status.Status.{Status}
@@ -9,7 +9,7 @@ use Rattle.session_cli.specs.Texts.{HasText}
 use Rattle.session_cli.specs.Outcomes.{Answer, Outcome}
 use Rattle.session_cli.specs.Views.{SourceView, SinkView, StoreView}
 use Rattle.session_cli.specs.Runs.{Run, of_fault, is_store_fault}
-use Rattle.session_cli.specs.Whole.{HasRun}
+use Rattle.session_cli.specs.Whole.{HasCalled}
 
 -- an entry has at most one text
 abbrev pub OneText : Type 0
@@ -17,7 +17,7 @@ OneText = (entry : Entry) (text other : List ℕ) → HasText entry text → Has
 
 -- a command has at most one proper outcome
 abbrev pub OneOutcome : Type 0
-OneOutcome = (ledger : Ledger) (text : List ℕ) (answer other : Answer) → Outcome ledger text answer → Outcome ledger text other → answer ≡ other
+OneOutcome = (limit : ℕ) (ledger : Ledger) (text : List ℕ) (shown : Bool) (answer other : Answer) → Outcome limit ledger text shown answer → Outcome limit ledger text shown other → answer ≡ other
 
 -- the run was through, and neither the store nor memory refused a command
 abbrev pub IsClean : Status → Type 0
@@ -31,11 +31,11 @@ pub record EndAlike (new new' : StoreView) (held now held' now' : SinkView) (sta
   pub printed : HasSent held.held now.held text
   pub printed' : HasSent held'.held now'.held text
 
--- Where the status is Done or Refused, what was printed, the files and the status are a function of the script and of the files at the
--- beginning: how the bytes of the script came does not change them.
+-- Where the status is Done or Refused, what was printed, the files and the status are a function of the words, of the script and of the
+-- files at the beginning: how the bytes of the script came does not change them.
 abbrev pub OneRun : Type 0
-OneRun = (script : List ℕ) (from to from' to' : SourceView) (old new old' new' : StoreView) (held now held' now' : SinkView) (state state' : Status)
-    → HasRun from to old new held now state → HasRun from' to' old' new' held' now' state'
+OneRun = (words : List (List ℕ)) (script : List ℕ) (from to from' to' : SourceView) (old new old' new' : StoreView) (held now held' now' : SinkView) (state state' : Status)
+    → HasCalled words from to old new held now state → HasCalled words from' to' old' new' held' now' state'
     → from.left ≡ Some script → from'.left ≡ Some script → old.files ≡ old'.files → IsClean state → IsClean state'
     → EndAlike new new' held now held' now' state state'
 
@@ -46,5 +46,5 @@ store_faults (answer ∷ answers) = (if of_fault is_store_fault answer then 1 el
 
 -- at most as many answers are store faults as the store's count rose, unless that stands at its last value
 abbrev pub StoreFaultsCounted : Type 0
-StoreFaultsCounted = (ledger last : Ledger) (old new : StoreView) (items : List Item) (answers : List Answer) → Run ledger old items answers last new
+StoreFaultsCounted = (limit : ℕ) (ledger last : Ledger) (old new : StoreView) (items : List Item) (answers : List Answer) → Run limit ledger old items answers last new
     → min (old.faults + store_faults answers) (2 ^ 64 - 1) ≤ new.faults

@@ -1,9 +1,11 @@
 -- Definitions that the contracts cite, in reading order.
 pub mod Codes
+pub mod Words
 pub mod Trees
 pub mod Texts
-pub mod Outcomes
+pub mod RegexSteps
 pub mod Lines
+pub mod Outcomes
 pub mod Views
 pub mod Runs
 pub mod Whole
@@ -14,3 +16,4 @@ pub mod Commands
 pub mod Tallies
 pub mod Handing
 pub mod Ending
+pub mod WordReading

@@ -1,10 +1,26 @@
--- The lines of refused commands.
-use Rattle.std.specs.Prelude.{ℕ, List, ◌++◌, codes, decimal}
+-- The lines of steps, and of refused commands.
+use Rattle.std.specs.Prelude.{ℕ, suc, Bool, true, false, List, [], ◌∷◌, ◌++◌, codes, decimal}
+use Rattle.digit_tuple.specs.Kinds.{kind_name}
+use Rattle.digit_tuple.specs.declared.steps.StepLine.{StepLine}
 use Rattle.wal_outside.specs.Folders.{folder_text}
 use Rattle.session_cli.specs.declared.fault.Part.{Part}
 use Rattle.session_cli.specs.declared.fault.Part.TheVariants as parts
 use Rattle.session_cli.specs.declared.fault.Fault.{Fault}
 use Rattle.session_cli.specs.declared.fault.Fault.TheVariants as faults
+
+-- the line of a step with its number: its kind, its width, and the number of states of its result
+abbrev pub step_line : ℕ → StepLine → List ℕ
+step_line number step = ((codes "step " ++ decimal number) ++ (codes " " ++ kind_name step.kind)) ++ ((codes " " ++ decimal step.width) ++ ((codes " " ++ decimal step.size) ++ codes "\n"))
+
+-- the lines of steps, counted from a number on
+abbrev pub step_lines : ℕ → List StepLine → List ℕ
+step_lines number [] = []
+step_lines number (step ∷ steps) = step_line number step ++ step_lines (suc number) steps
+
+-- what is printed of steps: their lines, where they are shown
+abbrev pub shown_steps : Bool → List StepLine → List ℕ
+shown_steps true steps = step_lines 1 steps
+shown_steps false steps = []
 
 abbrev pub part_name : Part → List ℕ
 part_name parts.Command = codes "command"
@@ -15,7 +31,11 @@ abbrev pub detail : Fault → List ℕ
 detail faults.Command = codes ": F01 Command"
 detail (faults.Syntax part at) = (codes ": F02 Syntax in " ++ part_name part) ++ (codes " at " ++ decimal at)
 detail (faults.Number part at) = (codes ": F04 Number in " ++ part_name part) ++ (codes " at " ++ decimal at)
-detail (faults.Long limit) = codes ": F07 Long " ++ decimal limit
+detail (faults.Depth part at) = (codes ": F06 Depth in " ++ part_name part) ++ (codes " at " ++ decimal at)
+detail (faults.Long bytes) = codes ": F07 Long " ++ decimal bytes
+detail (faults.SystemUnknown name) = codes ": F14 SystemUnknown " ++ name
+detail (faults.Letters step) = codes ": F18 Letters step " ++ decimal step
+detail (faults.States step) = codes ": F19 States step " ++ decimal step
 detail (faults.Store folder name) = (codes ": F26 Store " ++ folder_text folder) ++ (codes "/" ++ name)
 detail faults.Memory = codes ": F27 Memory"
 detail faults.ScriptLimit = codes ": F28 ScriptLimit"

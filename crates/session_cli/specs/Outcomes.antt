@@ -1,18 +1,23 @@
 -- What a command does: the entry that it makes, or the fault by which it is refused.
-use Rattle.std.specs.Prelude.{◌≡◌, ◌≢◌, ◌⊎◌, ℕ, ◌<◌, ◌≤◌, List, [], length, Result, Ok, Err, codes}
+use Rattle.std.specs.Prelude.{◌≡◌, ◌≢◌, ◌⊎◌, ℕ, ℤ, ◌<◌, ◌≤◌, Bool, List, [], ◌∷◌, length, Result, Ok, Err, codes}
 use Rattle.wal_outside.specs.declared.folder.Folder.{Folder}
 use Rattle.wal_outside.specs.declared.folder.Folder.TheVariants.{Automata}
+use Rattle.command_head.specs.declared.fault.HeadFault.{HeadFault}
 use Rattle.command_head.specs.declared.fault.HeadFault.TheVariants as heads
-use Rattle.command_head.specs.Heads.{RegHead, reg_at}
+use Rattle.command_head.specs.Heads.{RegHead, Sets, Systems, reg_at}
 use Rattle.command_head.specs.Parts.{first_word_of}
+use Rattle.digit_tuple.specs.Deterministic.{Automaton}
+use Rattle.digit_tuple.specs.declared.steps.StepLine.{StepLine}
 use Rattle.session_cli.specs.declared.fault.Part.TheVariants as parts
 use Rattle.session_cli.specs.declared.fault.Fault.{Fault}
 use Rattle.session_cli.specs.declared.fault.Fault.TheVariants as faults
+use Rattle.regex_build.specs.declared.fault.RegexFault.{RegexFault}
 use Rattle.regex_build.specs.declared.fault.RegexFault.TheVariants as regexes
 use Rattle.regex_build.specs.Patterns.{Pattern}
 use Rattle.regex_build.specs.Parsing.{Parses}
-use Rattle.regex_build.specs.Posts.{tree_of}
 use Rattle.session_cli.specs.Trees.{Regex, Entry, Defined, Ledger, entered}
+use Rattle.session_cli.specs.Lines.{shown_steps}
+use Rattle.session_cli.specs.RegexSteps.{IsRegexStep, ExceedsLetters, ExceedsStates}
 use Rattle.session_cli.specs.Texts.{HasText}
 
 -- an accepted command: the entry that it makes, where, and what it prints
@@ -42,48 +47,75 @@ FitsFile text = length text ≤ 16777216
 abbrev pub HasNoCommandWord : List ℕ → Type 0
 HasNoCommandWord text = first_word_of text ≢ codes "reg"
 
--- the command is a `reg` with these parts
-pub record IsReg (text : List ℕ) (head : RegHead) : Type 0 where
+-- the command is a `reg`, and reading its head gives this
+pub record IsReg (text : List ℕ) (result : Result RegHead HeadFault) : Type 0 where
   pub short : IsShort text
   pub word : first_word_of text ≡ codes "reg"
-  pub parts : reg_at text ≡ Ok head
+  pub parts : reg_at text ≡ result
 
--- a `reg` enters the expression in its quotes among the automata, and prints nothing
-pub record RegMakes (text : List ℕ) (success : Success) : Type 0 where
-  pub head : RegHead
-  pub reg : IsReg text head
+-- a head over sets
+abbrev pub over_sets : List ℕ → List (List ℤ) → List ℕ → RegHead
+over_sets name sets body = record { name = name; tracks = Sets sets; body = body }
+
+-- the command is a `reg` over sets, and parsing the text in its quotes gives this
+pub record IsRegex (text : List ℕ) (sets : List (List ℤ)) (result : Result Pattern RegexFault) : Type 0 where
+  pub name : List ℕ
+  pub body : List ℕ
+  pub reg : IsReg text (Ok (over_sets name sets body))
+  pub parses : Parses sets body result
+
+-- a `reg` over sets enters the expression in its quotes among the automata, by one step
+pub record RegMakes (limit : ℕ) (text : List ℕ) (shown : Bool) (success : Success) : Type 0 where
+  pub sets : List (List ℤ)
   pub pattern : Pattern
-  pub parses : Parses head.sets head.body (Ok pattern)
+  pub regex : IsRegex text sets (Ok pattern)
+  pub automaton : Automaton
+  pub line : StepLine
+  pub step : IsRegexStep limit sets pattern.tree automaton line
   pub folder_is : success.folder ≡ Automata
-  pub name_is : success.name ≡ head.name
-  pub entry_is : success.entry ≡ Defined (Regex head.sets (tree_of pattern.posts))
-  pub shown_is : success.shown ≡ []
+  pub name_is : success.name ≡ regex.name
+  pub entry_is : success.entry ≡ Defined (Regex sets pattern.tree)
+  pub shown_is : success.shown ≡ shown_steps shown (line ∷ [])
 
 -- an accepted command, but for the length of the text that it stores
-abbrev pub Makes : Ledger → List ℕ → Success → Type 0
-Makes ledger text success = RegMakes text success
+abbrev pub Makes : ℕ → Ledger → List ℕ → Bool → Success → Type 0
+Makes limit ledger text shown success = RegMakes limit text shown success
 
 -- the command passes 65,536 bytes, or the text that it is to store 16,777,216
-abbrev pub IsTooLong : Ledger → List ℕ → ℕ → Type 0
-IsTooLong ledger text limit = ((limit ≡ 65536) × (65536 < length text))
-    ⊎ ((limit ≡ 16777216) × (success : Success) × (stored : List ℕ) × Makes ledger text success × HasText success.entry stored × (16777216 < length stored))
+abbrev pub IsTooLong : ℕ → Ledger → List ℕ → Bool → ℕ → Type 0
+IsTooLong limit ledger text shown bytes = ((bytes ≡ 65536) × (65536 < length text))
+    ⊎ ((bytes ≡ 16777216) × (success : Success) × (stored : List ℕ) × Makes limit ledger text shown success × HasText success.entry stored × (16777216 < length stored))
+
+-- the head is over systems, of which this is the first: no system is known
+abbrev pub IsOverUnknown : List ℕ → List ℕ → Type 0
+IsOverUnknown text name = (head : RegHead) × IsReg text (Ok head) × (names : List (List ℕ)) × (head.tracks ≡ Systems (name ∷ names))
+
+-- a step of the expression passes a limit
+abbrev pub ExceedsBy : List ℕ → (List (List ℤ) → Pattern → Type 0) → Type 0
+ExceedsBy text Passes = (sets : List (List ℤ)) × (pattern : Pattern) × IsRegex text sets (Ok pattern) × Passes sets pattern
 
 -- The proper outcome of a command that has its terminator, by the checks in their order: its length, its first word, the shape of
--- its head, its expression, and the length of the text that it is to store.
-abbrev pub Outcome : Ledger → List ℕ → Answer → Type 0
-Outcome ledger text (Ok success) = Makes ledger text success × (stored : List ℕ) × HasText success.entry stored × FitsFile stored
-Outcome ledger text (Err faults.Command) = IsShort text × HasNoCommandWord text
-Outcome ledger text (Err (faults.Syntax parts.Command at)) = IsShort text × (first_word_of text ≡ codes "reg") × (reg_at text ≡ Err (heads.Syntax at))
-Outcome ledger text (Err (faults.Syntax parts.Regex at)) = (head : RegHead) × IsReg text head × Parses head.sets head.body (Err (regexes.Syntax at))
-Outcome ledger text (Err (faults.Number parts.Command at)) = IsShort text × (first_word_of text ≡ codes "reg") × (reg_at text ≡ Err (heads.Number at))
-Outcome ledger text (Err (faults.Number parts.Regex at)) = (head : RegHead) × IsReg text head × Parses head.sets head.body (Err (regexes.Number at))
-Outcome ledger text (Err (faults.Long limit)) = IsTooLong ledger text limit
-Outcome ledger text (Err (faults.Store folder name)) = ⊥
-Outcome ledger text (Err faults.Memory) = ⊥
-Outcome ledger text (Err faults.ScriptLimit) = ⊥
+-- its head, its systems, its expression, its step, and the length of the text that it is to store. The step may have `limit` values; its
+-- line is printed where steps are `shown`.
+abbrev pub Outcome : ℕ → Ledger → List ℕ → Bool → Answer → Type 0
+Outcome limit ledger text shown (Ok success) = Makes limit ledger text shown success × (stored : List ℕ) × HasText success.entry stored × FitsFile stored
+Outcome limit ledger text shown (Err faults.Command) = IsShort text × HasNoCommandWord text
+Outcome limit ledger text shown (Err (faults.Syntax parts.Command at)) = IsReg text (Err (heads.Syntax at))
+Outcome limit ledger text shown (Err (faults.Syntax parts.Regex at)) = (sets : List (List ℤ)) × IsRegex text sets (Err (regexes.Syntax at))
+Outcome limit ledger text shown (Err (faults.Number parts.Command at)) = IsReg text (Err (heads.Number at))
+Outcome limit ledger text shown (Err (faults.Number parts.Regex at)) = (sets : List (List ℤ)) × IsRegex text sets (Err (regexes.Number at))
+Outcome limit ledger text shown (Err (faults.Depth parts.Command at)) = ⊥
+Outcome limit ledger text shown (Err (faults.Depth parts.Regex at)) = (sets : List (List ℤ)) × IsRegex text sets (Err (regexes.Depth at))
+Outcome limit ledger text shown (Err (faults.Long bytes)) = IsTooLong limit ledger text shown bytes
+Outcome limit ledger text shown (Err (faults.SystemUnknown name)) = IsOverUnknown text name
+Outcome limit ledger text shown (Err (faults.Letters step)) = (step ≡ 1) × ExceedsBy text (λ sets pattern. ExceedsLetters sets)
+Outcome limit ledger text shown (Err (faults.States step)) = (step ≡ 1) × ExceedsBy text (λ sets pattern. ExceedsStates limit sets pattern.tree)
+Outcome limit ledger text shown (Err (faults.Store folder name)) = ⊥
+Outcome limit ledger text shown (Err faults.Memory) = ⊥
+Outcome limit ledger text shown (Err faults.ScriptLimit) = ⊥
 
 -- the proper outcome of a text without terminator
 abbrev pub OpenOutcome : List ℕ → Answer → Type 0
-OpenOutcome text (Err (faults.Long limit)) = (limit ≡ 65536) × (65536 < length text)
+OpenOutcome text (Err (faults.Long bytes)) = (bytes ≡ 65536) × (65536 < length text)
 OpenOutcome text (Err (faults.Syntax parts.Command at)) = IsShort text × (at ≡ length text)
 OpenOutcome text _ = ⊥

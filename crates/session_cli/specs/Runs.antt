@@ -16,21 +16,16 @@ use Rattle.session_cli.specs.Views.{StoreView}
 use Rattle.session_cli.specs.Lines.{fault_line}
 
 -- A command's answer is its proper outcome. Or the write of what it makes failed; or memory ran out.
-abbrev pub IsAnswer : Ledger → List ℕ → Answer → Type 0
-IsAnswer ledger text (Err (faults.Store folder name)) = (success : Success) × Outcome ledger text (Ok success) × (folder ≡ success.folder) × (name ≡ success.name)
-IsAnswer ledger text (Err faults.Memory) = ⊤
-IsAnswer ledger text (Err faults.ScriptLimit) = ⊥
-IsAnswer ledger text (Err faults.Command) = Outcome ledger text (Err faults.Command)
-IsAnswer ledger text (Err (faults.Syntax part at)) = Outcome ledger text (Err (faults.Syntax part at))
-IsAnswer ledger text (Err (faults.Number part at)) = Outcome ledger text (Err (faults.Number part at))
-IsAnswer ledger text (Err (faults.Long limit)) = Outcome ledger text (Err (faults.Long limit))
-IsAnswer ledger text (Ok success) = Outcome ledger text (Ok success)
+abbrev pub IsAnswer : ℕ → Ledger → List ℕ → Bool → Answer → Type 0
+IsAnswer limit ledger text shown (Err (faults.Store folder name)) = (success : Success) × Outcome limit ledger text shown (Ok success) × (folder ≡ success.folder) × (name ≡ success.name)
+IsAnswer limit ledger text shown (Err faults.Memory) = ⊤
+IsAnswer limit ledger text shown answer = Outcome limit ledger text shown answer
 
 -- the answer of an item, by how it ended
-abbrev pub IsAnswerOf : Ended → Ledger → List ℕ → Answer → Type 0
-IsAnswerOf (Terminated shown) ledger text answer = IsAnswer ledger text answer
-IsAnswerOf Unterminated ledger text answer = OpenOutcome text answer
-IsAnswerOf PastLimit ledger text answer = answer ≡ Err faults.ScriptLimit
+abbrev pub IsAnswerOf : ℕ → Ended → Ledger → List ℕ → Answer → Type 0
+IsAnswerOf limit (Terminated shown) ledger text answer = IsAnswer limit ledger text shown answer
+IsAnswerOf limit Unterminated ledger text answer = OpenOutcome text answer
+IsAnswerOf limit PastLimit ledger text answer = answer ≡ Err faults.ScriptLimit
 
 -- an accepted command changes the file of its entry to that entry's text, and a refused one none
 abbrev pub Changes : Option Files → Answer → Option Files → Type 0
@@ -39,12 +34,7 @@ Changes old (Err fault) new = new ≡ old
 
 abbrev pub is_store_fault : Fault → Bool
 is_store_fault (faults.Store folder name) = true
-is_store_fault faults.Command = false
-is_store_fault (faults.Syntax part at) = false
-is_store_fault (faults.Number part at) = false
-is_store_fault (faults.Long limit) = false
-is_store_fault faults.Memory = false
-is_store_fault faults.ScriptLimit = false
+is_store_fault _ = false
 
 abbrev pub is_memory_fault : Fault → Bool
 is_memory_fault faults.Memory = true
@@ -60,28 +50,22 @@ is_refusal answer = of_fault (λ fault. true) answer
 -- the file of the last call that failed: a store fault's, from then on
 abbrev pub failed_after : Option (Option Place) → Answer → Option (Option Place)
 failed_after old (Err (faults.Store folder name)) = option_map (λ _. Some (folder, name)) old
-failed_after old (Err faults.Command) = old
-failed_after old (Err (faults.Syntax part at)) = old
-failed_after old (Err (faults.Number part at)) = old
-failed_after old (Err (faults.Long limit)) = old
-failed_after old (Err faults.Memory) = old
-failed_after old (Err faults.ScriptLimit) = old
-failed_after old (Ok success) = old
+failed_after old _ = old
 
 -- One item: it has this answer, and the store was so and is so now. A store fault comes only where the store's count of faults rose.
-pub record Answers (ledger : Ledger) (old : StoreView) (item : Item) (answer : Answer) (new : StoreView) : Type 0 where
-  pub answered : IsAnswerOf item.ended ledger item.text answer
+pub record Answers (limit : ℕ) (ledger : Ledger) (old : StoreView) (item : Item) (answer : Answer) (new : StoreView) : Type 0 where
+  pub answered : IsAnswerOf limit item.ended ledger item.text answer
   pub files : Changes old.files answer new.files
   pub later : old.faults ≤ new.faults
   pub cause : IsTrue (of_fault is_store_fault answer) → Rose old.faults new.faults
   pub failed : new.failed ≡ failed_after old.failed answer
 
 -- the items one after another, from a ledger and a store to those at the end
-abbrev pub Run : Ledger → StoreView → List Item → List Answer → Ledger → StoreView → Type 0
-Run ledger old [] [] last new = (last ≡ ledger) × (new ≡ old)
-Run ledger old (item ∷ items) (answer ∷ answers) last new = (mid : StoreView) × Answers ledger old item answer mid × Run (after ledger answer) mid items answers last new
-Run ledger old [] (answer ∷ answers) last new = ⊥
-Run ledger old (item ∷ items) [] last new = ⊥
+abbrev pub Run : ℕ → Ledger → StoreView → List Item → List Answer → Ledger → StoreView → Type 0
+Run limit ledger old [] [] last new = (last ≡ ledger) × (new ≡ old)
+Run limit ledger old (item ∷ items) (answer ∷ answers) last new = (mid : StoreView) × Answers limit ledger old item answer mid × Run limit (after ledger answer) mid items answers last new
+Run limit ledger old [] (answer ∷ answers) last new = ⊥
+Run limit ledger old (item ∷ items) [] last new = ⊥
 
 -- the ledger at the beginning: the store's files, where these are told
 abbrev pub first_ledger : Option Files → Ledger

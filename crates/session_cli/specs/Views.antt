@@ -1,7 +1,11 @@
--- What is seen of source, sink and store: what each tells, and its count of faults.
+-- What is seen of a session, and of source, sink and store: what each tells, and its count of faults.
 use Rattle.std.specs.Prelude.{◌≡◌, ℕ, List, Option, None, Some, ⊤}
 use Rattle.wal_outside.specs.Files.{Files}
 use Rattle.wal_outside.specs.Places.{Place}
+
+-- a session: the most values that a step of a command may have
+pub record SessionView : Type 0 where
+  pub limit : ℕ
 
 -- a source: the bytes that are left
 pub record SourceView : Type 0 where

@@ -8,6 +8,7 @@ use Rattle.std.specs.Io.KnownBytes.{Consumes}
 use Rattle.script_cut.specs.Cuts.{Item, Place, start, CutsTo, IsAtEnd, HasNoCommand}
 use Rattle.session_cli.specs.declared.status.Status.{Status}
 use Rattle.session_cli.specs.declared.status.Status.TheVariants as status
+use Rattle.session_cli.specs.Words.{GivesLimit, GivesNone}
 use Rattle.session_cli.specs.Trees.{Ledger}
 use Rattle.session_cli.specs.Outcomes.{Answer}
 use Rattle.session_cli.specs.Views.{SourceView, SinkView, StoreView, IsTold}
@@ -19,20 +20,20 @@ StopsWith writes.Failed old new state = (state ≡ status.Outside) × Rose old.f
 StopsWith writes.Memory old new state = state ≡ status.Memory
 
 -- All items were answered and all lines printed.
-pub record RanThrough (script : List ℕ) (old new : StoreView) (held now : SinkView) (state : Status) : Type 0 where
+pub record RanThrough (limit : ℕ) (script : List ℕ) (old new : StoreView) (held now : SinkView) (state : Status) : Type 0 where
   pub items : List Item
   pub answers : List Answer
   pub last : Place
   pub cut : CutsTo (start script) items last
   pub end : IsAtEnd last
   pub ledger : Ledger
-  pub run : Run (first_ledger old.files) old items answers ledger new
+  pub run : Run limit (first_ledger old.files) old items answers ledger new
   pub stores : StoresTold ledger new.files
   pub sent : HasSent held.held now.held (printed items answers)
   pub state_is : state ≡ status_of answers
 
 -- The sink stopped the run in the line of its last answer: the lines before were printed whole, and some front of that one.
-pub record RanToStop (script : List ℕ) (old new : StoreView) (held now : SinkView) (state : Status) : Type 0 where
+pub record RanToStop (limit : ℕ) (script : List ℕ) (old new : StoreView) (held now : SinkView) (state : Status) : Type 0 where
   pub items : List Item
   pub answers : List Answer
   pub item : Item
@@ -40,7 +41,7 @@ pub record RanToStop (script : List ℕ) (old new : StoreView) (held now : SinkV
   pub last : Place
   pub cut : CutsTo (start script) (items ++ item ∷ []) last
   pub ledger : Ledger
-  pub run : Run (first_ledger old.files) old (items ++ item ∷ []) (answers ++ answer ∷ []) ledger new
+  pub run : Run limit (first_ledger old.files) old (items ++ item ∷ []) (answers ++ answer ∷ []) ledger new
   pub stores : StoresTold ledger new.files
   pub mid : Option (List ℕ)
   pub sent : HasSent held.held mid (printed items answers)
@@ -50,7 +51,7 @@ pub record RanToStop (script : List ℕ) (old new : StoreView) (held now : SinkV
 
 -- The source failed, or there was no memory to cut the next command. The items answered are those of what the source gave, and their
 -- lines were printed whole. Where the source failed, no further command has its terminator in what it gave.
-pub record RanToFault (from to : SourceView) (old new : StoreView) (held now : SinkView) (state : Status) : Type 0 where
+pub record RanToFault (limit : ℕ) (from to : SourceView) (old new : StoreView) (held now : SinkView) (state : Status) : Type 0 where
   pub gave : List ℕ
   pub more : List ℕ
   pub taken : Consumes from.left to.left gave
@@ -62,21 +63,41 @@ pub record RanToFault (from to : SourceView) (old new : StoreView) (held now : S
   pub behind : List ℕ
   pub left_is : last.left ≡ behind ++ more
   pub ledger : Ledger
-  pub run : Run (first_ledger old.files) old items answers ledger new
+  pub run : Run limit (first_ledger old.files) old items answers ledger new
   pub stores : StoresTold ledger new.files
   pub sent : HasSent held.held now.held (printed items answers)
   pub cause : ((state ≡ status.Outside) × Rose from.faults to.faults × HasNoCommand behind) ⊎ (state ≡ status.Memory)
 
--- A run over a script: all of what the source had left, where that is told; or what it gave of that.
-abbrev pub HasRun : SourceView → SourceView → StoreView → StoreView → SinkView → SinkView → Status → Type 0
-HasRun from to old new held now state =
-    ((script : List ℕ) × IsTold from.left script × (RanThrough script old new held now state ⊎ RanToStop script old new held now state))
-    ⊎ RanToFault from to old new held now state
+-- A run over a script, whose steps may have `limit` values each: all of what the source had left, where that is told; or what it gave of
+-- that.
+abbrev pub HasRun : ℕ → SourceView → SourceView → StoreView → StoreView → SinkView → SinkView → Status → Type 0
+HasRun limit from to old new held now state =
+    ((script : List ℕ) × IsTold from.left script × (RanThrough limit script old new held now state ⊎ RanToStop limit script old new held now state))
+    ⊎ RanToFault limit from to old new held now state
 
 abbrev pub usage_line : List ℕ
 usage_line = codes "usage: walnut [--states N] [--stop] [--make SEED]\n"
 
--- The usage line was printed, or a front of it where the sink stopped it. The store stays.
-pub record ShowsUsage (old new : StoreView) (held now : SinkView) (state : Status) : Type 0 where
+-- the usage line was printed, or a front of it where the sink stopped it
+abbrev pub PrintsUsage : SinkView → SinkView → Status → Type 0
+PrintsUsage held now state = (HasSent held.held now.held usage_line × (state ≡ status.Usage)) ⊎ ((fault : WriteFault) × Sends {T = Unit {0}} held.held now.held usage_line (Err fault) × StopsWith fault held now state)
+
+-- and source and store stay
+pub record ShowsUsage (from to : SourceView) (old new : StoreView) (held now : SinkView) (state : Status) : Type 0 where
+  pub source_stays : to ≡ from
   pub store_stays : new ≡ old
-  pub shown : (HasSent held.held now.held usage_line × (state ≡ status.Usage)) ⊎ ((fault : WriteFault) × Sends {T = Unit {0}} held.held now.held usage_line (Err fault) × StopsWith fault held now state)
+  pub shown : PrintsUsage held now state
+
+-- There was no memory to read the words, and nothing was done.
+pub record EndsUnread (from to : SourceView) (old new : StoreView) (held now : SinkView) (state : Status) : Type 0 where
+  pub source_stays : to ≡ from
+  pub store_stays : new ≡ old
+  pub sink_stays : now ≡ held
+  pub state_is : state ≡ status.Memory
+
+-- A whole call: a run with the limit that the words give; or the words give none, and the usage line.
+abbrev pub HasCalled : List (List ℕ) → SourceView → SourceView → StoreView → StoreView → SinkView → SinkView → Status → Type 0
+HasCalled words from to old new held now state =
+    ((limit : ℕ) × GivesLimit words limit × HasRun limit from to old new held now state)
+    ⊎ (GivesNone words × ShowsUsage from to old new held now state)
+    ⊎ EndsUnread from to old new held now state

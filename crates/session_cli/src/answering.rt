@@ -1,64 +1,88 @@
 ghost use Rattle.std.specs.Prelude.{◌≡◌, ◌≤◌, IsErrOf};
 ghost use Rattle.wal_outside.specs.Causes.{Rose};
 ghost use Rattle.wal_outside.specs.Sending.{Sends};
-ghost use Rattle.session_cli.specs.Tallies.{AddsResult};
+ghost use Rattle.session_cli.specs.Tallies.{AddsFault, AddsResult};
+ghost use Rattle.session_cli.specs.Lines.{fault_line};
 ghost use Rattle.session_cli.specs.Trees.{Ledger};
 ghost use Rattle.session_cli.specs.Runs.{StoresTold};
 ghost use Rattle.session_cli.specs.Views.{StoreView};
-ghost use Rattle.session_cli.specs.Handing.{HasAnswered, result_line, stop_status as status_of_stop};
+ghost use Rattle.session_cli.specs.Handing.{HasAnswered, result_text, stop_status as status_of_stop};
 
-use crate::command::command;
+use crate::answer::Answer;
 use crate::fault::Fault;
 use crate::lines::send_fault;
+use crate::session::Session;
 use crate::status::Status;
 use crate::tally::Tally;
 use std::alloc::Global;
-use wal_outside::{Sink, Store, WriteFault};
+use wal_outside::{Sink, Store, WriteFault, send};
 
-/// Hands over the line of a command that begins on `line`, and counts its answer.
+/// Hands over what a command prints that begins on `line`, and counts its result: the bytes of its answer, or the line of its
+/// fault.
 ///
 /// # Errors
-/// As `send`: what was appended is a front of the line.
+/// As `send`: what was appended is a front of that.
 pub(crate) fn hand_over<K: Sink>(
     out: &mut K,
     line: u64,
-    answer: &Result<(), Fault>,
+    answer: &Answer,
+    answered: &Result<(), Fault>,
     tally: &mut Tally,
 ) -> Result<(), WriteFault>
-    ensures sent { Sends (K.held out.old) (K.held out.new) (result_line line answer.now) result }
-    ensures counts { AddsResult tally.old answer.now tally.new }
+    ensures sent { Sends (K.held out.old) (K.held out.new) (result_text line answer.now answered.now) result }
+    ensures counts { AddsResult tally.old answered.now tally.new }
     ensures later { K.faults out.old ≤ K.faults out.new }
     ensures cause { IsErrOf result WriteFault.Failed → Rose (K.faults out.old) (K.faults out.new) }
 {
-    match answer {
-        Ok(()) => Ok(()),
-        Err(fault) => {
-            *tally = tally.with(fault);
-            send_fault(out, line, fault)
-        }
+    match answered {
+        Ok(()) => send(out, answer.bytes()),
+        Err(fault) => hand_over_fault(out, line, fault, tally),
     }
 }
 
-/// Answers a command that begins on `line`, hands over its line, and counts its answer.
+/// Hands over the line of a fault, and counts it.
 ///
 /// # Errors
-/// As `send`: the command was answered, and what was appended is a front of its line.
+/// As `send`: what was appended is a front of the line.
+pub(crate) fn hand_over_fault<K: Sink>(
+    out: &mut K,
+    line: u64,
+    fault: &Fault,
+    tally: &mut Tally,
+) -> Result<(), WriteFault>
+    ensures sent { Sends (K.held out.old) (K.held out.new) (fault_line line fault.now) result }
+    ensures counts { AddsFault tally.old fault.now tally.new }
+    ensures later { K.faults out.old ≤ K.faults out.new }
+    ensures cause { IsErrOf result WriteFault.Failed → Rose (K.faults out.old) (K.faults out.new) }
+{
+    *tally = tally.with(fault);
+    send_fault(out, line, fault)
+}
+
+/// Answers a command that begins on `line`, hands over what it prints, and counts its result.
+///
+/// # Errors
+/// As `send`: the command was answered, and what was appended is a front of what it prints.
 pub(crate) fn answer_command<K: Sink, T: Store>(
     alloc: Global,
+    session: &mut Session,
     text: &[u8],
+    shown: bool,
     line: u64,
     out: &mut K,
     store: &mut T,
     tally: &mut Tally,
 ) -> Result<(), WriteFault>
-    ensures answered { (ledger : Ledger) → StoresTold ledger (T.files store.old) → HasAnswered ledger
-        (record { files = T.files store.old; faults = T.faults store.old; failed = T.failed store.old }) text.now line (K.held out.old) tally.old result
+    ensures session { session.new ≡ session.old }
+    ensures answered { (ledger : Ledger) → StoresTold ledger (T.files store.old) → HasAnswered session.old.limit ledger
+        (record { files = T.files store.old; faults = T.faults store.old; failed = T.failed store.old }) text.now shown line (K.held out.old) tally.old result
         (record { files = T.files store.new; faults = T.faults store.new; failed = T.failed store.new }) (K.held out.new) tally.new }
     ensures later { K.faults out.old ≤ K.faults out.new }
     ensures cause { IsErrOf result WriteFault.Failed → Rose (K.faults out.old) (K.faults out.new) }
 {
-    let answer = command(alloc, text, store);
-    hand_over(out, line, &answer, tally)
+    let mut answer = Answer::new(alloc);
+    let answered = session.command(alloc, text, shown, store, &mut answer);
+    hand_over(out, line, &answer, &answered, tally)
 }
 
 /// How a run ends that the sink stopped.

@@ -24,8 +24,16 @@ pub enum Fault {
     Syntax(Part, usize),
     /// F04: the number at this byte is out of its range.
     Number(Part, usize),
+    /// F06: the parenthesis at this byte is nested too deeply.
+    Depth(Part, usize),
     /// F07: it has more bytes than this, or so has the text that it was to store.
     Long(usize),
+    /// F14: there is no system of this name.
+    SystemUnknown(Name),
+    /// F18: this step, counted from 1, would be over more than 16 tracks or 65,536 letters.
+    Letters(u64),
+    /// F19: this step, counted from 1, would have more values than a step may have.
+    States(u64),
     /// F26: the store failed at this file.
     Store(Folder, Name),
     /// F27: there was not enough memory.

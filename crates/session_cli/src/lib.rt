@@ -7,24 +7,31 @@ mod status;
 mod fault;
 // the lines of refused commands
 mod lines;
-// what a command stores, from its text
+// what a command prints
+mod answer;
+// the expression of a command: its step and its text
+mod regexes;
+// what a command stores and prints, from its text
 mod planning;
 // one command
-mod command;
+mod session;
 // what was counted of the answers
 mod tally;
 // an answer and its line
 mod answering;
 // the commands of a script, one after another
 mod running;
+// the words of the command line
+mod words;
 // the whole call
 mod whole;
 // what holds of all runs
 mod laws;
 
-pub use dfa_text::print_listed;
+pub use answer::Answer;
 pub use fault::{Fault, Part};
 pub use laws::{one_outcome, one_run, store_faults_counted};
+pub use session::Session;
 pub use status::Status;
 pub use whole::run;
 

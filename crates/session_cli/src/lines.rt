@@ -46,7 +46,11 @@ fn send_detail<K: Sink>(out: &mut K, fault: &Fault) -> Result<(), WriteFault>
         Fault::Command => send(out, b": F01 Command"),
         Fault::Syntax(part, at) => send_place(out, b": F02 Syntax in ", *part, *at),
         Fault::Number(part, at) => send_place(out, b": F04 Number in ", *part, *at),
-        Fault::Long(limit) => send_limit(out, *limit),
+        Fault::Depth(part, at) => send_place(out, b": F06 Depth in ", *part, *at),
+        Fault::Long(bytes) => send_number(out, b": F07 Long ", *bytes as u64),
+        Fault::SystemUnknown(name) => send_two(out, b": F14 SystemUnknown ", name.as_bytes()),
+        Fault::Letters(step) => send_number(out, b": F18 Letters step ", *step),
+        Fault::States(step) => send_number(out, b": F19 States step ", *step),
         Fault::Store(folder, name) => send_file(out, *folder, name),
         Fault::Memory => send(out, b": F27 Memory"),
         Fault::ScriptLimit => send(out, b": F28 ScriptLimit"),
@@ -69,14 +73,14 @@ fn send_place<K: Sink>(out: &mut K, name: &[u8], part: Part, at: usize) -> Resul
     )
 }
 
-/// Hands over the fault of a length and its limit.
-fn send_limit<K: Sink>(out: &mut K, limit: usize) -> Result<(), WriteFault>
-    ensures sent { Sends (K.held out.old) (K.held out.new) (codes ": F07 Long " ++ decimal limit) result }
+/// Hands over a fault's number and name, and the number behind it.
+fn send_number<K: Sink>(out: &mut K, name: &[u8], number: u64) -> Result<(), WriteFault>
+    ensures sent { Sends (K.held out.old) (K.held out.new) (name.now ++ decimal number) result }
     ensures later { K.faults out.old ≤ K.faults out.new }
     ensures cause { IsErrOf result WriteFault.Failed → Rose (K.faults out.old) (K.faults out.new) }
 {
     let mut buffer = Buffer::new();
-    send_two(out, b": F07 Long ", buffer.format(limit).as_bytes())
+    send_two(out, name, buffer.format(number).as_bytes())
 }
 
 /// Hands over the fault of a store and its file.

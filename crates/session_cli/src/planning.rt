@@ -1,37 +1,29 @@
-ghost use Rattle.std.specs.Prelude.{◌≡◌, ◌<◌, ◌≤◌, length, codes};
-ghost use Rattle.digit_tuple.specs.Headers.{sets_of};
-ghost use Rattle.digit_tuple.specs.Letters.{IsAlphabet};
-ghost use Rattle.digit_tuple.specs.Sets.{sizes_of};
-ghost use Rattle.dfa_text.specs.Meaning.{AreTrackSets};
+ghost use Rattle.std.specs.Prelude.{◌≡◌, ◌<◌, ◌≤◌, [], length, slice_index_or, codes};
 ghost use Rattle.command_head.specs.Parts.{first_word_of};
-ghost use Rattle.session_cli.specs.Plans.{Plans, PlansRegex};
+ghost use Rattle.session_cli.specs.Plans.{Plans};
 
 use crate::fault::{Fault, Part};
-use command_head::{HeadFault, RegParts, first_word, reg_parts};
-use dfa_text::print_listed;
-use digit_tuple::header::Header;
+use crate::regexes::{Made, regex_over};
+use command_head::{Alphabets, HeadFault, RegParts, first_word, reg_parts};
 use digit_tuple::name::Name;
-use regex_build::fault::RegexFault;
-use regex_build::parsing::parse;
-use regex_build::position_table::positions;
 use std::alloc::Global;
-use wal_outside::TEXT_LIMIT;
 
 /// The most bytes that a command may have.
 pub(crate) const COMMAND_LIMIT: usize = 65_536;
 
-/// What an accepted command stores.
+/// What an accepted command leaves.
 #[derive(Drop)]
 pub(crate) struct Plan {
     /// The name of its file.
     pub(crate) name: Name,
-    /// The text.
-    pub(crate) stored: Vec<u8>,
+    /// What it stores and prints.
+    pub(crate) made: Made,
 }
 
-/// What a command stores, from its text alone; or why it is refused.
-pub(crate) fn plan_of(alloc: Global, text: &[u8]) -> Result<Plan, Fault>
-    ensures { Plans text.now result }
+/// What a command stores and prints, from its text alone; or why it is refused. Each step may have `limit` values; the lines of steps
+/// are printed where these are `shown`.
+pub(crate) fn plan_of(alloc: Global, limit: u32, text: &[u8], shown: bool) -> Result<Plan, Fault>
+    ensures { Plans limit text.now shown result }
 {
     if text.len() > COMMAND_LIMIT {
         return Err(Fault::Long(COMMAND_LIMIT));
@@ -39,19 +31,28 @@ pub(crate) fn plan_of(alloc: Global, text: &[u8]) -> Result<Plan, Fault>
     if first_word(text) != b"reg".as_slice() {
         return Err(Fault::Command);
     }
-    plan_reg(alloc, text)
+    plan_reg(alloc, limit, text, shown)
 }
 
-/// What a `reg` stores.
-fn plan_reg(alloc: Global, text: &[u8]) -> Result<Plan, Fault>
+/// What a `reg` stores and prints. No system is known.
+fn plan_reg(alloc: Global, limit: u32, text: &[u8], shown: bool) -> Result<Plan, Fault>
     requires short { length text.now ≤ COMMAND_LIMIT }
     requires word { first_word_of text.now ≡ codes "reg" }
-    ensures { Plans text.now result }
+    ensures { Plans limit text.now shown result }
 {
     match reg_parts(alloc, text) {
-        Ok(RegParts { name, header, body }) => match plan_regex(alloc, &header, body) {
-            Ok(stored) => Ok(Plan { name, stored }),
-            Err(fault) => Err(fault),
+        Ok(
+            RegParts {
+                name,
+                alphabets,
+                body,
+            },
+        ) => match alphabets {
+            Alphabets::Sets(sets) => match regex_over(alloc, limit, sets, body, shown) {
+                Ok(made) => Ok(Plan { name, made }),
+                Err(fault) => Err(fault),
+            },
+            Alphabets::Systems(names) => Err(unknown_system(names)),
         },
         Err(HeadFault::Syntax(at)) => Err(Fault::Syntax(Part::Command, at)),
         Err(HeadFault::Number(at)) => Err(Fault::Number(Part::Command, at)),
@@ -59,22 +60,11 @@ fn plan_reg(alloc: Global, text: &[u8]) -> Result<Plan, Fault>
     }
 }
 
-/// The text of the expression over the header's sets.
-fn plan_regex(alloc: Global, header: &Header, body: &[u8]) -> Result<Vec<u8>, Fault>
-    requires sets { AreTrackSets (sets_of header.now) }
-    requires alphabet { IsAlphabet (sizes_of (sets_of header.now)) }
-    ensures { PlansRegex (sets_of header.now) body.now result }
+/// The fault of the first of these systems, of which none is known.
+fn unknown_system(names: Vec<Name>) -> Fault
+    requires { 0 < length names.items }
+    ensures { result ≡ Fault.SystemUnknown (slice_index_or names.items 0 []) }
 {
-    let regex = match parse(alloc, body, header) {
-        Ok(regex) => regex,
-        Err(RegexFault::Syntax(at)) => return Err(Fault::Syntax(Part::Regex, at)),
-        Err(RegexFault::Number(at)) => return Err(Fault::Number(Part::Regex, at)),
-        Err(RegexFault::Memory) => return Err(Fault::Memory),
-    };
-    let nfa = positions(alloc, &regex)?;
-    let stored = print_listed(alloc, header, &nfa)?;
-    if stored.len() > TEXT_LIMIT {
-        return Err(Fault::Long(TEXT_LIMIT));
-    }
-    Ok(stored)
+    let mut names = names;
+    Fault::SystemUnknown(names.swap_remove(0))
 }

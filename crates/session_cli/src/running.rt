@@ -2,23 +2,25 @@ ghost use Rattle.session_cli.specs.Views.{SourceView, SinkView, StoreView};
 ghost use Rattle.session_cli.specs.Whole.{HasRun};
 ghost use Rattle.session_cli.specs.Ending.{Finishes};
 
-use crate::answering::{answer_command, hand_over, stop_status};
+use crate::answering::{answer_command, hand_over_fault, stop_status};
 use crate::fault::{Fault, Part};
 use crate::planning::COMMAND_LIMIT;
+use crate::session::Session;
 use crate::status::Status;
 use crate::tally::Tally;
 use script_cut::{Cut, CutFault, Cutter};
 use std::alloc::Global;
 use wal_outside::{Sink, Source, Store};
 
-/// Answers the commands of a script one after another, each as its terminator comes, and hands over their lines.
+/// Answers the commands of a script one after another, each as its terminator comes, and hands over what they print.
 pub(crate) fn answer_all<S: Source, K: Sink, T: Store>(
     alloc: Global,
+    session: &mut Session,
     script: &mut S,
     out: &mut K,
     store: &mut T,
 ) -> Status
-    ensures { HasRun
+    ensures { HasRun session.old.limit
         (record { left = S.left script.old; faults = S.faults script.old })
         (record { left = S.left script.new; faults = S.faults script.new })
         (record { files = T.files store.old; faults = T.faults store.old; failed = T.failed store.old })
@@ -30,15 +32,15 @@ pub(crate) fn answer_all<S: Source, K: Sink, T: Store>(
     let mut cutter = Cutter::new(alloc);
     'items: loop {
         match cutter.cut(script) {
-            Ok(Cut::Command(text, _shown, line)) => {
-                match answer_command(alloc, &text, line, out, store, &mut tally) {
+            Ok(Cut::Command(text, shown, line)) => {
+                match answer_command(alloc, session, &text, shown, line, out, store, &mut tally) {
                     Ok(()) => {}
                     Err(fault) => return stop_status(fault),
                 }
             }
             Ok(Cut::End) => return tally.status(),
             Err(CutFault::Long(line)) => {
-                match hand_over(out, line, &Err(Fault::Long(COMMAND_LIMIT)), &mut tally) {
+                match hand_over_fault(out, line, &Fault::Long(COMMAND_LIMIT), &mut tally) {
                     Ok(()) => {}
                     Err(fault) => return stop_status(fault),
                 }
@@ -61,7 +63,7 @@ fn finish<K: Sink>(out: &mut K, line: u64, fault: Fault, tally: Tally) -> Status
         line fault tally (record { held = K.held out.new; faults = K.faults out.new }) result }
 {
     let mut tally = tally;
-    match hand_over(out, line, &Err(fault), &mut tally) {
+    match hand_over_fault(out, line, &fault, &mut tally) {
         Ok(()) => tally.status(),
         Err(stop) => stop_status(stop),
     }

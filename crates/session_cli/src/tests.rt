@@ -1,5 +1,5 @@
-// One script, whole.
-use crate::{Status, run};
+// One script, whole, and one command.
+use crate::{Answer, Session, Status, run};
 use std::test::Fail;
 use wal_outside::{Folder, MemSink, MemSource, MemStore};
 
@@ -23,5 +23,24 @@ fn a_script_is_answered_in_order(rt: HostRuntime) -> Result<(), Fail> {
     let stored = b"{0,1}\n\n0 0\n1 -> 1\n\n1 1\n";
     assert_eq!(rt; store.text(Folder::Automata, "ab"), Some(stored.as_slice()));
     assert_eq!(rt; store.len(), 1);
+    Ok(())
+}
+
+// A command that is accepted, with the line of its step, and one that is refused.
+#[test]
+fn a_command_is_answered(rt: HostRuntime) -> Result<(), Fail> {
+    let alloc = rt.alloc();
+    let mut session = Session::new(16);
+    let mut store = MemStore::new(alloc, Vec::new(alloc));
+    let mut answer = Answer::new(alloc);
+    let text = b"reg ab {0,1} \"0*1\"";
+    let accepted = session.command(alloc, text, true, &mut store, &mut answer);
+    assert!(rt; accepted.is_ok());
+    assert_eq!(rt; answer.bytes(), b"step 1 regex 4 2\n".as_slice());
+    let stored = b"{0,1}\n\n0 0\n0 -> 0\n1 -> 1\n\n1 1\n";
+    assert_eq!(rt; store.text(Folder::Automata, "ab"), Some(stored.as_slice()));
+    let refused = session.command(alloc, b"prove a", true, &mut store, &mut answer);
+    assert!(rt; refused.is_err());
+    assert!(rt; answer.bytes().is_empty());
     Ok(())
 }

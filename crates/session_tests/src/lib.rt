@@ -10,6 +10,10 @@ mod whole;
 #[cfg(test)]
 mod rows;
 
+// words of the command line
+#[cfg(test)]
+mod words;
+
 // scripts in pieces, and calls of the outside that fail
 #[cfg(test)]
 mod failures;

@@ -47,7 +47,7 @@ fn a_run_goes_on_behind_a_long_command(rt: HostRuntime) -> Result<(), Fail> {
     let left = run_script(rt.alloc(), &script, &SURE)?;
     assert_eq!(rt;
         left.out.held(),
-        b"error 1: F07 Long 65536\nerror 2: F01 Command\n".as_slice()
+        b"error 1: F07 Long 65536\nerror 2: F01 Command\nstep 1 regex 3 2\n".as_slice()
     );
     assert_eq!(rt; left.store.len(), 1);
     Ok(())
@@ -81,18 +81,46 @@ fn a_script_has_at_most_16777216_bytes(rt: HostRuntime) -> Result<(), Fail> {
     Ok(())
 }
 
-// Three thousand letters that may all be left out lead to more edges than a stored text may list.
+// Two letters of sixteen tracks: two states with a line of 198 bytes for each of 65,536 letters.
 #[test]
 fn a_stored_text_has_at_most_16777216_bytes(rt: HostRuntime) -> Result<(), Fail> {
     let alloc = rt.alloc();
-    let mut script = Vec::from_slice(alloc, b"reg p {0} \"")?;
-    for _ in 0..3_000 {
-        script.extend_from_slice(b"0*")?;
+    let mut script = Vec::from_slice(alloc, b"reg p ")?;
+    for _ in 0..16 {
+        script.extend_from_slice(b"{-2147483648,-2147483647}")?;
     }
-    script.extend_from_slice(b"\";")?;
+    script.extend_from_slice(b" \"..\":")?;
     let left = run_script(alloc, &script, &SURE)?;
     assert_eq!(rt; left.out.held(), b"error 1: F07 Long 16777216\n".as_slice());
     assert_eq!(rt; left.status, Status::Refused);
     assert_eq!(rt; left.store.len(), 0);
+    Ok(())
+}
+
+/// A `reg` of a digit within so many parentheses.
+fn nested(alloc: Global, depth: usize) -> Result<Vec<u8>, AllocError> {
+    let mut script = Vec::from_slice(alloc, b"reg p {0} \"")?;
+    for _ in 0..depth {
+        script.push(b'(')?;
+    }
+    script.push(b'0')?;
+    for _ in 0..depth {
+        script.push(b')')?;
+    }
+    script.extend_from_slice(b"\";")?;
+    Ok(script)
+}
+
+#[test]
+fn an_expression_has_at_most_128_parentheses_in_one_another(rt: HostRuntime) -> Result<(), Fail> {
+    let most = run_script(rt.alloc(), &nested(rt.alloc(), 128)?, &SURE)?;
+    assert_eq!(rt; most.status, Status::Done);
+    assert_eq!(rt; most.store.len(), 1);
+    let more = run_script(rt.alloc(), &nested(rt.alloc(), 129)?, &SURE)?;
+    assert_eq!(rt;
+        more.out.held(),
+        b"error 1: F06 Depth in regex at 128\n".as_slice()
+    );
+    assert_eq!(rt; more.store.len(), 0);
     Ok(())
 }

@@ -2,6 +2,7 @@
 
 use crate::whole::{Left, SURE, expect_stored, run_script};
 use session_cli::Status;
+use std::alloc::Global;
 use std::process::Abort;
 use std::test::Fail;
 use wal_outside::Folder;
@@ -14,13 +15,13 @@ pub struct Row {
     pub text: &'static str,
 }
 
-pub static ROWS: [Row; 61] = [
+pub static ROWS: [Row; 81] = [
     Row {
         script: "reg ab {0,1} \"0*1\";",
         printed: "",
         code: 0,
         name: "ab",
-        text: "{0,1}\n\n0 0\n0 -> 1\n1 -> 2\n\n1 0\n0 -> 1\n1 -> 2\n\n2 1\n",
+        text: "{0,1}\n\n0 0\n0 -> 0\n1 -> 1\n\n1 1\n",
     },
     Row {
         script: "reg a {0,1} \"02\";",
@@ -62,7 +63,7 @@ pub static ROWS: [Row; 61] = [
         printed: "",
         code: 0,
         name: "ab",
-        text: "{0,1}\n\n0 0\n0 -> 1\n1 -> 2\n\n1 0\n0 -> 1\n1 -> 2\n\n2 1\n",
+        text: "{0,1}\n\n0 0\n0 -> 0\n1 -> 1\n\n1 1\n",
     },
     Row {
         script: "reg\tab{0}\"0\";",
@@ -76,21 +77,21 @@ pub static ROWS: [Row; 61] = [
         printed: "",
         code: 0,
         name: "ab",
-        text: "{-2147483648,0,2147483647}\n\n0 0\n0 -> 1 2\n\n1 0\n0 -> 1 2\n\n2 1\n",
+        text: "{-2147483648,0,2147483647}\n\n0 0\n0 -> 1\n\n1 1\n0 -> 1\n",
     },
     Row {
         script: "reg a {0,1} \"0\";reg a {0,1} \"1*\";",
         printed: "",
         code: 0,
         name: "a",
-        text: "{0,1}\n\n0 1\n1 -> 1\n\n1 1\n1 -> 1\n",
+        text: "{0,1}\n\n0 1\n1 -> 0\n",
     },
     Row {
         script: "reg a {0,1} \"0*1*0*\";reg b {3} \"3**\";",
         printed: "",
         code: 0,
         name: "a",
-        text: "{0,1}\n\n0 1\n0 -> 1 3\n1 -> 2\n\n1 1\n0 -> 1 3\n1 -> 2\n\n2 1\n0 -> 3\n1 -> 2\n\n3 1\n0 -> 3\n",
+        text: "{0,1}\n\n0 1\n0 -> 0\n1 -> 1\n\n1 1\n0 -> 2\n1 -> 1\n\n2 1\n0 -> 2\n",
     },
     Row {
         script: "prove a;reg b {7} \"7\";",
@@ -150,10 +151,10 @@ pub static ROWS: [Row; 61] = [
     },
     Row {
         script: "reg a {0} \"0|0\";",
-        printed: "error 1: F02 Syntax in regex at 1\n",
-        code: 1,
-        name: "",
-        text: "",
+        printed: "",
+        code: 0,
+        name: "a",
+        text: "{0}\n\n0 0\n0 -> 1\n\n1 1\n",
     },
     Row {
         script: "reg a {10} \"1\";",
@@ -283,14 +284,14 @@ pub static ROWS: [Row; 61] = [
     },
     Row {
         script: "reg a msd_2 \"0\";",
-        printed: "error 1: F02 Syntax in command at 6\n",
+        printed: "error 1: F14 SystemUnknown msd_2\n",
         code: 1,
         name: "",
         text: "",
     },
     Row {
         script: "reg a {0} {1} \"0\";",
-        printed: "error 1: F02 Syntax in command at 10\n",
+        printed: "error 1: F02 Syntax in regex at 0\n",
         code: 1,
         name: "",
         text: "",
@@ -339,28 +340,28 @@ pub static ROWS: [Row; 61] = [
     },
     Row {
         script: "reg a {0} \"0\":",
-        printed: "",
+        printed: "step 1 regex 3 2\n",
         code: 0,
         name: "a",
         text: "{0}\n\n0 0\n0 -> 1\n\n1 1\n",
     },
     Row {
         script: "reg a {0} \"0\":;",
-        printed: "",
+        printed: "step 1 regex 3 2\n",
         code: 0,
         name: "a",
         text: "{0}\n\n0 0\n0 -> 1\n\n1 1\n",
     },
     Row {
         script: "reg a {0} \"0\"::",
-        printed: "",
+        printed: "step 1 regex 3 2\n",
         code: 0,
         name: "a",
         text: "{0}\n\n0 0\n0 -> 1\n\n1 1\n",
     },
     Row {
         script: "reg a {0} \"0\" ::: # ;\n",
-        printed: "",
+        printed: "step 1 regex 3 2\n",
         code: 0,
         name: "a",
         text: "{0}\n\n0 0\n0 -> 1\n\n1 1\n",
@@ -442,6 +443,146 @@ pub static ROWS: [Row; 61] = [
         name: "",
         text: "",
     },
+    Row {
+        script: "reg ab {0,1} \"0*1\":",
+        printed: "step 1 regex 4 2\n",
+        code: 0,
+        name: "ab",
+        text: "{0,1}\n\n0 0\n0 -> 0\n1 -> 1\n\n1 1\n",
+    },
+    Row {
+        script: "reg ab {0,1} \"0*1\"::",
+        printed: "step 1 regex 4 2\n",
+        code: 0,
+        name: "ab",
+        text: "{0,1}\n\n0 0\n0 -> 0\n1 -> 1\n\n1 1\n",
+    },
+    Row {
+        script: "reg d {0,1} {0,1} \"[1,1]*\";",
+        printed: "",
+        code: 0,
+        name: "d",
+        text: "{0,1} {0,1}\n\n0 1\n1 1 -> 0\n",
+    },
+    Row {
+        script: "reg d {0,1} {-1,2} \"[0,-1].[1,2]?\":",
+        printed: "step 1 regex 5 4\n",
+        code: 0,
+        name: "d",
+        text: "{0,1} {-1,2}\n\n0 0\n0 -1 -> 1\n\n1 0\n0 -1 -> 2\n0 2 -> 2\n1 -1 -> 2\n1 2 -> 2\n\n2 1\n1 2 -> 3\n\n3 1\n",
+    },
+    Row {
+        script: "reg t {0,1} {2} {3,4} \"([0,2,3]|[1,2,4])+\";",
+        printed: "",
+        code: 0,
+        name: "t",
+        text: "{0,1} {2} {3,4}\n\n0 0\n0 2 3 -> 1\n1 2 4 -> 1\n\n1 1\n0 2 3 -> 1\n1 2 4 -> 1\n",
+    },
+    Row {
+        script: "reg e {0} \"()\":",
+        printed: "step 1 regex 2 1\n",
+        code: 0,
+        name: "e",
+        text: "{0}\n\n0 1\n",
+    },
+    Row {
+        script: "reg a {0,1} \".\";",
+        printed: "",
+        code: 0,
+        name: "a",
+        text: "{0,1}\n\n0 0\n0 -> 1\n1 -> 1\n\n1 1\n",
+    },
+    Row {
+        script: "reg a {-1,10} \"[-1]|[10]*\";",
+        printed: "",
+        code: 0,
+        name: "a",
+        text: "{-1,10}\n\n0 1\n-1 -> 1\n10 -> 2\n\n1 1\n\n2 1\n10 -> 2\n",
+    },
+    Row {
+        script: "reg a msd_2 \"1\";",
+        printed: "error 1: F14 SystemUnknown msd_2\n",
+        code: 1,
+        name: "",
+        text: "",
+    },
+    Row {
+        script: "reg a lsd_fib msd_2 \"(\";",
+        printed: "error 1: F14 SystemUnknown lsd_fib\n",
+        code: 1,
+        name: "",
+        text: "",
+    },
+    Row {
+        script: "reg a msd_2 {0} \"1\";",
+        printed: "error 1: F02 Syntax in command at 12\n",
+        code: 1,
+        name: "",
+        text: "",
+    },
+    Row {
+        script: "reg t {0} {0} {0} {0} {0} {0} {0} {0} {0} {0} {0} {0} {0} {0} {0} {0} {0} \"()\";",
+        printed: "error 1: F18 Letters step 1\n",
+        code: 1,
+        name: "",
+        text: "",
+    },
+    Row {
+        script: "reg t {0} {0} {0} {0} {0} {0} {0} {0} {0} {0} {0} {0} {0} {0} {0} {0} {0} \"(\";",
+        printed: "error 1: F02 Syntax in regex at 1\n",
+        code: 1,
+        name: "",
+        text: "",
+    },
+    Row {
+        script: "reg a {0,1} {0,1} \"1\";",
+        printed: "error 1: F02 Syntax in regex at 0\n",
+        code: 1,
+        name: "",
+        text: "",
+    },
+    Row {
+        script: "reg a {0,1} \"[0,1]\";",
+        printed: "error 1: F02 Syntax in regex at 2\n",
+        code: 1,
+        name: "",
+        text: "",
+    },
+    Row {
+        script: "reg a {0,1} {0,1} \"[0,2]\";",
+        printed: "error 1: F04 Number in regex at 3\n",
+        code: 1,
+        name: "",
+        text: "",
+    },
+    Row {
+        script: "reg a {0,1} \"(0\";",
+        printed: "error 1: F02 Syntax in regex at 2\n",
+        code: 1,
+        name: "",
+        text: "",
+    },
+    Row {
+        script: "reg a {0,1} \"0|\";",
+        printed: "error 1: F02 Syntax in regex at 2\n",
+        code: 1,
+        name: "",
+        text: "",
+    },
+    Row {
+        script: "reg a {0,1} \"0)\";",
+        printed: "error 1: F02 Syntax in regex at 1\n",
+        code: 1,
+        name: "",
+        text: "",
+    },
+    Row {
+        script: "reg a {0} \"2\":",
+        printed: "error 1: F04 Number in regex at 0\n",
+        code: 1,
+        name: "",
+        text: "",
+    },
 ];
 
 #[test]
@@ -481,4 +622,40 @@ fn each_command_stores_its_text(rt: HostRuntime) -> Result<(), Fail> {
         "b",
         "{0}\n\n0 0\n0 -> 1\n\n1 0\n0 -> 2\n\n2 1\n",
     )
+}
+
+/// Expressions over {0,1} that match the same words.
+static PAIRS: [(&str, &str); 10] = [
+    ("(0|1)*", ".*"),
+    ("0*1|1", "0*1"),
+    ("(01)*0", "0(10)*"),
+    ("0?", "()|0"),
+    ("0+", "00*"),
+    ("(0*)*", "0*"),
+    ("(0*1*)*", "(0|1)*"),
+    ("1(0|1)", "10|11"),
+    ("((0))?*", "0*"),
+    ("(0+1+)+", "0(0|1)*1"),
+];
+
+/// The text that is stored of an expression over {0,1}.
+fn stored_of(alloc: Global, expression: &str) -> Result<Vec<u8>, Fail> {
+    let script = format!(in alloc; "reg a {{0,1}} \"{expression}\";")?;
+    let left = run_script(alloc, script.as_bytes(), &SURE)?;
+    let stored = left.store.text(Folder::Automata, "a").ok_or("not stored")?;
+    Ok(Vec::from_slice(alloc, stored)?)
+}
+
+#[test]
+fn one_language_has_one_text(rt: HostRuntime) -> Result<(), Fail> {
+    for (first, second) in &PAIRS {
+        let one = stored_of(rt.alloc(), first)?;
+        let other = stored_of(rt.alloc(), second)?;
+        assert_eq!(rt;
+            one.as_slice(),
+            other.as_slice(),
+            "the texts of {first} and {second}"
+        );
+    }
+    Ok(())
 }

@@ -34,8 +34,18 @@ pub struct Left {
     pub store: MemStore,
 }
 
-/// Runs a script.
+/// Runs a script with no words but the program's name.
 pub fn run_script(alloc: Global, script: &[u8], outside: &Outside) -> Result<Left, AllocError> {
+    run_words(alloc, &["walnut"], script, outside)
+}
+
+/// Runs a script with these words of the command line.
+pub fn run_words(
+    alloc: Global,
+    texts: &[&str],
+    script: &[u8],
+    outside: &Outside,
+) -> Result<Left, AllocError> {
     let bytes = Vec::from_slice(alloc, script)?;
     let mut source = MemSource::new(
         bytes,
@@ -49,7 +59,9 @@ pub fn run_script(alloc: Global, script: &[u8], outside: &Outside) -> Result<Lef
     );
     let mut store = MemStore::new(alloc, Vec::from_slice(alloc, outside.failing_store)?);
     let mut words = Vec::new(alloc);
-    words.push(String::from_str(alloc, "walnut")?)?;
+    for text in texts {
+        words.push(String::from_str(alloc, text)?)?;
+    }
     let status = run(alloc, &words, &mut source, &mut out, &mut store);
     Ok(Left { status, out, store })
 }

@@ -1,15 +1,57 @@
-use Rattle.std.proofs.Common.{◌<◌, length, arith}
-use Rattle.command_head.proofs.HeadShape.{members-fewer}
+use Rattle.std.proofs.Common.{ℕ, List, sym, length, Result, Ok, Err, IfOk, subst}
+use Rattle.std.proofs.lemmas.Result.{err_from_is_err_and}
+use Rattle.command_head.specs.declared.fault.HeadFault.{HeadFault}
+use Rattle.command_head.specs.declared.head.RegParts.{RegParts}
+use Rattle.command_head.specs.Readings.{Reads, placed}
+use Rattle.command_head.specs.Heads.{AtWord, step, reg_at}
+use Rattle.command_head.specs.HeadViews.{tracks_of, head_view, stage_view}
+use Rattle.command_head.specs.Formed.{AreFormed}
+use Rattle.command_head.proofs.ReadingSteps.{Fails-handed_on}
+use Rattle.command_head.proofs.HeadShape.{reg_formed, reg_refused, left_first, left_more, left_refused, left_none, few_open}
 use Rattle.command_head.proofs.heading.reg_parts.Goals as goal
 
-pub header_of-requires-clause-small : goal.header_of-requires-clause-small
-header_of-requires-clause-small c =
-    let few : length c.in_ok-members.members.items < length c.args.text.now =
-    members-fewer _ _ _ _ _ _ _ _ c.in_ok-rest.ensures (rw c.behind_blanks.ensures at c.in_ok-name.ensures.name) (rw c.behind_blanks-2.ensures at c.in_ok-members.ensures.set) in
-    omega arith
+pub returns-in_err-stage-clause-read : goal.returns-in_err-stage-clause-read
+returns-in_err-stage-clause-read c =
+    let p = err_from_is_err_and c.from_residual.result c.from_residual.ensures.1 in
+    rw (p.1, p.2)
+    (Fails-handed_on _ (placed 0 (step AtWord c.split_at.result.0.now)) (reg_at c.args.text.now)
+    (λ e h. reg_refused c.args.text.now e (rw (← c.front_len.ensures.len, ← c.split_at.ensures.front) h)) c.in_err-stage.ensures)
 
-pub returns-clause-few : goal.returns-clause-few
-returns-clause-few c =
-    let few : length c.in_ok-members.members.items < length c.args.text.now =
-    members-fewer _ _ _ _ _ _ _ _ c.in_ok-rest.ensures (rw c.behind_blanks.ensures at c.in_ok-name.ensures.name) (rw c.behind_blanks-2.ensures at c.in_ok-members.ensures.set) in
-    rw c.in_ok-header_of.ensures (few, tt)
+pub parts-init : goal.parts-init
+parts-init c = left_first c.args.text.now _ _ _ c.front_len.result _ c.front_len.ensures.len c.split_at.ensures.front c.split_at.ensures.back c.behind_blanks-rest.ensures c.in_ok-stage.ensures
+
+pub step-requires-in-parts : goal.step-requires-in-parts
+step-requires-in-parts c = few_open c.args.text.now (stage_view c.parts.stage) c.parts.rest.now c.requires c.parts.invariant
+
+pub returns-in_err-stage-2-clause-read : goal.returns-in_err-stage-2-clause-read
+returns-in_err-stage-2-clause-read c =
+    let p = err_from_is_err_and c.from_residual-in_err-stage-2.result c.from_residual-in_err-stage-2.ensures.1 in
+    rw (p.1, p.2)
+    (Fails-handed_on _ (placed c.place-at.result (step (stage_view c.parts.stage) c.split_at-in-parts.result.0.now)) (reg_at c.args.text.now)
+    (λ e h. left_refused c.args.text.now (stage_view c.parts.stage) c.parts.rest.now _ c.place-at.result c.part_len.result c.is_empty.result c.parts.invariant c.is_empty.ensures c.parts-test.true c.place-at.ensures c.part_len.ensures.len c.split_at-in-parts.ensures.front e h)
+    c.in_err-stage-2.ensures)
+
+pub parts-smaller : goal.parts-smaller
+parts-smaller c =
+    (left_more c.args.text.now (stage_view c.parts.stage) _ c.parts.rest.now _ _ _ c.place-at.result c.part_len.result c.is_empty.result c.parts.invariant c.is_empty.ensures c.parts-test.true c.place-at.ensures c.part_len.ensures.len
+    c.split_at-in-parts.ensures.front c.split_at-in-parts.ensures.back c.behind_blanks-rest-in-parts.ensures c.in_ok-stage-2.ensures).shorter
+
+pub parts-preserved : goal.parts-preserved
+parts-preserved c =
+    (left_more c.args.text.now (stage_view c.parts.stage) _ c.parts.rest.now _ _ _ c.place-at.result c.part_len.result c.is_empty.result c.parts.invariant c.is_empty.ensures c.parts-test.true c.place-at.ensures c.part_len.ensures.len
+    c.split_at-in-parts.ensures.front c.split_at-in-parts.ensures.back c.behind_blanks-rest-in-parts.ensures c.in_ok-stage-2.ensures).left
+
+pub returns-clause-read : goal.returns-clause-read
+returns-clause-read c =
+    let same = left_none c.args.text.now (stage_view c.parts.stage) c.parts.rest.now c.is_empty.result c.parts.invariant c.is_empty.ensures c.parts-test.false in
+    subst (Reads head_view c.end.result) (sym same) c.end.ensures
+
+-- what is read gives tracks that are well formed
+formed : (result : Result RegParts HeadFault) (text : List ℕ) → Reads head_view result (reg_at text) → IfOk result (λ parts. AreFormed (length text) (tracks_of parts.alphabets))
+formed (Ok parts) text h = reg_formed text (head_view parts) h
+formed (Err e) text h = tt
+
+pub returns-clause-formed : goal.returns-clause-formed
+returns-clause-formed c =
+    let same = left_none c.args.text.now (stage_view c.parts.stage) c.parts.rest.now c.is_empty.result c.parts.invariant c.is_empty.ensures c.parts-test.false in
+    formed c.end.result c.args.text.now (subst (Reads head_view c.end.result) (sym same) c.end.ensures)

@@ -1,4 +1,4 @@
-use Rattle.std.proofs.Common.{◌≡◌, ◌<◌, ◌≤◌, ◌++◌, ◌∷◌, take, drop, set, length, get_or, sym, ap, ◌∙◌, subst, arith, List}
+use Rattle.std.proofs.Common.{◌≡◌, ◌<◌, ◌≤◌, set, length, get_or, sym, ap, ◌∙◌, subst, arith, List}
 use Rattle.std.proofs.lemmas.List.{get_or_default}
 use Rattle.std.specs.List.{AllWithin}
 use Rattle.digit_tuple.specs.declared.edges.Edge.{Edge}

@@ -1,4 +1,4 @@
-use Rattle.std.proofs.Common.{◌≡◌, ℕ, List, sym, ap, ◌∙◌, subst}
+use Rattle.std.proofs.Common.{◌∙◌}
 use Rattle.minimise.proofs.QuotientLemmas.{IsQuotient-read, SameLanguage-explored, IsCanonical-explored}
 use Rattle.minimise.proofs.canonical.canonical.Goals as goal
 

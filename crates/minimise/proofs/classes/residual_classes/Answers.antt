@@ -1,24 +1,30 @@
-use Rattle.std.proofs.Common.{◌≡◌, ℕ, List, sym, subst, arith}
+use Rattle.std.proofs.Common.{ℕ, List, subst, arith}
 use Rattle.minimise.specs.Refinement.{AreRefined}
 use Rattle.minimise.proofs.ResidualLemmas.{AreCoarse-refined, AreResiduals-done, count_grows}
 use Rattle.minimise.proofs.classes.residual_classes.Goals as goal
 
+pub refine-init : goal.refine-init
+refine-init c =
+    let d = c.args.dfa.now in
+    let refined = subst (λ (cs : List ℕ). AreRefined d cs c.in_ok-first.first.numbers.items c.in_ok-first.first.count) c.deref.ensures.value c.in_ok-first.ensures in
+    AreCoarse-refined d c.in_ok-start.ensures.table c.in_ok-start.start.items c.in_ok-first.first.numbers.items c.in_ok-first.first.count c.in_ok-start.ensures.coarse refined
+
 pub returns-then-next-count-clause-residuals : goal.returns-then-next-count-clause-residuals
 returns-then-next-count-clause-residuals c =
     let d = c.args.dfa.now in
-    let refined = subst (λ (cs : List ℕ). AreRefined d cs c.in_ok-next.next.numbers.items c.in_ok-next.next.count) c.deref.ensures.value c.in_ok-next.ensures in
-    AreResiduals-done d c.states.ensures.table c.refine.classes.items c.in_ok-next.next.numbers.items c.refine.count c.in_ok-next.next.count c.refine.invariant refined c.if-next-count.true
+    let refined = subst (λ (cs : List ℕ). AreRefined d cs c.in_ok-next.next.numbers.items c.in_ok-next.next.count) c.deref-in-refine.ensures.value c.in_ok-next.ensures in
+    AreResiduals-done d c.in_ok-start.ensures.table c.refine.classes.items c.in_ok-next.next.numbers.items c.refine.count c.in_ok-next.next.count c.refine.invariant refined c.if-next-count.true
 
 pub refine-smaller : goal.refine-smaller
 refine-smaller c =
     let d = c.args.dfa.now in
-    let refined = subst (λ (cs : List ℕ). AreRefined d cs c.in_ok-next.next.numbers.items c.in_ok-next.next.count) c.deref.ensures.value c.in_ok-next.ensures in
-    let grows = count_grows d c.states.ensures.table c.refine.classes.items c.in_ok-next.next.numbers.items c.refine.count c.in_ok-next.next.count c.refine.invariant refined in
+    let refined = subst (λ (cs : List ℕ). AreRefined d cs c.in_ok-next.next.numbers.items c.in_ok-next.next.count) c.deref-in-refine.ensures.value c.in_ok-next.ensures in
+    let grows = count_grows d c.in_ok-start.ensures.table c.refine.classes.items c.in_ok-next.next.numbers.items c.refine.count c.in_ok-next.next.count c.refine.invariant refined in
     let most = refined.counted.small in
     omega arith
 
 pub refine-preserved : goal.refine-preserved
 refine-preserved c =
     let d = c.args.dfa.now in
-    let refined = subst (λ (cs : List ℕ). AreRefined d cs c.in_ok-next.next.numbers.items c.in_ok-next.next.count) c.deref.ensures.value c.in_ok-next.ensures in
-    AreCoarse-refined d c.states.ensures.table c.refine.classes.items c.in_ok-next.next.numbers.items c.refine.count c.in_ok-next.next.count c.refine.invariant refined
+    let refined = subst (λ (cs : List ℕ). AreRefined d cs c.in_ok-next.next.numbers.items c.in_ok-next.next.count) c.deref-in-refine.ensures.value c.in_ok-next.ensures in
+    AreCoarse-refined d c.in_ok-start.ensures.table c.refine.classes.items c.in_ok-next.next.numbers.items c.in_ok-next.next.count c.refine.invariant.coarse refined

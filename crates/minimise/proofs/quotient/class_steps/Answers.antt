@@ -1,4 +1,4 @@
-use Rattle.std.proofs.Common.{◌≡◌, ◌+◌, ℕ, List, get_or, map, take, refl, sym, ap, ◌∙◌, arith}
+use Rattle.std.proofs.Common.{get_or, refl, ap, ◌∙◌, arith}
 use Rattle.digit_tuple.specs.declared.edges.Edge.{Edge}
 use Rattle.explore.specs.Steps.{steps_in}
 use Rattle.minimise.proofs.QuotientLemmas.{steps_in-dead, steps_in-live}

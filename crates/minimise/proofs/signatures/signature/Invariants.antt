@@ -1,5 +1,5 @@
 use Rattle.std.proofs.Common.{◌≡◌, ◌∷◌, take}
-use Rattle.digit_tuple.specs.Deterministic.{accepting_of, edges_of}
+use Rattle.digit_tuple.specs.Deterministic.{accepting_of}
 use Rattle.minimise.specs.Classes.{class_of}
 use Rattle.minimise.specs.Signatures.{class_edges, numbers_in, bit_of}
 use Rattle.minimise.proofs.signatures.signature.Given as goal

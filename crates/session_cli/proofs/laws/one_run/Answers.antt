@@ -1,5 +1,5 @@
-use Rattle.session_cli.proofs.OneRuns.{runs_alike}
+use Rattle.session_cli.proofs.OneRuns.{calls_alike}
 use Rattle.session_cli.proofs.laws.one_run.Goals as goal
 
 pub returns : goal.returns
-returns c = runs_alike
+returns c = calls_alike

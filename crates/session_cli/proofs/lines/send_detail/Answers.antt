@@ -11,3 +11,12 @@ returns-in-Memory-clause-sent g c = rw c.in-Memory.is c.send-in-Memory.ensures.s
 
 pub returns-in-ScriptLimit-clause-sent : goal.returns-in-ScriptLimit-clause-sent
 returns-in-ScriptLimit-clause-sent g c = rw c.in-ScriptLimit.is c.send-in-ScriptLimit.ensures.sent
+
+pub returns-in-Depth-clause-sent : goal.returns-in-Depth-clause-sent
+returns-in-Depth-clause-sent g c = rw c.in-Depth.is c.send_place-in-Depth.ensures.sent
+
+pub returns-in-SystemUnknown-clause-sent : goal.returns-in-SystemUnknown-clause-sent
+returns-in-SystemUnknown-clause-sent g c = rw (c.in-SystemUnknown.is) (rw c.as_bytes.ensures at c.send_two.ensures.sent)
+
+pub returns-in-States-clause-sent : goal.returns-in-States-clause-sent
+returns-in-States-clause-sent g c = rw c.in-States.is c.send_number-in-States.ensures.sent

@@ -1,25 +1,24 @@
-use Rattle.std.proofs.Common.{length, arith}
-use Rattle.digit_tuple.specs.Headers.{sets_of}
+use Rattle.std.proofs.Common.{◌≡◌, rules, Ok, ap, ◌∙◌}
+use Rattle.command_head.specs.declared.head.Alphabets.{Alphabets}
+use Rattle.command_head.specs.declared.head.Alphabets.TheVariants as alphabets
 use Rattle.command_head.specs.Heads.{RegHead}
-use Rattle.command_head.specs.HeadViews.{head_view}
-use Rattle.session_cli.specs.Outcomes.{IsReg}
-use Rattle.session_cli.proofs.PlanSteps.{head_tracks, head_alphabet, reg_plan, reg_refused}
+use Rattle.command_head.specs.HeadViews.{tracks_of, head_view}
+use Rattle.session_cli.specs.Outcomes.{IsReg, over_sets}
+use Rattle.session_cli.proofs.PlanSteps.{reg_plan, reg_refused}
 use Rattle.session_cli.proofs.planning.plan_reg.Goals as goal
 
-pub plan_regex-requires-clause-sets : goal.plan_regex-requires-clause-sets
-plan_regex-requires-clause-sets c = head_tracks c.args.text.now (head_view c.in-Ok.field-0) c.in-Ok.ensures.read
-
-pub plan_regex-requires-clause-alphabet : goal.plan_regex-requires-clause-alphabet
-plan_regex-requires-clause-alphabet c = head_alphabet (sets_of c.in-Ok.field-0.header) (length c.args.text.now) c.in-Ok.ensures.one_track c.in-Ok.ensures.few (omega arith)
-
-pub returns-in-Ok-plan_regex : goal.returns-in-Ok-plan_regex
-returns-in-Ok-plan_regex c =
-    let head : RegHead = head_view c.in-Ok.field-0 in
-    let reg : IsReg c.args.text.now head = record { short = c.requires.short; word = c.requires.word; parts = c.in-Ok.ensures.read } in
-    reg_plan c.args.text.now head c.in-Ok-plan_regex.stored.items reg c.in-Ok-plan_regex.ensures.0 c.in-Ok-plan_regex.ensures.1
+pub returns-in-Ok-regex_over : goal.returns-in-Ok-regex_over
+returns-in-Ok-regex_over c =
+    let over : c.in-Ok.field-0.alphabets ≡ alphabets.Sets c.in-Sets.sets = search rules in
+    let head : head_view c.in-Ok.field-0 ≡ over_sets c.in-Ok.field-0.name c.in-Sets.sets c.in-Ok.field-0.body.now =
+    ap (λ (a : Alphabets). let h : RegHead = record { name = c.in-Ok.field-0.name; tracks = tracks_of a; body = c.in-Ok.field-0.body.now } in h) over in
+    let reg : IsReg c.args.text.now (Ok (over_sets c.in-Ok.field-0.name c.in-Sets.sets c.in-Ok.field-0.body.now)) = record { short = c.requires.short; word = c.requires.word; parts = c.in-Ok.ensures.read ∙ ap Ok head } in
+    reg_plan c.args.limit c.args.text.now c.args.shown c.in-Ok.field-0.name c.in-Sets.sets c.in-Ok.field-0.body.now c.in-Ok-regex_over.made.stored.items c.in-Ok-regex_over.made.answer reg c.in-Ok-regex_over.ensures.0 c.in-Ok-regex_over.ensures.1
 
 pub returns-in-Err : goal.returns-in-Err
 returns-in-Err c =
-    let head : RegHead = head_view c.in-Ok.field-0 in
-    let reg : IsReg c.args.text.now head = record { short = c.requires.short; word = c.requires.word; parts = c.in-Ok.ensures.read } in
-    reg_refused c.args.text.now head c.in-Err.fault reg c.in-Err.ensures
+    let over : c.in-Ok.field-0.alphabets ≡ alphabets.Sets c.in-Sets.sets = search rules in
+    let head : head_view c.in-Ok.field-0 ≡ over_sets c.in-Ok.field-0.name c.in-Sets.sets c.in-Ok.field-0.body.now =
+    ap (λ (a : Alphabets). let h : RegHead = record { name = c.in-Ok.field-0.name; tracks = tracks_of a; body = c.in-Ok.field-0.body.now } in h) over in
+    let reg : IsReg c.args.text.now (Ok (over_sets c.in-Ok.field-0.name c.in-Sets.sets c.in-Ok.field-0.body.now)) = record { short = c.requires.short; word = c.requires.word; parts = c.in-Ok.ensures.read ∙ ap Ok head } in
+    reg_refused c.args.limit c.args.text.now c.args.shown c.in-Ok.field-0.name c.in-Sets.sets c.in-Ok.field-0.body.now c.in-Err.fault reg c.in-Err.ensures

@@ -1,7 +1,7 @@
-use Rattle.std.proofs.Common.{◌≡◌, ◌+◌, ◌<◌, ◌^◌, length, [], ◌∷◌, ◌++◌, List, sym, ap, ◌∙◌, subst, arith}
+use Rattle.std.proofs.Common.{◌≡◌, [], ◌∷◌, ◌++◌, List, sym, ap, ◌∙◌, subst, arith}
 use Rattle.std.proofs.lemmas.List.{map-append, length-map}
 use Rattle.digit_tuple.specs.declared.edges.Edge.{Edge}
-use Rattle.digit_tuple.specs.Deterministic.{IsPartTable, State}
+use Rattle.digit_tuple.specs.Deterministic.{IsPartTable}
 use Rattle.digit_tuple.specs.DfaRows.{state_in, states_in}
 use Rattle.digit_tuple.specs.Letters.{product}
 use Rattle.digit_tuple.proofs.BuilderLemmas.{IsPartTable-push}

@@ -1,10 +1,10 @@
-use Rattle.std.proofs.Common.{◌≡◌, ◌<◌, set, length, get_or, refl, sym, ap, ◌∙◌, subst, arith, List, OnOk, OnErr}
+use Rattle.std.proofs.Common.{◌≡◌, ◌<◌, set, length, get_or, sym, ap, ◌∙◌, subst, List}
 use Rattle.std.specs.List.{AllPairs}
 use Rattle.std.proofs.lemmas.List.{map-set, set-get_or}
 use Rattle.std.proofs.lemmas.Result.{IfOk-weaker, IfErr-weaker}
 use Rattle.digit_tuple.specs.declared.edges.Edge.{Edge}
 use Rattle.digit_tuple.specs.declared.dfa.DfaState.{DfaState}
-use Rattle.digit_tuple.specs.Deterministic.{Automaton, State, IsPartTable, IsSet, IsEdgeSet, KeepsRow, IsByEarlier, no_state, state_of, edges_of, states_of, letters_of}
+use Rattle.digit_tuple.specs.Deterministic.{Automaton, State, IsPartTable, IsSet, IsEdgeSet, KeepsRow, IsByEarlier, no_state, states_of, letters_of}
 use Rattle.digit_tuple.specs.DfaRows.{state_in, states_in}
 use Rattle.digit_tuple.proofs.DfaLemmas.{state_in_row}
 use Rattle.digit_tuple.proofs.BuilderLemmas.{IsSet-state, IsPartTable-state}

@@ -1,11 +1,8 @@
-use Rattle.std.proofs.Common.{List, subst, sym, map}
+use Rattle.std.proofs.Common.{List, subst, sym}
 use Rattle.std.proofs.lemmas.Result.{IfOk-weaker}
-use Rattle.digit_tuple.specs.Deterministic.{letters_of, edges_of}
+use Rattle.digit_tuple.specs.Deterministic.{letters_of}
 use Rattle.explore.specs.Keys.{Step, AreSteps}
-use Rattle.explore.specs.Steps.{steps_in}
-use Rattle.minimise.specs.Classes.{dead_class}
-use Rattle.minimise.specs.Signatures.{class_edges}
-use Rattle.minimise.specs.Quotient.{class_after, step_by, leader_of}
+use Rattle.minimise.specs.Quotient.{class_after}
 use Rattle.minimise.proofs.QuotientLemmas.{AreSteps-class}
 use Rattle.minimise.proofs.quotient.QuotientSource.steps.Goals as goal
 

@@ -1,0 +1,238 @@
+-- The parts of a head, divided by blanks, make a text that has just these parts.
+use Rattle.std.proofs.Common.{◌≡◌, ◌≢◌, ℕ, zero, suc, ◌+◌, ◌≤◌, Bool, true, false, not, cond, ◌==◌, ◌||◌, ◌&&◌, nat_le, List, [], ◌∷◌, ◌++◌, ℤ, length, take, drop, get_or, refl, sym, ◌∙◌, ap, subst, arith, codes, ⊎_elim, length-append}
+use Rattle.std.specs.List.{AllByRecursion}
+use Rattle.std.proofs.lemmas.List.{take_at, drop_at, append_assoc, take-append-drop}
+use Rattle.std.proofs.lemmas.Bool.{ne_eqb, or_from, or_cases, and_parts, lt-leb, leb-true, eqb-true, false≢true}
+use Rattle.text_grammar.specs.declared.class.Class.TheVariants.{Blank, Digit, NameByte, Word, Unquoted}
+use Rattle.text_grammar.specs.Bytes.{is_blank, is_letter, is_digit, is_name_byte}
+use Rattle.text_grammar.specs.Fronts.{is_in, front_len, behind_front}
+use Rattle.command_head.specs.Numbers.{unsigned, all_in, is_number}
+use Rattle.command_head.specs.Parts.{behind_blanks, ending_len, part_len, parts_of_rest, parts_of, texts_of, is_name, is_system, all_alphanumeric}
+use Rattle.command_head.specs.Heads.{Tracks, Sets, Systems, RegHead}
+use Rattle.command_head.specs.Grammar.{SpellsMentions, SpellsSet, SpellSets, SpellTracks, AreUnquoted, quoted, SpellsReg}
+use Rattle.command_head.proofs.FrontSteps.{Stops, front_len-append, front_of-append, behind_front-append}
+use Rattle.command_head.proofs.PartShape.{AllByRecursion-weaker, all-append, all_in-all, letter-high, letter-name_byte, unquoted_in, system_read, direction_is}
+
+-- parts, a blank behind each
+unfoldable join : List (List ℕ) → List ℕ
+join [] = []
+join (part ∷ parts) = part ++ 32 ∷ join parts
+
+-- a part that is one also where a blank stands behind it
+record Stands (part : List ℕ) : Type 0 where
+  first : ℕ
+  others : List ℕ
+  is : part ≡ first ∷ others
+  solid : is_blank first ≡ false
+  len : (rest : List ℕ) → part_len (part ++ 32 ∷ rest) ≡ length part
+
+first_part : (count whole b : ℕ) (bs rest : List ℕ) → part_len (b ∷ (bs ++ rest)) ≡ length (b ∷ bs) →
+    texts_of (parts_of_rest (suc count) whole (b ∷ (bs ++ rest))) ≡ (b ∷ bs) ∷ texts_of (parts_of_rest count whole (behind_blanks rest))
+unfolding parts_of_rest
+first_part count whole b bs rest len =
+    ap (λ (n : ℕ). take n (b ∷ (bs ++ rest)) ∷ texts_of (parts_of_rest count whole (behind_blanks (drop n (b ∷ (bs ++ rest)))))) len
+    ∙ ap (λ (l : List ℕ). l ∷ texts_of (parts_of_rest count whole (behind_blanks (drop (length (b ∷ bs)) (b ∷ (bs ++ rest)))))) (take_at (b ∷ bs) rest (length (b ∷ bs)) refl)
+    ∙ ap (λ (l : List ℕ). (b ∷ bs) ∷ texts_of (parts_of_rest count whole (behind_blanks l))) (drop_at (b ∷ bs) rest (length (b ∷ bs)) refl)
+
+no_part : (count whole : ℕ) → texts_of (parts_of_rest count whole []) ≡ []
+unfolding parts_of_rest
+no_part zero whole = refl
+no_part (suc count) whole = refl
+
+-- behind a blank the parts follow
+solid_join : (parts : List (List ℕ)) → AllByRecursion Stands parts → behind_blanks (32 ∷ join parts) ≡ join parts
+unfolding join
+solid_join [] all = refl
+solid_join (part ∷ parts) all =
+    let s = all.0 in
+    let stops : Stops Blank (part ++ 32 ∷ join parts) = subst (λ (l : List ℕ). Stops Blank (l ++ 32 ∷ join parts)) (sym s.is) s.solid in
+    behind_front-append Blank (32 ∷ []) (part ++ 32 ∷ join parts) (refl, tt) stops
+
+parts_join : (parts : List (List ℕ)) (count whole : ℕ) → AllByRecursion Stands parts → length (join parts) ≤ count → texts_of (parts_of_rest count whole (join parts)) ≡ parts
+unfolding join
+parts_join [] count whole all room = no_part count whole
+parts_join ([] ∷ parts) count whole all room = absurd (none (all.0))
+  where
+    none : Stands [] → ⊥
+    none s = cc s.is
+parts_join ((b ∷ bs) ∷ parts) zero whole all room = absurd (omega arith)
+parts_join ((b ∷ bs) ∷ parts) (suc count) whole all room =
+    let s = all.0 in
+    first_part count whole b bs (32 ∷ join parts) (s.len (join parts))
+    ∙ ap (λ (l : List ℕ). (b ∷ bs) ∷ texts_of (parts_of_rest count whole l)) (solid_join parts all.1)
+    ∙ ap (λ (l : List (List ℕ)). (b ∷ bs) ∷ l) (parts_join parts count whole all.1 (omega (arith, length-append bs (32 ∷ join parts))))
+
+high-blank : (b : ℕ) → 33 ≤ b → is_blank b ≡ false
+high-blank b h = or_from _ _ (or_from _ _ (or_from _ _ (ne_eqb b 32 (λ e. omega arith)) (ne_eqb b 9 (λ e. omega arith))) (ne_eqb b 13 (λ e. omega arith))) (ne_eqb b 10 (λ e. omega arith))
+
+low-letter : (b : ℕ) → b ≤ 64 → is_letter b ≡ false
+low-letter b h = rw (lt-leb 65 b (omega arith), lt-leb 97 b (omega arith)) refl
+
+letter_len : (b : ℕ) (bs : List ℕ) → is_letter b ≡ true → part_len (b ∷ bs) ≡ front_len NameByte (b ∷ bs) + ending_len (behind_front NameByte (b ∷ bs))
+unfolding part_len
+letter_len b bs h = taken (is_letter b) _ _ h
+  where
+    taken : (a : Bool) (x y : ℕ) → a ≡ true → cond a x y ≡ x
+    taken a x y h = rw h refl
+
+-- a letter and bytes of names
+stands_letter : (b : ℕ) (bs : List ℕ) → is_letter b ≡ true → AllByRecursion (λ c. is_in NameByte c ≡ true) (b ∷ bs) → Stands (b ∷ bs)
+stands_letter b bs letter all = record {
+  first = b;
+  others = bs;
+  is = refl;
+  solid = let high = letter-high b letter in high-blank b (omega arith);
+  len = λ rest.
+      letter_len b (bs ++ 32 ∷ rest) letter
+      ∙ ap (λ (l : List ℕ). front_len NameByte (b ∷ (bs ++ 32 ∷ rest)) + ending_len l) (behind_front-append NameByte (b ∷ bs) (32 ∷ rest) all refl)
+      ∙ (let n = front_len-append NameByte (b ∷ bs) (32 ∷ rest) all refl in omega arith);
+}
+
+stands_name : (part : List ℕ) → is_name part ≡ true → Stands part
+stands_name [] h = absurd (false≢true h)
+stands_name (b ∷ bs) h =
+    let p = and_parts (is_letter b) (all_in NameByte (b ∷ bs) && nat_le (length (b ∷ bs)) 64) h in
+    let q = and_parts (all_in NameByte (b ∷ bs)) (nat_le (length (b ∷ bs)) 64) p.1 in
+    stands_letter b bs p.0 (all_in-all NameByte (b ∷ bs) q.0)
+
+digit-name_byte : (b : ℕ) → is_digit b ≡ true → is_name_byte b ≡ true
+digit-name_byte b h = by_letter (is_letter b) refl
+  where
+    by_letter : (t : Bool) → is_letter b ≡ t → is_name_byte b ≡ true
+    by_letter true e = letter-name_byte b e
+    by_letter false e = rw (e, h) refl
+
+alphanumeric_names : (bytes : List ℕ) → all_alphanumeric bytes ≡ true → AllByRecursion (λ c. is_in NameByte c ≡ true) bytes
+alphanumeric_names [] h = tt
+alphanumeric_names (b ∷ bs) h =
+    let p = and_parts (is_letter b || is_digit b) (all_alphanumeric bs) h in
+    (⊎_elim (λ e. letter-name_byte b e) (λ e. digit-name_byte b e) (or_cases (is_letter b) (is_digit b) p.0), alphanumeric_names bs p.1)
+
+stands_system : (part : List ℕ) → is_system part ≡ true → Stands part
+stands_system [] h = absurd (false≢true h)
+stands_system (b ∷ bs) h =
+    let read = system_read (b ∷ bs) h in
+    let P : List ℕ → Type 0 = λ l. AllByRecursion (λ c. is_in NameByte c ≡ true) l in
+    let direction = direction_is (take 4 (b ∷ bs)) read.direction in
+    let front : P (take 4 (b ∷ bs)) = ⊎_elim (λ e. subst P (sym e) (refl, (refl, (refl, (refl, tt))))) (λ e. subst P (sym e) (refl, (refl, (refl, (refl, tt))))) direction in
+    let letter : is_letter b ≡ true = ⊎_elim (λ e. first_letter 109 (ap (λ (l : List ℕ). get_or l 0 0) e) refl) (λ e. first_letter 108 (ap (λ (l : List ℕ). get_or l 0 0) e) refl) direction in
+    stands_letter b bs letter (subst P (take-append-drop 4 (b ∷ bs)) (all-append (λ c. is_in NameByte c ≡ true) (take 4 (b ∷ bs)) (drop 4 (b ∷ bs)) front (alphanumeric_names (drop 4 (b ∷ bs)) read.others)))
+  where
+    first_letter : (c : ℕ) → b ≡ c → is_letter c ≡ true → is_letter b ≡ true
+    first_letter c e h = subst (λ (x : ℕ). is_letter x ≡ true) (sym e) h
+
+-- braces and commas
+stands_open : Stands (codes "{")
+unfolding part_len
+stands_open = record { first = 123; others = []; is = refl; solid = refl; len = λ rest. refl }
+
+stands_close : Stands (codes "}")
+unfolding part_len
+stands_close = record { first = 125; others = []; is = refl; solid = refl; len = λ rest. refl }
+
+stands_comma : Stands (codes ",")
+unfolding part_len
+stands_comma = record { first = 44; others = []; is = refl; solid = refl; len = λ rest. refl }
+
+-- digits, and digits behind a sign
+signed_len : (d : ℕ) (ds rest : List ℕ) → AllByRecursion (λ c. is_in Digit c ≡ true) (d ∷ ds) → part_len (45 ∷ ((d ∷ ds) ++ 32 ∷ rest)) ≡ length (45 ∷ d ∷ ds)
+unfolding part_len
+signed_len d ds rest all = rw (all.0, front_len-append Digit ds (32 ∷ rest) all.1 refl) (omega arith)
+
+digits_len : (d : ℕ) (ds rest : List ℕ) → 48 ≤ d → d ≤ 57 → AllByRecursion (λ c. is_in Digit c ≡ true) (d ∷ ds) → part_len ((d ∷ ds) ++ 32 ∷ rest) ≡ length (d ∷ ds)
+unfolding part_len
+digits_len d ds rest from to all =
+    let letter : is_letter d ≡ false = low-letter d (omega arith) in
+    let sign : (d == 45) ≡ false = ne_eqb d 45 (λ e. omega arith) in
+    rw (letter, sign) (rw (all.0, front_len-append Digit ds (32 ∷ rest) all.1 refl) (omega arith))
+
+digit_range : (b : ℕ) → is_digit b ≡ true → (48 ≤ b) × (b ≤ 57)
+digit_range b h = let p = and_parts (nat_le 48 b) (nat_le b 57) h in (leb-true 48 b p.0, leb-true b 57 p.1)
+
+stands_signed : (bs : List ℕ) → (length bs == 0) ≡ false → AllByRecursion (λ c. is_in Digit c ≡ true) bs → Stands (45 ∷ bs)
+stands_signed [] some all = absurd (false≢true (sym some))
+stands_signed (d ∷ ds) some all = record { first = 45; others = d ∷ ds; is = refl; solid = refl; len = λ rest. signed_len d ds rest all }
+
+stands_digits : (bs : List ℕ) → (length bs == 0) ≡ false → AllByRecursion (λ c. is_in Digit c ≡ true) bs → Stands bs
+stands_digits [] some all = absurd (false≢true (sym some))
+stands_digits (d ∷ ds) some all =
+    let range = digit_range d all.0 in
+    let from = range.0 in
+    record { first = d; others = ds; is = refl; solid = high-blank d (omega arith); len = λ rest. digits_len d ds rest range.0 range.1 all }
+
+stands_number : (part : List ℕ) → is_number part ≡ true → Stands part
+stands_number [] h = absurd (false≢true h)
+stands_number (b ∷ bs) h = by_sign (b == 45) refl (unsigned (b ∷ bs)) refl h
+  where
+    not_true : (t : Bool) → not t ≡ true → t ≡ false
+    not_true true e = sym e
+    not_true false e = refl
+
+    by_sign : (t : Bool) → (b == 45) ≡ t → (behind : List ℕ) → cond t bs (b ∷ bs) ≡ behind → (not (length behind == 0) && all_in Digit behind) ≡ true → Stands (b ∷ bs)
+    by_sign true e behind is g =
+        let p = and_parts (not (length behind == 0)) (all_in Digit behind) g in
+        let P : List ℕ → Type 0 = λ l. AllByRecursion (λ c. is_in Digit c ≡ true) l in
+        subst (λ (c : ℕ). Stands (c ∷ bs)) (sym (eqb-true b 45 e))
+        (stands_signed bs (subst (λ (l : List ℕ). (length l == 0) ≡ false) (sym is) (not_true (length behind == 0) p.0)) (subst P (sym is) (all_in-all Digit behind p.1)))
+    by_sign false e behind is g =
+        let p = and_parts (not (length behind == 0)) (all_in Digit behind) g in
+        let P : List ℕ → Type 0 = λ l. AllByRecursion (λ c. is_in Digit c ≡ true) l in
+        stands_digits (b ∷ bs) (subst (λ (l : List ℕ). (length l == 0) ≡ false) (sym is) (not_true (length behind == 0) p.0)) (subst P (sym is) (all_in-all Digit behind p.1))
+
+quoted_length : (body rest : List ℕ) → AreUnquoted body → part_len (quoted body ++ 32 ∷ rest) ≡ length (quoted body)
+unfolding part_len
+quoted_length body rest all =
+    let in_body = AllByRecursion-weaker (λ b. b ≢ 34) (λ b. is_in Unquoted b ≡ true) unquoted_in body all in
+    let n : front_len Unquoted ((body ++ 34 ∷ []) ++ 32 ∷ rest) ≡ length body = ap (front_len Unquoted) (append_assoc body (34 ∷ []) (32 ∷ rest)) ∙ front_len-append Unquoted body (34 ∷ 32 ∷ rest) in_body refl in
+    rw n (omega (arith, length-append body (34 ∷ []), length-append (body ++ 34 ∷ []) (32 ∷ rest)))
+
+stands_quoted : (body : List ℕ) → AreUnquoted body → Stands (quoted body)
+stands_quoted body all = record { first = 34; others = body ++ 34 ∷ []; is = refl; solid = refl; len = λ rest. quoted_length body rest all }
+
+-- the parts of a head
+all_of : (P : List ℕ → Type 0) (xs ys : List (List ℕ)) → AllByRecursion P xs → AllByRecursion P ys → AllByRecursion P (xs ++ ys)
+all_of P [] ys a b = b
+all_of P (x ∷ xs) ys a b = (a.0, all_of P xs ys a.1 b)
+
+stand_mentions : (mentions : List ℤ) (parts : List (List ℕ)) → SpellsMentions parts mentions → AllByRecursion Stands parts
+stand_mentions [] parts spelled = absurd spelled
+stand_mentions (n ∷ []) parts spelled = subst (AllByRecursion Stands) (sym spelled.1) (stands_number spelled.0 spelled.2.number, tt)
+stand_mentions (n ∷ m ∷ ns) parts spelled =
+    subst (AllByRecursion Stands) (sym spelled.2) (stands_number spelled.0 spelled.3.number, (stands_comma, stand_mentions (m ∷ ns) spelled.1 spelled.4))
+
+stand_set : (set : List ℤ) (parts : List (List ℕ)) → SpellsSet parts set → AllByRecursion Stands parts
+stand_set set parts s = subst (AllByRecursion Stands) (sym s.parts_are) (stands_open, all_of Stands s.inside (codes "}" ∷ []) (stand_mentions s.mentions s.inside s.spelled) (stands_close, tt))
+
+stand_sets : (sets : List (List ℤ)) (parts : List (List ℕ)) → SpellSets parts sets → AllByRecursion Stands parts
+stand_sets [] parts spelled = subst (AllByRecursion Stands) (sym spelled) tt
+stand_sets (set ∷ sets) parts spelled =
+    subst (AllByRecursion Stands) (sym spelled.2) (all_of Stands spelled.0 spelled.1 (stand_set set spelled.0 spelled.3) (stand_sets sets spelled.1 spelled.4))
+
+stand_systems : (names : List (List ℕ)) → AllByRecursion (λ n. is_system n ≡ true) names → AllByRecursion Stands names
+stand_systems [] all = tt
+stand_systems (n ∷ ns) all = (stands_system n all.0, stand_systems ns all.1)
+
+stand_tracks : (tracks : Tracks) (parts : List (List ℕ)) → SpellTracks parts tracks → AllByRecursion Stands parts
+stand_tracks (Sets sets) parts spelled = stand_sets sets parts spelled.1
+stand_tracks (Systems names) parts spelled = subst (AllByRecursion Stands) (sym spelled.1) (stand_systems names spelled.2)
+
+unfoldable text_of : List (List ℕ) → List ℕ
+text_of parts = codes "reg" ++ 32 ∷ join parts
+
+word_first : (parts : List (List ℕ)) → AllByRecursion Stands parts → texts_of (parts_of (text_of parts)) ≡ codes "reg" ∷ parts
+unfolding parts_of text_of
+word_first parts all =
+    let rest = 32 ∷ join parts in
+    let text = codes "reg" ++ rest in
+    let few : length (join parts) ≤ length text = omega (arith, length-append (codes "reg") rest) in
+    ap (λ (l : List ℕ). l ∷ texts_of (parts_of_rest (length text) (length text) (behind_blanks (behind_front Word text)))) (front_of-append Word (codes "reg") rest (refl, (refl, (refl, tt))) refl)
+    ∙ ap (λ (l : List ℕ). codes "reg" ∷ texts_of (parts_of_rest (length text) (length text) (behind_blanks l))) (behind_front-append Word (codes "reg") rest (refl, (refl, (refl, tt))) refl)
+    ∙ ap (λ (l : List ℕ). codes "reg" ∷ texts_of (parts_of_rest (length text) (length text) l)) (solid_join parts all)
+    ∙ ap (λ (l : List (List ℕ)). codes "reg" ∷ l) (parts_join parts (length text) (length text) all few)
+
+-- parts that spell a head are those of a text
+pub spelled_text : (parts : List (List ℕ)) (head : RegHead) → SpellsReg parts head → (text : List ℕ) × (texts_of (parts_of text) ≡ parts)
+spelled_text parts head s =
+    let others = head.name ∷ (s.tracks ++ quoted head.body ∷ []) in
+    let all : AllByRecursion Stands others = (stands_name head.name s.name, all_of Stands s.tracks (quoted head.body ∷ []) (stand_tracks head.tracks s.tracks s.spelled) (stands_quoted head.body s.body, tt)) in
+    (text_of others, word_first others all ∙ sym s.parts_are)

@@ -1,0 +1,100 @@
+-- A text breaks the grammar at one part, and then that is the fault that is read.
+use Rattle.std.proofs.Common.{◌≡◌, ℕ, ◌+◌, ◌^◌, ◌<◌, ◌≤◌, List, [], ◌∷◌, ◌++◌, length, take, drop, Result, Ok, Err, refl, sym, ◌∙◌, ap, subst, arith, ⊎_elim}
+use Rattle.std.proofs.lemmas.Bool.{cases_lt}
+use Rattle.std.proofs.lemmas.List.{append_assoc, take-append-drop, take-take}
+use Rattle.text_grammar.specs.Faults.{Begins, BreaksAt}
+use Rattle.command_head.specs.declared.fault.HeadFault.{HeadFault}
+use Rattle.command_head.specs.declared.fault.HeadFault.TheVariants.{Syntax, Number, Memory}
+use Rattle.command_head.specs.Readings.{Refusal, Form, Range, placed, ◌>>=◌}
+use Rattle.command_head.specs.Parts.{Part, texts_of, parts_of}
+use Rattle.command_head.specs.Heads.{RegHead, Stage, AtWord, step, ended, run, reg_at}
+use Rattle.command_head.specs.Grammar.{SpellsReg}
+use Rattle.command_head.specs.Breaks.{ExceedsAt, IsSyntaxAt, IsNumberAt, place_of}
+use Rattle.command_head.proofs.Walks.{run_goes}
+use Rattle.command_head.proofs.ReadHeads.{reg_spelled}
+use Rattle.command_head.proofs.Breaking.{syntax_breaks, number_breaks}
+
+module _ (grammar : List (List ℕ) → RegHead → Type 0) (parts : List (List ℕ)) where
+  -- what begins a text is begun by each front of it
+  shorter_begins : (a b : ℕ) → a + 1 ≤ b → Begins grammar (take b parts) → Begins grammar (take (a + 1) parts)
+  shorter_begins a b less begins =
+      let front : take b parts ≡ take (a + 1) parts ++ drop (a + 1) (take b parts) = sym (take-append-drop (a + 1) (take b parts)) ∙ ap (λ (l : List (List ℕ)). l ++ drop (a + 1) (take b parts)) (take-take (a + 1) b parts less) in
+      let split : take b parts ++ begins.0 ≡ take (a + 1) parts ++ (drop (a + 1) (take b parts) ++ begins.0) = ap (λ (l : List (List ℕ)). l ++ begins.0) front ∙ append_assoc (take (a + 1) parts) (drop (a + 1) (take b parts)) begins.0 in
+      (drop (a + 1) (take b parts) ++ begins.0, begins.1, subst (λ (l : List (List ℕ)). grammar l begins.1) split begins.2)
+
+  before_another : (a b : ℕ) → a < b → BreaksAt grammar parts a → BreaksAt grammar parts b → ⊥
+  before_another a b less breaks other =
+      let within = other.within in
+      breaks.there (omega arith) (shorter_begins a b (omega arith) other.before)
+
+  -- there is one such place
+  breaks_once : (a b : ℕ) → BreaksAt grammar parts a → BreaksAt grammar parts b → a ≡ b
+  breaks_once a b breaks other =
+      ⊎_elim (λ less. absurd (before_another a b less breaks other))
+      (λ high. ⊎_elim (λ less. absurd (before_another b a less other breaks)) (λ low. let one : a ≡ b = omega arith in one) (cases_lt b a))
+      (cases_lt a b)
+
+  -- and none in a text of the grammar
+  no_break : (head : RegHead) (a : ℕ) → grammar parts head → BreaksAt grammar parts a → ⊥
+  no_break head a spells breaks =
+      ⊎_elim (λ inside. breaks.there inside (drop (a + 1) parts, head, subst (λ (l : List (List ℕ)). grammar l head) (sym (take-append-drop (a + 1) parts)) spells))
+      (λ high. let within = breaks.within in breaks.end (omega arith) head spells)
+      (cases_lt a (length parts))
+
+placed_told : {A : Type 0} (at : ℕ) (r : Result A Refusal) → placed at r ≡ Err Memory → ⊥
+placed_told at (Ok x) h = cc
+placed_told at (Err Form) h = cc
+placed_told at (Err Range) h = cc
+
+-- what is read is never want of memory
+run_told : (whole : ℕ) (stage : Stage) (parts : List Part) → run whole stage parts ≡ Err Memory → ⊥
+unfolding run
+run_told whole stage [] h = placed_told whole (ended stage) h
+run_told whole stage (part ∷ parts) h = by_step (λ next g. run_told whole next parts g) (step stage part.bytes) h
+  where
+    by_step : ((next : Stage) → run whole next parts ≡ Err Memory → ⊥) → (r : Result Stage Refusal) → (placed part.at r >>= λ next. run whole next parts) ≡ Err Memory → ⊥
+    by_step rest (Ok next) g = rest next g
+    by_step rest (Err Form) g = cc
+    by_step rest (Err Range) g = cc
+
+reg_told : (text : List ℕ) → reg_at text ≡ Err Memory → ⊥
+unfolding reg_at
+reg_told text h = run_told (length text) AtWord (parts_of text) h
+
+reg_spells : (text : List ℕ) (head : RegHead) → reg_at text ≡ Ok head → SpellsReg (texts_of (parts_of text)) head
+unfolding reg_at
+reg_spells text head h = reg_spelled (texts_of (parts_of text)) head (run_goes (length text) AtWord (parts_of text) head h)
+
+same_place : (text : List ℕ) (a b at byte : ℕ) → a ≡ b → place_of text a ≡ at → place_of text b ≡ byte → at ≡ byte
+same_place text a b at byte one here there = sym here ∙ ap (place_of text) one ∙ there
+
+-- the fault that breaks the grammar is the one that is read
+pub syntax_read : (text : List ℕ) (at : ℕ) → length text < 2 ^ 32 → IsSyntaxAt text at → reg_at text ≡ Err (Syntax at)
+syntax_read text at short is = by_reading (reg_at text) refl
+  where
+    by_reading : (r : Result RegHead HeadFault) → reg_at text ≡ r → reg_at text ≡ Err (Syntax at)
+    by_reading (Ok head) e = absurd (no_break SpellsReg (texts_of (parts_of text)) head is.first.count (reg_spells text head e) is.first.breaks)
+    by_reading (Err (Syntax byte)) e =
+        let other = syntax_breaks text byte short e in
+        let one = breaks_once SpellsReg (texts_of (parts_of text)) other.first.count is.first.count other.first.breaks is.first.breaks in
+        e ∙ ap (λ (n : ℕ). Err (Syntax n)) (same_place text other.first.count is.first.count byte at one other.first.place is.first.place)
+    by_reading (Err (Number byte)) e =
+        let other = number_breaks text byte short e in
+        let one = breaks_once SpellsReg (texts_of (parts_of text)) other.first.count is.first.count other.first.breaks is.first.breaks in
+        absurd (is.form (subst (ExceedsAt SpellsReg (texts_of (parts_of text))) one other.exceeds))
+    by_reading (Err Memory) e = absurd (reg_told text e)
+
+pub number_read : (text : List ℕ) (at : ℕ) → length text < 2 ^ 32 → IsNumberAt text at → reg_at text ≡ Err (Number at)
+number_read text at short is = by_reading (reg_at text) refl
+  where
+    by_reading : (r : Result RegHead HeadFault) → reg_at text ≡ r → reg_at text ≡ Err (Number at)
+    by_reading (Ok head) e = absurd (no_break SpellsReg (texts_of (parts_of text)) head is.first.count (reg_spells text head e) is.first.breaks)
+    by_reading (Err (Syntax byte)) e =
+        let other = syntax_breaks text byte short e in
+        let one = breaks_once SpellsReg (texts_of (parts_of text)) is.first.count other.first.count is.first.breaks other.first.breaks in
+        absurd (other.form (subst (ExceedsAt SpellsReg (texts_of (parts_of text))) one is.exceeds))
+    by_reading (Err (Number byte)) e =
+        let other = number_breaks text byte short e in
+        let one = breaks_once SpellsReg (texts_of (parts_of text)) other.first.count is.first.count other.first.breaks is.first.breaks in
+        e ∙ ap (λ (n : ℕ). Err (Number n)) (same_place text other.first.count is.first.count byte at one other.first.place is.first.place)
+    by_reading (Err Memory) e = absurd (reg_told text e)

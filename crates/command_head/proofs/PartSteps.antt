@@ -1,0 +1,70 @@
+-- The parts of a rest, one after another.
+use Rattle.std.proofs.Common.{◌≡◌, ℕ, zero, suc, ◌-◌, ◌<◌, ◌≤◌, Bool, true, false, cond, ◌==◌, List, [], ◌∷◌, length, take, drop, Result, Ok, Err, refl, sym, ◌∙◌, arith, length-drop}
+use Rattle.std.proofs.lemmas.Bool.{eqb-true}
+use Rattle.text_grammar.specs.declared.class.Class.TheVariants.{Blank, Digit}
+use Rattle.text_grammar.specs.Bytes.{is_letter}
+use Rattle.text_grammar.specs.Fronts.{front_len}
+use Rattle.command_head.specs.declared.fault.HeadFault.{HeadFault}
+use Rattle.command_head.specs.Readings.{placed}
+use Rattle.command_head.specs.Numbers.{begins_with, unsigned}
+use Rattle.command_head.specs.Parts.{begins_with_digit, part_len, behind_blanks, parts_of_rest}
+use Rattle.command_head.specs.Heads.{RegHead, Stage, step, ended, run}
+use Rattle.command_head.proofs.FrontSteps.{length-behind_front}
+use Rattle.command_head.proofs.PartShape.{letter-name_byte}
+
+above : (c : Bool) (x y : ℕ) → (c ≡ true → 0 < x) → (c ≡ false → 0 < y) → 0 < cond c x y
+above true x y f g = f refl
+above false x y f g = g refl
+
+digits_some : (bytes : List ℕ) → begins_with_digit bytes ≡ true → 0 < front_len Digit bytes
+digits_some [] h = cc
+digits_some (b ∷ bs) h = rw h (omega arith)
+
+-- a part has a byte at least
+pub part_len-some : (b : ℕ) (bs : List ℕ) → 0 < part_len (b ∷ bs)
+unfolding part_len
+part_len-some b bs = above (is_letter b) _ _ (λ h. rw (letter-name_byte b h) (omega arith))
+    (λ _. above (begins_with_digit (unsigned (b ∷ bs))) _ _ (λ h. let some = digits_some (unsigned (b ∷ bs)) h in omega arith)
+    (λ _. above (begins_with 34 (b ∷ bs)) _ _ (λ _. omega arith) (λ _. omega arith)))
+
+pub length-behind_part : (b : ℕ) (bs : List ℕ) → length (behind_blanks (drop (part_len (b ∷ bs)) (b ∷ bs))) < length (b ∷ bs)
+length-behind_part b bs =
+    let some = part_len-some b bs in
+    let less = length-behind_front Blank (drop (part_len (b ∷ bs)) (b ∷ bs)) in
+    omega (arith, length-drop (part_len (b ∷ bs)) (b ∷ bs))
+
+-- there are no more parts than bytes
+pub length-parts : (count whole : ℕ) (rest : List ℕ) → length (parts_of_rest count whole rest) ≤ length rest
+unfolding parts_of_rest
+length-parts zero whole rest = omega arith
+length-parts (suc count) whole [] = omega arith
+length-parts (suc count) whole (b ∷ bs) =
+    let fewer = length-behind_part b bs in
+    let more = length-parts count whole (behind_blanks (drop (part_len (b ∷ bs)) (b ∷ bs))) in
+    omega arith
+
+-- one part more, and those behind it
+pub run_more : (count whole : ℕ) (stage next : Stage) (rest : List ℕ) (all : Result RegHead HeadFault) → 0 < length rest → length rest ≤ count →
+    placed (whole - length rest) (step stage (take (part_len rest) rest)) ≡ Ok next → run whole stage (parts_of_rest count whole rest) ≡ all →
+    (left : ℕ) × (length (behind_blanks (drop (part_len rest) rest)) ≤ left) × (run whole next (parts_of_rest left whole (behind_blanks (drop (part_len rest) rest))) ≡ all)
+unfolding run parts_of_rest
+run_more count whole stage next [] all some room h goal = absurd (omega arith)
+run_more zero whole stage next (b ∷ bs) all some room h goal = absurd (omega arith)
+run_more (suc count) whole stage next (b ∷ bs) all some room h goal =
+    let fewer = length-behind_part b bs in
+    (count, omega arith, sym (rw h refl) ∙ goal)
+
+-- a part that is refused
+pub run_refused : (count whole : ℕ) (stage : Stage) (rest : List ℕ) → 0 < length rest → length rest ≤ count → (e : HeadFault) →
+    placed (whole - length rest) (step stage (take (part_len rest) rest)) ≡ Err e → run whole stage (parts_of_rest count whole rest) ≡ Err e
+unfolding run parts_of_rest
+run_refused count whole stage [] some room e h = absurd (omega arith)
+run_refused zero whole stage (b ∷ bs) some room e h = absurd (omega arith)
+run_refused (suc count) whole stage (b ∷ bs) some room e h = rw h refl
+
+-- no part more
+pub run_ends : (count whole : ℕ) (stage : Stage) (rest : List ℕ) → (length rest == 0) ≡ true → run whole stage (parts_of_rest count whole rest) ≡ placed whole (ended stage)
+unfolding run parts_of_rest
+run_ends zero whole stage [] h = refl
+run_ends (suc count) whole stage [] h = refl
+run_ends count whole stage (b ∷ bs) h = let none = eqb-true (length (b ∷ bs)) 0 h in absurd (omega arith)

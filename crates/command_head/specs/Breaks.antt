@@ -1,0 +1,42 @@
+-- Where a text first breaks the grammar, by its parts.
+use Rattle.std.specs.Prelude.{◌≡◌, ℕ, ◌<◌, ◌^◌, true, false, List, [], ◌∷◌, ◌++◌, length, take, map, slice_index_or, ◌↔◌, Err}
+use Rattle.text_grammar.specs.Faults.{Begins, BreaksAt}
+use Rattle.command_head.specs.declared.fault.HeadFault.TheVariants.{Syntax, Number}
+use Rattle.command_head.specs.Numbers.{is_number, number_of, is_short}
+use Rattle.command_head.specs.Parts.{Part, parts_of, texts_of}
+use Rattle.command_head.specs.Heads.{RegHead, reg_at}
+use Rattle.command_head.specs.Grammar.{SpellsReg}
+
+-- the byte at which a part of a text begins, the parts counted from 0; behind the last it is the text's length
+abbrev pub place_of : List ℕ → ℕ → ℕ
+place_of text count = slice_index_or (map (λ (p : Part). p.at) (parts_of text)) count (length text)
+
+-- At this part a number stands that does not fit 32 bits, signed, and behind the parts before it another number goes on.
+pub record ExceedsAt (grammar : List (List ℕ) → RegHead → Type 0) (parts : List (List ℕ)) (count : ℕ) : Type 0 where
+  pub within : count < length parts
+  pub number : is_number (slice_index_or parts count []) ≡ true
+  pub long : is_short (number_of (slice_index_or parts count [])) ≡ false
+  pub other : List ℕ
+  pub other_number : is_number other ≡ true
+  pub allowed : Begins grammar (take count parts ++ other ∷ [])
+
+-- The first part with which no head of a `reg` goes on begins at this byte. Where all parts of the text begin a head and are
+-- none, the byte is the text's length.
+pub record BreaksIn (text : List ℕ) (at : ℕ) : Type 0 where
+  pub count : ℕ
+  pub breaks : BreaksAt SpellsReg (texts_of (parts_of text)) count
+  pub place : place_of text count ≡ at
+
+-- The text breaks the grammar at this byte, and not by a number that does not fit.
+pub record IsSyntaxAt (text : List ℕ) (at : ℕ) : Type 0 where
+  pub first : BreaksIn text at
+  pub form : ExceedsAt SpellsReg (texts_of (parts_of text)) first.count → ⊥
+
+-- The text breaks the grammar at this byte by a number that does not fit.
+pub record IsNumberAt (text : List ℕ) (at : ℕ) : Type 0 where
+  pub first : BreaksIn text at
+  pub exceeds : ExceedsAt SpellsReg (texts_of (parts_of text)) first.count
+
+-- the fault that is read of a text shorter than 2 ^ 32 bytes is where its parts first break the grammar, and no other
+abbrev pub BreaksGrammar : Type 0
+BreaksGrammar = (text : List ℕ) (at : ℕ) → length text < 2 ^ 32 → ((reg_at text ≡ Err (Syntax at)) ↔ IsSyntaxAt text at) × ((reg_at text ≡ Err (Number at)) ↔ IsNumberAt text at)

@@ -1,0 +1,29 @@
+-- Lists made over numbers in order.
+use Rattle.std.proofs.Common.{◌≡◌, ℕ, zero, suc, ◌+◌, ◌<◌, ◌≤◌, List, [], ◌∷◌, ◌++◌, sym, ap, ◌∙◌, arith, append_assoc}
+use Rattle.std.specs.List.{flat_map, range_with_len, AllByRecursion}
+use Rattle.std.proofs.lemmas.List.{append-nil}
+use Rattle.std.proofs.lemmas.List.Concat.{flat_map-append}
+use Rattle.dfa_text.specs.Parts.{text_of_lines}
+use Rattle.dfa_text.proofs.Joins.{text_of_lines-append}
+
+last_number : (a n j : ℕ) → a + n ≡ j → range_with_len a (suc n) ≡ range_with_len a n ++ j ∷ []
+last_number a zero j e = let same : a ≡ j = omega arith in ap (λ k. k ∷ []) same
+last_number a (suc n) j e = ap (λ l. a ∷ l) (last_number (a + 1) n j (omega arith))
+
+-- one number more
+pub numbers_more : (n : ℕ) → range_with_len 0 (n + 1) ≡ range_with_len 0 n ++ n ∷ []
+numbers_more n = let on : n + 1 ≡ suc n = omega arith in ap (range_with_len 0) on ∙ last_number 0 n n (omega arith)
+
+pub flat_map-numbers_more : {A : Type 0} (f : ℕ → List A) (n : ℕ) → flat_map f (range_with_len 0 (n + 1)) ≡ flat_map f (range_with_len 0 n) ++ f n
+flat_map-numbers_more f n = ap (flat_map f) (numbers_more n) ∙ flat_map-append f (range_with_len 0 n) (n ∷ []) ∙ ap (λ t. flat_map f (range_with_len 0 n) ++ t) (append-nil (f n))
+
+-- a text that grows by the lines of one number more
+pub lines_more : (f : ℕ → List (List ℕ)) (out before after : List ℕ) (n : ℕ) → before ≡ out ++ text_of_lines (flat_map f (range_with_len 0 n)) → after ≡ before ++ text_of_lines (f n) → after ≡ out ++ text_of_lines (flat_map f (range_with_len 0 (n + 1)))
+lines_more f out before after n h step =
+    step ∙ ap (λ t. t ++ text_of_lines (f n)) h ∙ append_assoc out (text_of_lines (flat_map f (range_with_len 0 n))) (text_of_lines (f n))
+    ∙ ap (λ t. out ++ t) (sym (text_of_lines-append (flat_map f (range_with_len 0 n)) (f n)) ∙ ap text_of_lines (sym (flat_map-numbers_more f n)))
+
+-- what holds of each number holds of all in the list
+pub each_number : (P : ℕ → Type 0) (a n : ℕ) → ((i : ℕ) → a ≤ i → i < a + n → P i) → AllByRecursion P (range_with_len a n)
+each_number P a zero h = tt
+each_number P a (suc n) h = (h a (omega arith) (omega arith), each_number P (a + 1) n (λ i low high. h i (omega arith) (omega arith)))

@@ -1,0 +1,24 @@
+-- Parts of the texts that list automata: headers, tuples, states and lines.
+use Rattle.std.specs.Prelude.{ℕ, Bool, if◌then◌else◌, ℤ, List, [], ◌∷◌, ◌++◌, map, codes, decimal}
+use Rattle.std.specs.Fmt.{signed_decimal}
+use Rattle.std.specs.List.{flat_map, join_by}
+
+-- the members of a set in braces
+abbrev pub set_text : List ℤ → List ℕ
+set_text set = codes "{" ++ (join_by signed_decimal (codes ",") set ++ codes "}")
+
+abbrev pub header_text : List (List ℤ) → List ℕ
+header_text sets = join_by set_text (codes " ") sets
+
+-- each tuple of members, one of each set, in the order of letters: the first track changes slowest
+abbrev pub tuples_of : List (List ℤ) → List (List ℤ)
+tuples_of [] = [] ∷ []
+tuples_of (set ∷ sets) = flat_map (λ member. map (λ tuple. member ∷ tuple) (tuples_of sets)) set
+
+-- a state's number, and 1 where it accepts, 0 where it does not
+abbrev pub state_text : ℕ → Bool → List ℕ
+state_text q accepting = decimal q ++ (if accepting then codes " 1" else codes " 0")
+
+-- each line, and its end
+abbrev pub text_of_lines : List (List ℕ) → List ℕ
+text_of_lines lines = flat_map (λ line. line ++ codes "\n") lines

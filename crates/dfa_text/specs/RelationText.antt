@@ -1,0 +1,44 @@
+-- The text of a deterministic automaton.
+use Rattle.std.specs.Prelude.{ℕ, ℤ, List, [], ◌∷◌, ◌++◌, slice_index_or, Option, None, Some, codes, decimal}
+use Rattle.std.specs.Fmt.{signed_decimal}
+use Rattle.std.specs.List.{flat_map, join_by, range_with_len}
+use Rattle.digit_tuple.specs.Deterministic.{Automaton, letters_of, states_of, accepting_of, step_of}
+use Rattle.digit_tuple.specs.Headers.{sets_of}
+use Rattle.digit_tuple.specs.declared.header.Header.{Header}
+use Rattle.digit_tuple.specs.declared.header.Header.TheVariants.{Sets, Systems}
+use Rattle.digit_tuple.specs.declared.systems.SystemTrack.{SystemTrack}
+use Rattle.dfa_text.specs.Parts.{header_text, tuples_of, state_text, text_of_lines}
+
+-- the names of systems, with a blank between two of them
+abbrev pub names_text : List SystemTrack → List ℕ
+names_text systems = join_by (λ system. system.name) (codes " ") systems
+
+-- the line of a header: its sets, or the names of its systems
+abbrev pub header_line : Header → List ℕ
+header_line (Sets sets) = header_text sets
+header_line (Systems systems) = names_text systems
+
+-- the tuple of a letter
+abbrev pub tuple_of : List (List ℤ) → ℕ → List ℤ
+tuple_of sets letter = slice_index_or (tuples_of sets) letter []
+
+-- the line of a tuple that leads to a state
+abbrev pub step_line : List ℤ → ℕ → List ℕ
+step_line tuple target = join_by signed_decimal (codes " ") tuple ++ (codes " -> " ++ decimal target)
+
+-- the line of a tuple, if it leads anywhere
+abbrev pub step_lines : List ℤ → Option ℕ → List (List ℕ)
+step_lines tuple None = []
+step_lines tuple (Some target) = step_line tuple target ∷ []
+
+-- the lines of a state's letters, in order
+abbrev pub steps_lines : List (List ℤ) → Automaton → ℕ → List (List ℕ)
+steps_lines sets d q = flat_map (λ letter. step_lines (tuple_of sets letter) (step_of d q letter)) (range_with_len 0 (letters_of d))
+
+-- a blank line, the state's number and output, and the lines of its letters
+abbrev pub state_lines : List (List ℤ) → Automaton → ℕ → List (List ℕ)
+state_lines sets d q = [] ∷ state_text q (accepting_of d q) ∷ steps_lines sets d q
+
+-- the header, and then the states in order
+unfoldable pub relation_text : Header → Automaton → List ℕ
+relation_text header d = text_of_lines (header_line header ∷ flat_map (state_lines (sets_of header) d) (range_with_len 0 (states_of d)))

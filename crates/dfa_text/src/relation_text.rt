@@ -1,0 +1,160 @@
+//! The text of a deterministic automaton.
+
+ghost use Rattle.std.specs.Prelude.{◌≡◌, ◌<◌, ◌==◌, ℕ, ℤ, pos, List, [], ◌++◌, length, slice_index_or, codes, decimal, if◌then◌else◌, OnOk, IfOk};
+ghost use Rattle.std.specs.List.{join_by};
+ghost use Rattle.std.specs.Fmt.{signed_decimal};
+ghost use Rattle.digit_tuple.specs.Deterministic.{letters_of, states_of};
+ghost use Rattle.digit_tuple.specs.Letters.{product, AreDigits};
+ghost use Rattle.digit_tuple.specs.Sets.{sizes_of, members_at};
+ghost use Rattle.digit_tuple.specs.Headers.{sets_of};
+ghost use Rattle.dfa_text.specs.Parts.{text_of_lines};
+ghost use Rattle.dfa_text.specs.RelationText.{tuple_of, step_line, steps_lines, state_lines, relation_text};
+
+use crate::header_text::push_header;
+use crate::numbers::{push_integer, push_number};
+use digit_tuple::alphabet::Alphabet;
+use digit_tuple::dfa::Dfa;
+use digit_tuple::edges::Edge;
+use digit_tuple::faults::OutOfMemory;
+use digit_tuple::header::Header;
+use std::alloc::Global;
+
+/// The text of an automaton whose tracks are those of the header: the header, and all states in order, each with a line
+/// for each letter that leads anywhere. Out of memory gives no text.
+#[tactic(auto, unfolding(crate::specs::RelationText::relation_text))]
+pub fn print_relation(alloc: Global, header: &Header, d: &Dfa) -> Result<Vec<u8>, OutOfMemory>
+    requires { d.now.sizes ≡ sizes_of (sets_of header.now) }
+    ensures { IfOk result (λ text. text.items ≡ relation_text header.now d.now) }
+{
+    let mut out = Vec::new(alloc);
+    push_header(&mut out, header)?;
+    let mut places = vec![in alloc; 0; d.alphabet().tracks() as usize]?;
+    for state in 0..d.states() {
+        push_state(&mut out, header, d, &mut places, state)?;
+    }
+    Ok(out)
+}
+
+// A blank line, the state's number and output, and the lines of its letters.
+fn push_state(
+    out: &mut Vec<u8>,
+    header: &Header,
+    d: &Dfa,
+    places: &mut [u32],
+    state: u32,
+) -> Result<(), OutOfMemory>
+    requires sizes { d.now.sizes ≡ sizes_of (sets_of header.now) }
+    requires tracks { length places.old ≡ length d.now.sizes }
+    requires state { state < states_of d.now }
+    ensures { OnOk result (out.new.items ≡ out.old.items ++ text_of_lines (state_lines (sets_of header.now) d.now state)) }
+{
+    out.push(b'\n')?;
+    push_number(out, state)?;
+    out.extend_from_slice(if d.accepting(state) { b" 1\n" } else { b" 0\n" })?;
+    push_steps(out, header, d, places, state)
+}
+
+// A line for each letter that leads anywhere.
+fn push_steps(
+    out: &mut Vec<u8>,
+    header: &Header,
+    d: &Dfa,
+    places: &mut [u32],
+    state: u32,
+) -> Result<(), OutOfMemory>
+    requires sizes { d.now.sizes ≡ sizes_of (sets_of header.now) }
+    requires tracks { length places.old ≡ length d.now.sizes }
+    requires state { state < states_of d.now }
+    ensures { OnOk result (out.new.items ≡ out.old.items ++ text_of_lines (steps_lines (sets_of header.now) d.now state)) }
+{
+    for edge in d.edges(state) {
+        push_step(out, header, d.alphabet(), places, edge)?;
+    }
+    Ok(())
+}
+
+// The line of an edge.
+fn push_step(
+    out: &mut Vec<u8>,
+    header: &Header,
+    alphabet: &Alphabet,
+    places: &mut [u32],
+    edge: &Edge,
+) -> Result<(), OutOfMemory>
+    requires sizes { alphabet.now ≡ sizes_of (sets_of header.now) }
+    requires tracks { length places.old ≡ length alphabet.now }
+    requires letter { edge.now.letter < product alphabet.now }
+    ensures { OnOk result (out.new.items ≡ out.old.items ++ (step_line (tuple_of (sets_of header.now) edge.now.letter) edge.now.target ++ codes "\n")) }
+{
+    alphabet.digits_of(edge.letter, places);
+    push_line(out, header, places, edge.target)
+}
+
+// The line of a tuple: the members at these places, and where it leads.
+fn push_line(
+    out: &mut Vec<u8>,
+    header: &Header,
+    places: &[u32],
+    target: u32,
+) -> Result<(), OutOfMemory>
+    requires { AreDigits (sizes_of (sets_of header.now)) places.now }
+    ensures { OnOk result (out.new.items ≡ out.old.items ++ (step_line (members_at (sets_of header.now) places.now) target ++ codes "\n")) }
+{
+    push_tuple(out, header, places)?;
+    out.extend_from_slice(b" -> ")?;
+    push_number(out, target)?;
+    out.push(b'\n')?;
+    Ok(())
+}
+
+// The members at these places.
+fn push_tuple(out: &mut Vec<u8>, header: &Header, places: &[u32]) -> Result<(), OutOfMemory>
+    requires { AreDigits (sizes_of (sets_of header.now)) places.now }
+    ensures { OnOk result (out.new.items ≡ out.old.items ++ join_by signed_decimal (codes " ") (members_at (sets_of header.now) places.now)) }
+{
+    for (track, place) in places.iter().enumerate() {
+        push_digit(out, header, track, *place)?;
+    }
+    Ok(())
+}
+
+// A blank, unless the track is the first, and the member at the place.
+fn push_digit(
+    out: &mut Vec<u8>,
+    header: &Header,
+    track: usize,
+    place: u32,
+) -> Result<(), OutOfMemory>
+    requires track { track < length (sets_of header.now) }
+    requires place { place < length (slice_index_or (sets_of header.now) track []) }
+    ensures { OnOk result (out.new.items ≡ out.old.items ++ ((if track == 0 then [] else codes " ") ++ signed_decimal (slice_index_or (slice_index_or (sets_of header.now) track []) place (pos 0)))) }
+{
+    out.extend_from_slice(blank_before(track))?;
+    push_member(out, header, track, place)
+}
+
+fn blank_before(track: usize) -> &'static [u8]
+    ensures { result.now ≡ (if track == 0 then [] else codes " ") }
+{
+    if track == 0 { b"" } else { b" " }
+}
+
+// The member of a track's set at the place; of a system's digits it is the place itself.
+fn push_member(
+    out: &mut Vec<u8>,
+    header: &Header,
+    track: usize,
+    place: u32,
+) -> Result<(), OutOfMemory>
+    requires track { track < length (sets_of header.now) }
+    requires place { place < length (slice_index_or (sets_of header.now) track []) }
+    ensures { OnOk result (out.new.items ≡ out.old.items ++ signed_decimal (slice_index_or (slice_index_or (sets_of header.now) track []) place (pos 0))) }
+{
+    match header {
+        Header::Sets(sets) => {
+            let set = &sets.as_slice()[track];
+            push_integer(out, set.members()[place as usize])
+        }
+        Header::Systems(_) => push_number(out, place),
+    }
+}

@@ -1,0 +1,12 @@
+-- The steps that were done under a limit.
+use Rattle.std.specs.Prelude.{ℕ, List, [], ◌∷◌, ◌++◌}
+use Rattle.digit_tuple.specs.declared.steps.StepLine.{StepLine}
+
+-- the limit, and the steps in order
+pub record StepLog : Type 0 where
+  pub limit : ℕ
+  pub lines : List StepLine
+
+-- the steps with one more behind them
+abbrev pub with_line : StepLog → StepLine → StepLog
+with_line log line = record { limit = log.limit; lines = log.lines ++ line ∷ [] }

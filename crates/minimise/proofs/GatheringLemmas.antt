@@ -1,0 +1,54 @@
+-- Edges gathered by letter.
+use Rattle.std.proofs.Common.{◌≡◌, ◌==◌, ℕ, ◌<◌, List, [], ◌∷◌, filter, length, get_or, Some, ◌↔◌, refl, sym, ap, ◌∙◌, subst, eq-eqb, arith}
+use Rattle.std.specs.List.{All, Contains}
+use Rattle.std.proofs.lemmas.Bool.{eqb-true}
+use Rattle.std.proofs.lemmas.List.{get_or-map, length-map}
+use Rattle.digit_tuple.specs.declared.edges.Edge.{Edge}
+use Rattle.explore.specs.Keys.{Step}
+use Rattle.explore.specs.Steps.{step_in, steps_in}
+use Rattle.explore.specs.declared.source.KeyStep.{KeyStep}
+use Rattle.explore.proofs.FrontierLemmas.{key_by-at}
+use Rattle.determinise.specs.Reversed.{edge_to}
+use Rattle.determinise.specs.Subsets.{some_set}
+use Rattle.determinise.specs.Groups.{targets_by, AreGroups}
+use Rattle.determinise.proofs.MemberLemmas.{Contains-filter, Contains-from_filter, Contains-map, Contains-from_map}
+use Rattle.minimise.specs.Gathering.{IsGathered}
+
+pub edge_to-is : (e : Edge) (letter target : ℕ) → e.letter ≡ letter → e.target ≡ target → e ≡ edge_to letter target
+edge_to-is e letter target one two = ap (λ (x : ℕ). edge_to x e.target) one ∙ ap (λ (x : ℕ). edge_to letter x) two
+
+-- the targets of the edges by a letter
+pub Contains-targets_by : (es : List Edge) (letter q : ℕ) → Contains es (edge_to letter q) → Contains (targets_by es letter) q
+Contains-targets_by es letter q there =
+    Contains-map (λ (e : Edge). e.target) (filter (λ e. e.letter == letter) es) (edge_to letter q) (Contains-filter (λ (e : Edge). e.letter == letter) es (edge_to letter q) there (eq-eqb letter letter refl))
+
+pub Contains-from_targets_by : (es : List Edge) (letter q : ℕ) → Contains (targets_by es letter) q → Contains es (edge_to letter q)
+Contains-from_targets_by es letter q there =
+    let found = Contains-from_map (λ (e : Edge). e.target) (filter (λ e. e.letter == letter) es) q there in
+    let passes = Contains-from_filter (λ (e : Edge). e.letter == letter) es found.0 found.1 in
+    subst (Contains es) (edge_to-is found.0 letter q (eqb-true found.0.letter letter passes.1) found.2) passes.0
+
+some_set-is : (xs ys : List ℕ) → Some xs ≡ some_set ys → xs ≡ ys
+some_set-is xs [] same = absurd (cc)
+some_set-is xs (y ∷ ys) same = cc
+
+module _ (edges sorted : List Edge) (same : (e : Edge) → Contains sorted e ↔ Contains edges e) where
+  IsGathered-step : (s : Step) → (e : Edge) × Contains sorted e × (e.letter ≡ s.letter) → Some s.key ≡ some_set (targets_by sorted s.letter) → IsGathered edges s.letter s.key
+  IsGathered-step s from leads = record {
+    edge = (from.0.target, (same (edge_to s.letter from.0.target)).0 (subst (Contains sorted) (edge_to-is from.0 s.letter from.0.target from.2 refl) from.1));
+    targets = λ q. (
+      (λ there. (same (edge_to s.letter q)).0 (Contains-from_targets_by sorted s.letter q (subst (λ xs. Contains xs q) is there))),
+      (λ there. subst (λ xs. Contains xs q) (sym is) (Contains-targets_by sorted s.letter q ((same (edge_to s.letter q)).1 there))),
+    );
+  }
+    where
+      is : s.key ≡ targets_by sorted s.letter
+      is = some_set-is s.key (targets_by sorted s.letter) leads
+
+  -- the groups of the edges in order
+  pub IsGathered-groups : (steps : List KeyStep) → AreGroups sorted (steps_in steps) → All (λ step. IsGathered edges step.letter step.key.items) steps
+  IsGathered-groups steps groups k d within =
+      let inside : k < length (steps_in steps) = omega (arith, within, length-map steps step_in) in
+      subst (λ (s : Step). IsGathered edges s.letter s.key) (get_or-map step_in steps k d (step_in d) within)
+      (IsGathered-step (get_or (steps_in steps) k (step_in d)) (groups.letters k (step_in d) inside)
+      (sym (key_by-at (steps_in steps) groups.ascending k (step_in d) inside) ∙ groups.keys (get_or (steps_in steps) k (step_in d)).letter))

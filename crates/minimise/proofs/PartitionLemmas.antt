@@ -1,0 +1,263 @@
+-- Classes that are parted by sets of states with the same residual languages.
+use Rattle.std.proofs.Common.{◌≡◌, ◌==◌, ℕ, suc, ◌+◌, ◌<◌, ◌≤◌, Bool, true, false, List, [], ◌∷◌, ◌++◌, set, take, length, get_or, Option, None, Some, unwrap_or, if◌then◌else◌, ◌⊎◌, inl, inr, refl, sym, ap, ◌∙◌, subst, Vec, Global, eq-eqb, arith, get_or-set_same, get_or-set_other, length-set}
+use Rattle.std.specs.List.{All, Contains, flat_map}
+use Rattle.std.specs.Option.{IfSome, option_to_list}
+use Rattle.std.proofs.lemmas.Bool.{cases_lt, cases_eq, eqb-true}
+use Rattle.std.proofs.lemmas.Option.{none-some}
+use Rattle.std.proofs.lemmas.List.{take_more, length-map, length_push, map_push, get_or_push, get_or-map, get_or_append_left}
+use Rattle.std.proofs.lemmas.List.Elements.{All-push, All-map, All-pop, All-filter, All-contains, Contains-get_or, Contains-push, Contains-push_cases, Contains-append_left}
+use Rattle.digit_tuple.specs.declared.edges.Edge.{Edge}
+use Rattle.digit_tuple.specs.Automaton as branching
+use Rattle.digit_tuple.specs.Automaton.{Branching, Leads}
+use Rattle.digit_tuple.specs.Deterministic.{Automaton, IsTable, letters_of, states_of, accepting_of, edges_of, step_of, target_by}
+use Rattle.explore.specs.declared.source.KeyStep.{KeyStep}
+use Rattle.determinise.specs.Reversed.{IsReversal, edge_to}
+use Rattle.determinise.proofs.MemberLemmas.{Contains-none, Contains-head, Contains-tail, Contains-cases, Contains-filter, Contains-from_filter, Contains-map, Contains-from_map, Contains-flat_map, Contains-from_flat_map}
+use Rattle.minimise.specs.Classes.{class_of, next_of}
+use Rattle.minimise.specs.Gathering.{IsGathered, edges_by_class}
+use Rattle.minimise.specs.Partition.{IsCoarse, IsUnion, AreAcceptingStates, states_with, IsGiven, IsOneOf, AreParted, list_at, lists_in}
+use Rattle.minimise.proofs.SinkLemmas.{row_of, no_edges_past, not_accepting_past, accepts_from-next, next_within}
+
+-- what holds of all parts holds of the one at a place
+pub part_at : (P : KeyStep → Type 0) (parts items : List KeyStep) (place : ℕ) (part : KeyStep) → All P parts → items ≡ parts → place < length items → part ≡ get_or items place part → P part
+part_at P parts items place part all same within is = subst P (sym is) (subst (All P) (sym same) all place part within)
+
+-- the items of a list of the code
+pub list_at-item : (lists : List (Vec ℕ Global)) (place : ℕ) (list : Vec ℕ Global) → place < length lists → list ≡ get_or lists place list → list_at (lists_in lists) place ≡ list.items
+list_at-item lists place list within is = get_or-map (λ (v : Vec ℕ Global). v.items) lists place list [] within ∙ ap (λ (v : Vec ℕ Global). v.items) (sym is)
+
+-- one more list of the code
+pub lists_in-push : (old new : List (Vec ℕ Global)) (list : Vec ℕ Global) (items : List ℕ) → new ≡ old ++ list ∷ [] → list.items ≡ items → lists_in new ≡ lists_in old ++ items ∷ []
+lists_in-push old new list items pushed are = ap lists_in pushed ∙ map_push (λ (v : Vec ℕ Global). v.items) old list ∙ ap (λ (xs : List ℕ). lists_in old ++ xs ∷ []) are
+
+-- a number stands in a list or does not
+pub cases_contains : (xs : List ℕ) (x : ℕ) → Contains xs x ⊎ (Contains xs x → ⊥)
+cases_contains [] x = inr (λ there. Contains-none x there)
+cases_contains (y ∷ ys) x = by (cases_eq y x) (cases_contains ys x)
+  where
+    by : (y ≡ x) ⊎ (y ≡ x → ⊥) → Contains ys x ⊎ (Contains ys x → ⊥) → Contains (y ∷ ys) x ⊎ (Contains (y ∷ ys) x → ⊥)
+    by (inl is) rest = inl (subst (Contains (y ∷ ys)) is (Contains-head y ys))
+    by (inr other) (inl later) = inl (Contains-tail y ys x later)
+    by (inr other) (inr none) = inr (λ there. neither (Contains-cases y ys x there))
+      where
+        neither : (y ≡ x) ⊎ Contains ys x → ⊥
+        neither (inl is) = other is
+        neither (inr later) = none later
+
+-- edges are by letters in range
+letter_within : (letters states : ℕ) (es : List Edge) (a t : ℕ) → All (λ e. (e.letter < letters) × (e.target < states)) es → target_by es a ≡ Some t → a < letters
+letter_within letters states [] a t range leads = absurd (none-some t leads)
+letter_within letters states (e ∷ es) a t range leads = by (e.letter == a) refl leads (λ rest. letter_within letters states es a t (λ k d within. range (suc k) d (omega arith)) rest)
+  where
+    by : (b : Bool) → (e.letter == a) ≡ b → (if b then Some e.target else target_by es a) ≡ Some t → (target_by es a ≡ Some t → a < letters) → a < letters
+    by true is leads rest = omega (arith, (range 0 e (omega arith)).0, eqb-true e.letter a is)
+    by false is leads rest = rest leads
+
+module _ (d : Automaton) (table : IsTable (letters_of d) d.states) where
+  -- a letter leads where next_of says
+  next_is : (q a t : ℕ) → step_of d q a ≡ Some t → next_of d q a ≡ t
+  next_is q a t leads = ap (λ (o : Option ℕ). unwrap_or o (states_of d)) leads
+
+  step_is : (q a : ℕ) → next_of d q a < states_of d → step_of d q a ≡ Some (next_of d q a)
+  step_is q a inside = by (step_of d q a) inside
+    where
+      by : (o : Option ℕ) → unwrap_or o (states_of d) < states_of d → o ≡ Some (unwrap_or o (states_of d))
+      by None less = absurd (omega arith)
+      by (Some t) less = refl
+
+  from_within : (q a t : ℕ) → step_of d q a ≡ Some t → q < states_of d
+  from_within q a t leads = by (cases_lt q (states_of d))
+    where
+      by : (q < states_of d) ⊎ (states_of d ≤ q) → q < states_of d
+      by (inl less) = less
+      by (inr past) = absurd (none-some t (sym (ap (λ (es : List Edge). target_by es a) (no_edges_past d q past)) ∙ leads))
+
+  -- the states from which a letter leads into a union
+  module _ (n : Branching) (turned : IsReversal d n) (into : List ℕ) (union : IsUnion d into) (a : ℕ) (sources : List ℕ) (gathered : IsGathered (flat_map (branching.edges_of n) into) a sources) where
+    led : (q : ℕ) → Contains sources q → (t : ℕ) × Contains into t × (q < states_of d) × (step_of d q a ≡ Some t)
+    led q there =
+        let found = Contains-from_flat_map (branching.edges_of n) into (edge_to a q) ((gathered.targets q).0 there) in
+        let leads = (turned.leads found.0 a q).0 found.2 in
+        (found.0, found.1, leads.0, leads.1)
+
+    leading : (q : ℕ) → Contains into (next_of d q a) → Contains sources q
+    leading q there =
+        let inside : next_of d q a < states_of d = All-contains (λ t. t < states_of d) into (next_of d q a) union.within there in
+        let leads = step_is q a inside in
+        (gathered.targets q).1 (Contains-flat_map (branching.edges_of n) into (next_of d q a) (edge_to a q) there ((turned.leads (next_of d q a) a q).1 (from_within q a (next_of d q a) leads, leads)))
+
+    pub IsUnion-sources : IsUnion d sources
+    IsUnion-sources = record {
+      within = λ k z inside. (led (get_or sources k z) (Contains-get_or sources k z inside)).2;
+      whole = λ p q small low same there.
+          let from = led p there in
+          let letter = letter_within (letters_of d) (states_of d) (edges_of d p) a from.0 (row_of d table p).in_range from.3 in
+          leading q (union.whole (next_of d p a) (next_of d q a) (next_within d table p a) (next_within d table q a)
+          (λ w over. sym (accepts_from-next d p a w) ∙ same (a ∷ w) (letter, over) ∙ accepts_from-next d q a w)
+          (subst (Contains into) (sym (next_is p a from.0 from.3)) from.1));
+    }
+
+module _ (d : Automaton) where
+  -- the accepting states
+  pub IsUnion-accepting : (states : List ℕ) → AreAcceptingStates d states → IsUnion d states
+  IsUnion-accepting states are = record {
+    within = λ k z inside. ((are (get_or states k z)).0 (Contains-get_or states k z inside)).0;
+    whole = λ p q small low same there.
+        let accepts : accepting_of d q ≡ true = sym (same [] tt) ∙ ((are p).0 there).1 in
+        (are q).1 (by q accepts (cases_lt q (states_of d)), accepts);
+  }
+    where
+      by : (q : ℕ) → accepting_of d q ≡ true → (q < states_of d) ⊎ (states_of d ≤ q) → q < states_of d
+      by q accepts (inl less) = less
+      by q accepts (inr past) = let refuses : accepting_of d q ≡ false = not_accepting_past d q past in absurd (cc)
+
+  -- the states of a class in a union
+  module _ (classes : List ℕ) (coarse : IsCoarse d classes) (union : List ℕ) (is : IsUnion d union) (class : ℕ) (states : List ℕ) (gathered : IsGathered (edges_by_class classes union) class states) where
+    in_class : (q : ℕ) → Contains (edges_by_class classes union) (edge_to class q) → Contains union q × (class_of classes q ≡ class)
+    in_class q there =
+        let found = Contains-from_map (λ (x : ℕ). edge_to (class_of classes x) x) union (edge_to class q) there in
+        let same : found.0 ≡ q = ap (λ (e : Edge). e.target) found.2 in
+        let one : class_of classes found.0 ≡ class = ap (λ (e : Edge). e.letter) found.2 in
+        (subst (Contains union) same found.1, ap (class_of classes) (sym same) ∙ one)
+
+    of_class : (q : ℕ) → Contains union q → class_of classes q ≡ class → Contains states q
+    of_class q there one = (gathered.targets q).1
+        (subst (λ (a : ℕ). Contains (edges_by_class classes union) (edge_to a q)) one (Contains-map (λ (x : ℕ). edge_to (class_of classes x) x) union q there))
+
+    pub IsUnion-class : IsUnion d states
+    IsUnion-class = record {
+      within = λ k z inside.
+          let x = get_or states k z in
+          All-contains (λ q. q < states_of d) union x is.within (in_class x ((gathered.targets x).0 (Contains-get_or states k z inside))).0;
+      whole = λ p q small low same there.
+          let of = in_class p ((gathered.targets p).0 there) in
+          of_class q (is.whole p q small low same of.0) (sym (coarse p q small low same) ∙ of.1);
+    }
+
+    -- the class is that of some state
+    pub class_below : (count : ℕ) → ((q : ℕ) → q ≤ states_of d → class_of classes q < count) → class < count
+    class_below count below =
+        let of = in_class gathered.edge.0 gathered.edge.1 in
+        let inside : gathered.edge.0 < states_of d = All-contains (λ q. q < states_of d) union gathered.edge.0 is.within of.0 in
+        omega (arith, below gathered.edge.0 (omega arith), of.1)
+
+-- no state has got the class yet
+pub IsGiven-none : (old : List ℕ) (class : ℕ) → IsGiven old old [] class
+IsGiven-none old class = record { width = refl; there = λ q there. absurd (Contains-none q there); elsewhere = λ q none. refl }
+
+-- one more state has got it
+pub IsGiven-more : (old mid states : List ℕ) (class i : ℕ) → i < length states → get_or states i 0 < length old → IsGiven old mid (take i states) class
+    → IsGiven old (set mid (get_or states i 0) class) (take (i + 1) states) class
+IsGiven-more old mid states class i within inside given = record {
+  width = length-set mid x class ∙ given.width;
+  there = λ q there. got q (cases_eq q x) (Contains-push_cases (take i states) x q (subst (λ (xs : List ℕ). Contains xs q) front there));
+  elsewhere = λ q none.
+      get_or-set_other mid x q class 0 (λ is. none (subst (λ (xs : List ℕ). Contains xs q) (sym front) (subst (Contains (take i states ++ x ∷ [])) (sym is) (Contains-push (take i states) x))))
+      ∙ given.elsewhere q (λ there. none (subst (λ (xs : List ℕ). Contains xs q) (sym front) (Contains-append_left (take i states) (x ∷ []) q there)));
+}
+  where
+    x : ℕ
+    x = get_or states i 0
+
+    front : take (i + 1) states ≡ take i states ++ x ∷ []
+    front = take_more states i 0 within
+
+    here : class_of (set mid x class) x ≡ class
+    here = get_or-set_same mid x class 0 (omega (arith, inside, given.width))
+
+    got : (q : ℕ) → (q ≡ x) ⊎ (q ≡ x → ⊥) → Contains (take i states) q ⊎ (x ≡ q) → class_of (set mid x class) q ≡ class
+    got q (inl is) cases = ap (class_of (set mid x class)) is ∙ here
+    got q (inr other) (inl before) = get_or-set_other mid x q class 0 other ∙ given.there q before
+    got q (inr other) (inr is) = absurd (other (sym is))
+
+module _ (d : Automaton) (old new states : List ℕ) (class : ℕ) (union : IsUnion d states) (given : IsGiven old new states class) where
+  -- a new class for a union parts no states with one residual language
+  pub IsCoarse-given : IsCoarse d old → IsCoarse d new
+  IsCoarse-given coarse p q small low same = by (cases_contains states p)
+    where
+      by : Contains states p ⊎ (Contains states p → ⊥) → class_of new p ≡ class_of new q
+      by (inl there) = given.there p there ∙ sym (given.there q (union.whole p q small low same there))
+      by (inr none) = given.elsewhere p none ∙ coarse p q small low same ∙ sym (given.elsewhere q (λ there. none (union.whole q p low small (λ w over. sym (same w over)) there)))
+
+  module _ (sizes : List ℕ) (members pending : List (List ℕ)) (parted : AreParted d old sizes members pending) (count : class ≡ length members) where
+    -- the states left in a class
+    pub IsUnion-left : (kept : ℕ) → 0 < kept → kept < length members → IsUnion d (states_with new (list_at members kept) kept)
+    IsUnion-left kept other before = record {
+      within = All-filter (λ q. class_of new q == kept) (λ q. q < states_of d) (list_at members kept) inside;
+      whole = λ p q small low same there.
+          let of = Contains-from_filter (λ (x : ℕ). class_of new x == kept) (list_at members kept) p there in
+          let one : class_of new q ≡ kept = sym (IsCoarse-given parted.coarse p q small low same) ∙ eqb-true (class_of new p) kept of.1 in
+          Contains-filter (λ (x : ℕ). class_of new x == kept) (list_at members kept) q (by q low one (cases_contains states q) (cases_lt q (states_of d))) (eq-eqb (class_of new q) kept one);
+    }
+      where
+        inside : All (λ q. q < states_of d) (list_at members kept)
+        inside = parted.inside kept [] before
+
+        by : (q : ℕ) → q ≤ states_of d → class_of new q ≡ kept → Contains states q ⊎ (Contains states q → ⊥) → (q < states_of d) ⊎ (states_of d ≤ q) → Contains (list_at members kept) q
+        by q low one (inl there) cases = absurd (omega (arith, given.there q there, one, count, before))
+        by q low one (inr none) (inl less) =
+            let was : class_of old q ≡ kept = sym (given.elsewhere q none) ∙ one in
+            subst (λ (k : ℕ). Contains (list_at members k) q) was (parted.covered q less (omega (arith, was, other)))
+        by q low one (inr none) (inr past) =
+            let is : q ≡ states_of d = omega arith in
+            absurd (omega (arith, given.elsewhere q none, one, other, ap (class_of old) is, parted.sink))
+
+    pub IsUnion-one_of : (kept : ℕ) (set : List ℕ) → kept < length members → IsOneOf set states kept (states_with new (list_at members kept) kept) → IsUnion d set
+    IsUnion-one_of kept set before (inl is) = subst (IsUnion d) (sym is) union
+    IsUnion-one_of kept set before (inr left) = subst (IsUnion d) (sym left.1) (IsUnion-left kept left.0 before)
+
+    -- the classes with a new one
+    pub AreParted-split : (more : List ℕ) (set : List ℕ) → length more ≡ length sizes + 1 → IsUnion d set → AreParted d new more (members ++ states ∷ []) (pending ++ set ∷ [])
+    AreParted-split more set sized next = record {
+      table = parted.table;
+      width = given.width ∙ parted.width;
+      counts = omega (arith, sized, parted.counts, size);
+      below = λ q low. below q low (cases_contains states q);
+      sink = given.elsewhere (states_of d) outside ∙ parted.sink;
+      coarse = IsCoarse-given parted.coarse;
+      inside = All-push (All (λ q. q < states_of d)) members states parted.inside union.within;
+      covered = λ q less some. covered q less some (cases_contains states q);
+      unions = All-push (IsUnion d) pending set parted.unions next;
+    }
+      where
+        size : length (members ++ states ∷ []) ≡ length members + 1
+        size = length_push members states
+
+        outside : Contains states (states_of d) → ⊥
+        outside there = omega (arith, All-contains (λ q. q < states_of d) states (states_of d) union.within there)
+
+        below : (q : ℕ) → q ≤ states_of d → Contains states q ⊎ (Contains states q → ⊥) → class_of new q < length (members ++ states ∷ [])
+        below q low (inl there) = omega (arith, size, given.there q there, count)
+        below q low (inr none) = omega (arith, size, given.elsewhere q none, parted.below q low)
+
+        covered : (q : ℕ) → q < states_of d → 0 < class_of new q → Contains states q ⊎ (Contains states q → ⊥) → Contains (list_at (members ++ states ∷ []) (class_of new q)) q
+        covered q less some (inl there) =
+            subst (λ (xs : List ℕ). Contains xs q) (sym (get_or_push members states [] (class_of new q) (sym count ∙ sym (given.there q there)))) there
+        covered q less some (inr none) =
+            let kept = given.elsewhere q none in
+            subst (λ (k : ℕ). Contains (list_at (members ++ states ∷ []) k) q) (sym kept)
+            (subst (λ (xs : List ℕ). Contains xs q) (sym (get_or_append_left members (states ∷ []) [] (class_of old q) (parted.below q (omega arith)))) (parted.covered q less (omega (arith, kept, some))))
+
+-- one set is no longer pending
+pub AreParted-pop : (d : Automaton) (classes sizes : List ℕ) (members : List (List ℕ)) (old new : List (Vec ℕ Global)) (r : Option (Vec ℕ Global)) → old ≡ new ++ option_to_list r → AreParted d classes sizes members (lists_in old)
+    → AreParted d classes sizes members (lists_in new) × IfSome r (λ (v : Vec ℕ Global). IsUnion d v.items)
+AreParted-pop d classes sizes members old new r is parted = (
+  record {
+    table = parted.table;
+    width = parted.width;
+    counts = parted.counts;
+    below = parted.below;
+    sink = parted.sink;
+    coarse = parted.coarse;
+    inside = parted.inside;
+    covered = parted.covered;
+    unions = All-map (IsUnion d) (λ (v : Vec ℕ Global). v.items) new both.0;
+  },
+  both.1,
+)
+  where
+    all : All (λ (v : Vec ℕ Global). IsUnion d v.items) old
+    all k z within = subst (IsUnion d) (get_or-map (λ (v : Vec ℕ Global). v.items) old k z z.items within) (parted.unions k z.items (omega (arith, within, length-map old (λ (v : Vec ℕ Global). v.items))))
+
+    both : All (λ (v : Vec ℕ Global). IsUnion d v.items) new × IfSome r (λ (v : Vec ℕ Global). IsUnion d v.items)
+    both = All-pop (λ (v : Vec ℕ Global). IsUnion d v.items) old new r is all

@@ -1,0 +1,14 @@
+use Rattle.std.proofs.Common.{◌≡◌, ap, sym, subst, ◌∙◌}
+use Rattle.minimise.specs.Canonical.{IsCanonical}
+use Rattle.minimise.proofs.SameLemmas.{same_automata}
+use Rattle.minimise.proofs.CanonicalLemmas.{canonical_forms}
+use Rattle.digit_tuple.specs.Deterministic.{Automaton}
+use Rattle.minimise.proofs.comparison.is_canonical.Goals as goal
+
+pub returns : goal.returns
+returns c =
+    let d = c.args.d.now in
+    let least = c.in_ok-least.least in (
+      (λ is. subst IsCanonical (same_automata least d c.in_ok-least.ensures.sizes (c.have_equal_states.ensures.0 is)) c.in_ok-least.ensures.canonical),
+      (λ is. c.have_equal_states.ensures.1 (ap (λ (x : Automaton). x.states) (sym (canonical_forms d least is c.in_ok-least.ensures.canonical (sym c.in_ok-least.ensures.sizes) c.in_ok-least.ensures.language)))),
+    )

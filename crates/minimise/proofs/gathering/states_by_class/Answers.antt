@@ -1,0 +1,19 @@
+use Rattle.std.proofs.Common.{◌≡◌, ◌∷◌, ◌++◌, ℕ, List, IfOk, [], get_or, sym, ap, ◌∙◌, subst, arith}
+use Rattle.std.specs.List.{All}
+use Rattle.std.proofs.lemmas.List.{take_all, map_more}
+use Rattle.digit_tuple.specs.declared.edges.Edge.{Edge}
+use Rattle.determinise.specs.Reversed.{edge_to}
+use Rattle.minimise.specs.Classes.{class_of}
+use Rattle.minimise.specs.Gathering.{IsGathered, edges_by_class}
+use Rattle.minimise.proofs.gathering.states_by_class.Goals as goal
+
+pub loop-state-preserved : goal.loop-state-preserved
+loop-state-preserved c =
+    let classes = c.args.classes.now in
+    let state = get_or c.args.set.now c.loop-state.state-index 0 in
+    c.in_ok-push.ensures.items ∙ ap (λ (es : List Edge). es ++ edge_to (class_of classes state) state ∷ []) c.loop-state.invariant ∙ sym (map_more (λ (q : ℕ). edge_to (class_of classes q) q) c.args.set.now c.loop-state.state-index 0 (omega arith))
+
+pub returns : goal.returns
+returns c =
+    let all : c.loop-state.edges.items ≡ edges_by_class c.args.classes.now c.args.set.now = c.loop-state.invariant ∙ ap (edges_by_class c.args.classes.now) (take_all c.loop-state.state-index c.args.set.now (omega arith)) in
+    subst (λ (es : List Edge). IfOk c.gathered.result (λ parts. All (λ part. IsGathered es part.letter part.key.items) parts.items)) all c.gathered.ensures

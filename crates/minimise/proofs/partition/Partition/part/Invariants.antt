@@ -1,0 +1,9 @@
+use Rattle.std.proofs.Common.{◌≤◌, length}
+use Rattle.minimise.specs.Partition.{IsPartition}
+use Rattle.minimise.proofs.partition.Partition.part.Given as goal
+
+abbrev pub invariant-loop-part : goal.invariant-loop-part
+invariant-loop-part l = record {
+  partition : IsPartition l.dfa l.self;
+  grown : length l.fn.self.members.items ≤ length l.self.members.items;
+}

@@ -1,0 +1,58 @@
+-- Classes of states that are being parted.
+use Rattle.std.specs.Prelude.{◌≡◌, ◌==◌, ℕ, ◌+◌, ◌<◌, ◌≤◌, true, List, [], map, filter, length, slice_index_or, ◌↔◌, ◌⊎◌, Vec}
+use Rattle.std.specs.List.{All, Contains}
+use Rattle.std.specs.declared.alloc.Global.{Global}
+use Rattle.digit_tuple.specs.Deterministic.{Automaton, IsTable, letters_of, states_of, accepting_of}
+use Rattle.minimise.specs.Residuals.{SameResidual}
+use Rattle.minimise.specs.Classes.{class_of}
+use Rattle.minimise.specs.declared.partition.Partition.{Partition}
+
+-- states with one residual language have one class
+abbrev pub IsCoarse : Automaton → List ℕ → Type 0
+IsCoarse d classes = (p q : ℕ) → p ≤ states_of d → q ≤ states_of d → SameResidual d p d q → class_of classes p ≡ class_of classes q
+
+-- with a state, the set has all states that have its residual language; the sink is none of them
+pub record IsUnion (d : Automaton) (set : List ℕ) : Type 0 where
+  pub within : All (λ q. q < states_of d) set
+  pub whole : (p q : ℕ) → p ≤ states_of d → q ≤ states_of d → SameResidual d p d q → Contains set p → Contains set q
+
+-- the set has the accepting states
+abbrev pub AreAcceptingStates : Automaton → List ℕ → Type 0
+AreAcceptingStates d set = (q : ℕ) → Contains set q ↔ ((q < states_of d) × (accepting_of d q ≡ true))
+
+-- the states of the list that have the class
+abbrev pub states_with : List ℕ → List ℕ → ℕ → List ℕ
+states_with classes states class = filter (λ q. class_of classes q == class) states
+
+-- the states of the list have got the class, and all others have their old ones
+pub record IsGiven (old new states : List ℕ) (class : ℕ) : Type 0 where
+  pub width : length new ≡ length old
+  pub there : (q : ℕ) → Contains states q → class_of new q ≡ class
+  pub elsewhere : (q : ℕ) → ¬ Contains states q → class_of new q ≡ class_of old q
+
+-- the set is one or the other: those that leave, or the states left in a class that is not the sink's
+abbrev pub IsOneOf : List ℕ → List ℕ → ℕ → List ℕ → Type 0
+IsOneOf set leaving class left = (set ≡ leaving) ⊎ ((0 < class) × (set ≡ left))
+
+-- the list at a place
+abbrev pub list_at : List (List ℕ) → ℕ → List ℕ
+list_at lists place = slice_index_or lists place []
+
+-- the states of each class but the sink's, 0, stand in the class's list of members, and pending sets are unions of classes
+-- of states with one residual language, which are never parted
+pub record AreParted (d : Automaton) (classes sizes : List ℕ) (members pending : List (List ℕ)) : Type 0 where
+  pub table : IsTable (letters_of d) d.states
+  pub width : length classes ≡ states_of d + 1
+  pub counts : length sizes ≡ length members
+  pub below : (q : ℕ) → q ≤ states_of d → class_of classes q < length members
+  pub sink : class_of classes (states_of d) ≡ 0
+  pub coarse : IsCoarse d classes
+  pub inside : All (All (λ q. q < states_of d)) members
+  pub covered : (q : ℕ) → q < states_of d → 0 < class_of classes q → Contains (list_at members (class_of classes q)) q
+  pub unions : All (IsUnion d) pending
+
+abbrev pub lists_in : List (Vec ℕ Global) → List (List ℕ)
+lists_in lists = map (λ (list : Vec ℕ Global). list.items) lists
+
+abbrev pub IsPartition : Automaton → Partition → Type 0
+IsPartition d p = AreParted d p.classes.items p.sizes.items (lists_in p.members.items) (lists_in p.pending.items)

@@ -1,0 +1,16 @@
+-- Canonical automata whose tracks have names.
+use Rattle.std.specs.Prelude.{◌≡◌, ℕ, List, length}
+use Rattle.digit_tuple.specs.Names.{AreDistinct}
+use Rattle.digit_tuple.specs.Deterministic.{Automaton}
+use Rattle.minimise.specs.Canonical.{IsCanonical}
+
+-- an automaton, and the names of its tracks in their order
+pub record NamedAutomaton : Type 0 where
+  pub names : List (List ℕ)
+  pub automaton : Automaton
+
+-- the automaton is canonical, and each track has a name of its own
+pub record IsTracked (tracked : NamedAutomaton) : Type 0 where
+  pub count : length tracked.names ≡ length tracked.automaton.sizes
+  pub distinct : AreDistinct tracked.names
+  pub canonical : IsCanonical tracked.automaton

@@ -1,0 +1,187 @@
+//! Classes of states, parted by Hopcroft's algorithm (John Hopcroft, "An n log n algorithm for
+//! minimizing states in a finite automaton") over the edges that are there, as in Antti Valmari and
+//! Petri Lehtinen, "Efficient minimization of DFAs with partial transition functions".
+//!
+//! One pending set after the other is taken, and for each letter each class is parted into the
+//! states from which the letter leads into the set, and the others. Of two parts the smaller is
+//! pending then, so that for n states a state is in about log n pending sets at most. Of the sink's
+//! class it is the states that leave, however many: no edges are kept that lead to the sink.
+//!
+//! For m edges the time is in the order of m log m log n at most, which automata reach whose classes
+//! are halved again and again. The factor log m is that of sorting, by letter and by class; counting
+//! in place of sorting would save it.
+
+ghost use Rattle.std.specs.Prelude.{◌≡◌, ◌+◌, ◌<◌, ◌≤◌, length, IfOk, OnOk};
+ghost use Rattle.std.specs.List.{All};
+ghost use Rattle.digit_tuple.specs.Deterministic.{IsTable, letters_of, states_of};
+ghost use Rattle.determinise.specs.Reversed.{IsReversal};
+ghost use Rattle.minimise.specs.Partition.{IsCoarse, IsUnion, IsGiven, IsOneOf, IsPartition, AreAcceptingStates, states_with};
+
+use crate::gathering::{states_by_class, targets_by_letter};
+use determinise::reversed::reversed;
+use digit_tuple::dfa::Dfa;
+use digit_tuple::faults::OutOfMemory;
+use digit_tuple::nfa::Nfa;
+use std::alloc::Global;
+
+/// The class of each state, and last that of the sink, where missing edges lead. States from which
+/// the same words are accepted have one class.
+pub fn parted(alloc: Global, dfa: &Dfa) -> Result<Vec<u32>, OutOfMemory>
+    ensures width { IfOk result (λ classes. length classes.items ≡ states_of dfa.now + 1) }
+    ensures coarse { IfOk result (λ classes. IsCoarse dfa.now classes.items) }
+    ensures table { IfOk result (λ _. IsTable (letters_of dfa.now) dfa.now.states) }
+{
+    let turned = reversed(alloc, dfa)?;
+    let accepting = accepting_states(alloc, dfa)?;
+    let mut partition = Partition::new(alloc, dfa)?;
+    partition.split(alloc, dfa, 0, &accepting)?;
+    // Each class but the sink's makes one set pending, so there are no more sets than states.
+    for _ in 0..dfa.states() {
+        match partition.pending.pop() {
+            Some(set) => partition.part_by(alloc, dfa, &turned, &set)?,
+            None => return Ok(partition.classes),
+        }
+    }
+    Ok(partition.classes)
+}
+
+/// The partition while it is refined.
+#[derive(Drop)]
+pub struct Partition {
+    // The class of each state, and last that of the sink, which is 0.
+    classes: Vec<u32>,
+    // How many states each class has, the sink among them.
+    sizes: Vec<usize>,
+    // The states of each class, and maybe some that have left it. Those of class 0 are not kept.
+    members: Vec<Vec<u32>>,
+    // The sets by which classes are still to be parted.
+    pending: Vec<Vec<u32>>,
+}
+
+impl Partition {
+    // One class of all states.
+    fn new(alloc: Global, dfa: &Dfa) -> Result<Self, OutOfMemory>
+        ensures partition { IfOk result (IsPartition dfa.now) }
+        ensures one { IfOk result (λ partition. length partition.members.items ≡ 1) }
+    {
+        let count = dfa.states() as usize + 1;
+        let mut members = Vec::new(alloc);
+        members.push(Vec::new(alloc))?;
+        Ok(Partition {
+            classes: vec![in alloc; 0; count]?,
+            sizes: vec![in alloc; count]?,
+            members,
+            pending: Vec::new(alloc),
+        })
+    }
+
+    // Parts classes by whether letters lead into the set.
+    fn part_by(
+        &mut self,
+        alloc: Global,
+        dfa: &Dfa,
+        turned: &Nfa,
+        set: &[u32],
+    ) -> Result<(), OutOfMemory>
+        requires partition { IsPartition dfa.now self.old }
+        requires turned { IsReversal dfa.now turned.now }
+        requires set { IsUnion dfa.now set.now }
+        ensures { OnOk result (IsPartition dfa.now self.new) }
+    {
+        let sources = targets_by_letter(alloc, turned, set)?;
+        for source in &sources {
+            self.part(alloc, dfa, &source.key)?;
+        }
+        Ok(())
+    }
+
+    // Parts classes by whether states are in the set.
+    fn part(&mut self, alloc: Global, dfa: &Dfa, set: &[u32]) -> Result<(), OutOfMemory>
+        requires partition { IsPartition dfa.now self.old }
+        requires set { IsUnion dfa.now set.now }
+        ensures { OnOk result (IsPartition dfa.now self.new) }
+    {
+        let parts = states_by_class(alloc, &self.classes, set)?;
+        for part in &parts {
+            self.split(alloc, dfa, part.letter, &part.key)?;
+        }
+        Ok(())
+    }
+
+    // Gives states of a class a new one, unless the class has no others.
+    fn split(
+        &mut self,
+        alloc: Global,
+        dfa: &Dfa,
+        class: u32,
+        states: &[u32],
+    ) -> Result<(), OutOfMemory>
+        requires partition { IsPartition dfa.now self.old }
+        requires class { class < length self.old.members.items }
+        requires states { IsUnion dfa.now states.now }
+        ensures partition { OnOk result (IsPartition dfa.now self.new) }
+        ensures grown { OnOk result (length self.old.members.items ≤ length self.new.members.items) }
+    {
+        let count = self.members.len();
+        let size = self.sizes[class as usize];
+        if states.len() >= size || count > dfa.states() as usize {
+            return Ok(());
+        }
+        let left = size - states.len();
+        give(&mut self.classes, states, count as u32);
+        self.sizes[class as usize] = left;
+        self.sizes.push(states.len())?;
+        let members = &self.members[class as usize];
+        let set = smaller(alloc, &self.classes, class, members, left, states)?;
+        self.members.push(Vec::from_slice(alloc, states)?)?;
+        self.pending.push(set)?;
+        Ok(())
+    }
+}
+
+// The states that accept.
+fn accepting_states(alloc: Global, dfa: &Dfa) -> Result<Vec<u32>, OutOfMemory>
+    ensures { IfOk result (λ set. AreAcceptingStates dfa.now set.items) }
+{
+    let mut set = Vec::new(alloc);
+    for state in 0..dfa.states() {
+        if dfa.accepting(state) {
+            set.push(state)?;
+        }
+    }
+    Ok(set)
+}
+
+// Gives the states the class.
+fn give(classes: &mut Vec<u32>, states: &[u32], class: u32)
+    requires { All (λ q. q < length classes.old.items) states.now }
+    ensures { IsGiven classes.old.items classes.new.items states.now class }
+{
+    for state in states {
+        classes[*state as usize] = class;
+    }
+}
+
+// The states that leave a class, or those left in it where they are fewer and it is not the sink's.
+fn smaller(
+    alloc: Global,
+    classes: &[u32],
+    class: u32,
+    members: &[u32],
+    left: usize,
+    leaving: &[u32],
+) -> Result<Vec<u32>, OutOfMemory>
+    requires { All (λ q. q < length classes.now) members.now }
+    ensures { IfOk result (λ set. IsOneOf set.items leaving.now class (states_with classes.now members.now class)) }
+{
+    if class == 0 || leaving.len() <= left {
+        return Ok(Vec::from_slice(alloc, leaving)?);
+    }
+    let mut states = Vec::with_capacity(alloc, left)?;
+    for state in members {
+        if classes[*state as usize] == class {
+            states.push(*state)?;
+        }
+    }
+    Ok(states)
+}

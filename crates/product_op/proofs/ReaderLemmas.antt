@@ -1,0 +1,58 @@
+-- The automata of the code, and what they say.
+use Rattle.std.proofs.Common.{◌≡◌, ℕ, ◌+◌, ◌<◌, ◌≤◌, Bool, true, false, ◌&&◌, List, [], ◌∷◌, ◌++◌, length, map, drop, take, get_or, sym, ap, ◌∙◌, arith}
+use Rattle.std.specs.List.{range_with_len}
+use Rattle.std.proofs.lemmas.List.{get_or-map, length-map, at_drop_more, at_drop_all, take_more, map-append}
+use Rattle.std.proofs.lemmas.List.FromFn.{length-map-range_with_len, get_or-map-range_with_len, map-range_with_len_more}
+use Rattle.digit_tuple.specs.Deterministic.{accepting_of}
+use Rattle.minimise.specs.Classes.{next_of}
+use Rattle.product_op.specs.declared.readers.Reader.{Reader}
+use Rattle.product_op.specs.Readings.{Reading, no_reading, reading_in, readings_in, reading_at, part_read, state_at, first_of, first_key, flags_at, flag_at, all_true}
+
+pub reading_at-reader : (readers : List Reader) (i : ℕ) (r : Reader) → i < length readers → r ≡ get_or readers i r → reading_at (readings_in readers) i ≡ reading_in r
+reading_at-reader readers i r within is = get_or-map reading_in readers i r no_reading within ∙ ap reading_in (sym is)
+
+pub length-readings : (readers : List Reader) → length (readings_in readers) ≡ length readers
+length-readings readers = length-map readers reading_in
+
+-- the first states of one more
+pub first_key_more : (readers : List Reader) (i : ℕ) (r : Reader) → i < length readers → r ≡ get_or readers i r
+    → first_key (readings_in (take (i + 1) readers)) ≡ first_key (readings_in (take i readers)) ++ first_of r.dfa.now ∷ []
+first_key_more readers i r within is =
+    ap (λ rs. first_key (readings_in rs)) (take_more readers i r within ∙ ap (λ x. take i readers ++ x ∷ []) (sym is))
+    ∙ ap first_key (map-append reading_in (take i readers) (r ∷ []))
+    ∙ map-append (λ x. first_of x.automaton) (readings_in (take i readers)) (reading_in r ∷ [])
+
+-- where the letter leads the first so many
+abbrev pub next_states_to : List Reading → List ℕ → ℕ → ℕ → List ℕ
+next_states_to rs key a count = map (λ i. next_of (reading_at rs i).automaton (state_at key i) (part_read (reading_at rs i) a)) (range_with_len 0 count)
+
+pub next_states_more : (readers : List Reader) (key : List ℕ) (a i : ℕ) (r : Reader) → i < length readers → r ≡ get_or readers i r
+    → next_states_to (readings_in readers) key a (i + 1) ≡ next_states_to (readings_in readers) key a i ++ next_of r.dfa.now (state_at key i) (get_or r.parts.items a 0) ∷ []
+next_states_more readers key a i r within is =
+    map-range_with_len_more (λ j. next_of (reading_at (readings_in readers) j).automaton (state_at key j) (part_read (reading_at (readings_in readers) j) a)) 0 i i (omega arith)
+    ∙ ap (λ (x : Reading). next_states_to (readings_in readers) key a i ++ next_of x.automaton (state_at key i) (part_read x a) ∷ []) (reading_at-reader readers i r within is)
+
+module _ (rs : List Reading) (key : List ℕ) where
+  -- whether one accepts
+  pub flag_at-is : (i : ℕ) → i < length rs → flag_at (flags_at rs key) i ≡ accepting_of (reading_at rs i).automaton (state_at key i)
+  flag_at-is i within = get_or-map-range_with_len (λ j. accepting_of (reading_at rs j).automaton (state_at key j)) 0 (length rs) i i false within (omega arith)
+
+  length-flags : length (flags_at rs key) ≡ length rs
+  length-flags = length-map-range_with_len (λ j. accepting_of (reading_at rs j).automaton (state_at key j)) 0 (length rs)
+
+  -- all of them from one on
+  pub all_true_more : (i : ℕ) → i < length rs → all_true (drop i (flags_at rs key)) ≡ (accepting_of (reading_at rs i).automaton (state_at key i) && all_true (drop (i + 1) (flags_at rs key)))
+  all_true_more i within =
+      at_drop_more all_true (flags_at rs key) i false (omega (arith, length-flags, within))
+      ∙ ap (λ b. b && all_true (drop (i + 1) (flags_at rs key))) (flag_at-is i within)
+
+  pub all_true_none : (i : ℕ) → length rs ≤ i → all_true (drop i (flags_at rs key)) ≡ true
+  all_true_none i past = at_drop_all all_true (flags_at rs key) i (omega (arith, length-flags, past))
+
+-- one more of the automata in the code
+pub all_true_step : (readers : List Reader) (key : List ℕ) (place : ℕ) (r : Reader) (answer : Bool) → place < length readers → r ≡ get_or readers place r → answer ≡ accepting_of r.dfa.now (state_at key place)
+    → all_true (drop place (flags_at (readings_in readers) key)) ≡ (answer && all_true (drop (place + 1) (flags_at (readings_in readers) key)))
+all_true_step readers key place r answer within is says =
+    all_true_more (readings_in readers) key place (omega (arith, length-readings readers, within))
+    ∙ ap (λ (x : Reading). accepting_of x.automaton (state_at key place) && all_true (drop (place + 1) (flags_at (readings_in readers) key))) (reading_at-reader readers place r within is)
+    ∙ ap (λ b. b && all_true (drop (place + 1) (flags_at (readings_in readers) key))) (sym says)

@@ -1,0 +1,71 @@
+//! Readers of automata on some of the tracks.
+
+ghost use Rattle.std.specs.Prelude.{◌≡◌, ◌<◌, ◌^◌, ◌++◌, length, IfOk, OnOk, map};
+ghost use Rattle.std.specs.Rc.{rc_value};
+ghost use Rattle.std.specs.List.{All, Contains, range_with_len};
+ghost use Rattle.digit_tuple.specs.Names.{places_of};
+ghost use Rattle.digit_tuple.specs.Parts.{picked};
+ghost use Rattle.product_op.specs.Readings.{reading_in, readings_in};
+ghost use Rattle.product_op.specs.TrackReadings.{read_on, whole_reading, track_readings, AllFitTracks};
+
+use crate::joint_tracks::places_in;
+use crate::readers::Reader;
+use digit_tuple::alphabet::Alphabet;
+use digit_tuple::dfa::Dfa;
+use digit_tuple::faults::OutOfMemory;
+use digit_tuple::letter_parts::letter_parts;
+use digit_tuple::name::Name;
+use minimise::tracked::Tracked;
+use std::alloc::Global;
+use std::rc::Rc;
+
+/// The reader of an automaton on the tracks of its names.
+pub fn argument_reader<'a>(
+    alloc: Global,
+    alphabet: &Alphabet,
+    names: &[Name],
+    argument: &'a Tracked,
+) -> Result<Reader<'a>, OutOfMemory>
+    requires count { length names.now ≡ length alphabet.now }
+    requires there { All (Contains names.now) argument.now.names }
+    requires sizes { picked (places_of names.now argument.now.names) alphabet.now ≡ argument.now.automaton.sizes }
+    ensures { IfOk result (λ reader. reading_in reader ≡ read_on alphabet.now argument.now.automaton (places_of names.now argument.now.names)) }
+{
+    let _tracks = alphabet.tracks();
+    let places = places_in(alloc, names, argument.names())?;
+    let dfa = argument.dfa();
+    let parts = letter_parts(alloc, alphabet, &places, dfa.alphabet())?;
+    Ok(Reader { dfa, parts })
+}
+
+/// The reader of an automaton on all tracks.
+pub fn whole_reader(alloc: Global, dfa: &Dfa) -> Result<Reader<'_>, OutOfMemory>
+    ensures { IfOk result (λ reader. reading_in reader ≡ whole_reading dfa.now) }
+{
+    let alphabet = dfa.alphabet();
+    let mut places = Vec::new(alloc);
+    for track in 0..alphabet.tracks() {
+        places.push(track)?;
+    }
+    let parts = letter_parts(alloc, alphabet, &places, alphabet)?;
+    Ok(Reader { dfa, parts })
+}
+
+/// Adds a reader of each language on its track.
+pub fn add_track_readers<'a>(
+    alloc: Global,
+    alphabet: &Alphabet,
+    languages: &'a [Rc<Dfa>],
+    readers: &mut Vec<Reader<'a>>,
+) -> Result<(), OutOfMemory>
+    requires { AllFitTracks alphabet.now (map rc_value languages.now) }
+    ensures { OnOk result (readings_in readers.new.items ≡ readings_in readers.old.items ++ track_readings alphabet.now (map rc_value languages.now)) }
+{
+    let _tracks = alphabet.tracks();
+    for (track, language) in languages.iter().enumerate() {
+        let dfa = language.as_ref();
+        let parts = letter_parts(alloc, alphabet, &[track as u32], dfa.alphabet())?;
+        readers.push(Reader { dfa, parts })?;
+    }
+    Ok(())
+}

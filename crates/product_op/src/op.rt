@@ -1,0 +1,42 @@
+//! Connectives of two arguments.
+
+ghost use Rattle.std.specs.Prelude.{◌≡◌};
+ghost use Rattle.product_op.specs.Connectives.{connective, among_valid};
+
+/// A connective of two arguments.
+#[derive(Clone, Copy, Debug, PartialEq, Eq)]
+pub enum Op {
+    And,
+    /// The first and not the second.
+    AndNot,
+    Or,
+    /// The one or the other and not both.
+    Xor,
+    /// If the first then the second.
+    Implies,
+    /// Both or none.
+    Iff,
+}
+
+impl Op {
+    /// What the connective says of two truth values.
+    pub fn holds(self, first: bool, second: bool) -> bool
+        ensures { result ≡ connective self first second }
+    {
+        match self {
+            Op::And => first && second,
+            Op::AndNot => first && !second,
+            Op::Or => first || second,
+            Op::Xor => first != second,
+            Op::Implies => !first || second,
+            Op::Iff => first == second,
+        }
+    }
+
+    /// Whether the connective is taken among valid words alone: each but `And` and `AndNot`.
+    pub fn is_among_valid(self) -> bool
+        ensures { result ≡ among_valid self }
+    {
+        !matches!(self, Op::And | Op::AndNot)
+    }
+}

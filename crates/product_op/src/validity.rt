@@ -1,0 +1,119 @@
+//! Parts of automata on valid words.
+
+ghost use Rattle.std.specs.Prelude.{◌≡◌, ◌+◌, ◌≤◌, ℕ, List, IfOk, map};
+ghost use Rattle.std.specs.Rc.{rc_value};
+ghost use Rattle.std.specs.Result.{IsErrOf};
+ghost use Rattle.digit_tuple.specs.Deterministic.{accepts_of, letters_of};
+ghost use Rattle.digit_tuple.specs.Letters.{IsWord};
+ghost use Rattle.digit_tuple.specs.Width.{HasApart, HasWidth};
+ghost use Rattle.minimise.specs.Canonical.{IsCanonical};
+ghost use Rattle.product_op.specs.Validity.{AreLanguages};
+ghost use Rattle.product_op.specs.Products.{in_complement, in_valid_part, ValidityAlike};
+ghost use Rattle.product_op.specs.Readings.{readings_in, flags_of, combined, arguments_of};
+ghost use Rattle.product_op.specs.TrackReadings.{AllFitTracks, validity_readings};
+
+use crate::argument_readers::{add_track_readers, whole_reader};
+use crate::readers::Reader;
+use crate::rule::Rule;
+use crate::side_by_side::tracked_side_by_side;
+use digit_tuple::alphabet::Alphabet;
+use digit_tuple::dfa::Dfa;
+use digit_tuple::faults::{OpFault, OutOfMemory};
+use digit_tuple::stepped::Stepped;
+use minimise::tracked::Tracked;
+use std::alloc::Global;
+use std::rc::Rc;
+
+/// The valid words that are not accepted: those whose track words are each in the track's language.
+/// The tracks are those of `a`, in their order, and `valid` has a canonical language for each. The
+/// result is canonical.
+///
+/// The width is the number of tuples of the residual of `a` and those of all tracks' languages, over
+/// all words, the empty residual counted too. `States` comes exactly where it passes the limit, and
+/// `Letters` never. Memory may also run out where 2^32 - 1 states are not enough. Time and memory
+/// follow the width times the letters.
+pub fn complement_in(
+    alloc: Global,
+    a: &Tracked,
+    valid: &[Rc<Dfa>],
+    limit: u32,
+) -> Result<Stepped<Tracked>, OpFault>
+    requires { AreLanguages a.now.automaton.sizes (map rc_value valid.now) }
+    ensures names { IfOk result (λ stepped. stepped.result.names ≡ a.now.names) }
+    ensures sizes { IfOk result (λ stepped. stepped.result.automaton.sizes ≡ a.now.automaton.sizes) }
+    ensures canonical { IfOk result (λ stepped. IsCanonical stepped.result.automaton) }
+    ensures language { IfOk result (λ stepped. (w : List ℕ) → IsWord (letters_of a.now.automaton) w
+        → accepts_of stepped.result.automaton w ≡ in_complement a.now (map rc_value valid.now) w) }
+    ensures width { IfOk result (λ stepped. HasWidth (ValidityAlike a.now (map rc_value valid.now)) (letters_of a.now.automaton) stepped.width) }
+    ensures within { IfOk result (λ stepped. stepped.width ≤ limit) }
+    ensures states { IsErrOf result OpFault.States → HasApart (ValidityAlike a.now (map rc_value valid.now)) (letters_of a.now.automaton) (limit + 1) }
+    ensures no_letters { ¬ IsErrOf result OpFault.Letters }
+{
+    among_valid(alloc, a, valid, Rule::NotFirst, limit)
+}
+
+/// The valid words that are accepted. The tracks, the languages, the width and the faults are as for
+/// `complement_in`. The result is canonical.
+pub fn valid_part(
+    alloc: Global,
+    a: &Tracked,
+    valid: &[Rc<Dfa>],
+    limit: u32,
+) -> Result<Stepped<Tracked>, OpFault>
+    requires { AreLanguages a.now.automaton.sizes (map rc_value valid.now) }
+    ensures names { IfOk result (λ stepped. stepped.result.names ≡ a.now.names) }
+    ensures sizes { IfOk result (λ stepped. stepped.result.automaton.sizes ≡ a.now.automaton.sizes) }
+    ensures canonical { IfOk result (λ stepped. IsCanonical stepped.result.automaton) }
+    ensures language { IfOk result (λ stepped. (w : List ℕ) → IsWord (letters_of a.now.automaton) w
+        → accepts_of stepped.result.automaton w ≡ in_valid_part a.now (map rc_value valid.now) w) }
+    ensures width { IfOk result (λ stepped. HasWidth (ValidityAlike a.now (map rc_value valid.now)) (letters_of a.now.automaton) stepped.width) }
+    ensures within { IfOk result (λ stepped. stepped.width ≤ limit) }
+    ensures states { IsErrOf result OpFault.States → HasApart (ValidityAlike a.now (map rc_value valid.now)) (letters_of a.now.automaton) (limit + 1) }
+    ensures no_letters { ¬ IsErrOf result OpFault.Letters }
+{
+    among_valid(alloc, a, valid, Rule::All, limit)
+}
+
+// The words of which the rule holds, by whether the automaton and each track's language accept.
+fn among_valid(
+    alloc: Global,
+    a: &Tracked,
+    valid: &[Rc<Dfa>],
+    rule: Rule,
+    limit: u32,
+) -> Result<Stepped<Tracked>, OpFault>
+    requires languages { AreLanguages a.now.automaton.sizes (map rc_value valid.now) }
+    requires enough { arguments_of rule ≤ 1 }
+    ensures names { IfOk result (λ stepped. stepped.result.names ≡ a.now.names) }
+    ensures sizes { IfOk result (λ stepped. stepped.result.automaton.sizes ≡ a.now.automaton.sizes) }
+    ensures canonical { IfOk result (λ stepped. IsCanonical stepped.result.automaton) }
+    ensures language { IfOk result (λ stepped. (w : List ℕ) → IsWord (letters_of a.now.automaton) w
+        → accepts_of stepped.result.automaton w ≡ combined rule (flags_of (validity_readings a.now.automaton (map rc_value valid.now)) w)) }
+    ensures width { IfOk result (λ stepped. HasWidth (ValidityAlike a.now (map rc_value valid.now)) (letters_of a.now.automaton) stepped.width) }
+    ensures within { IfOk result (λ stepped. stepped.width ≤ limit) }
+    ensures states { IsErrOf result OpFault.States → HasApart (ValidityAlike a.now (map rc_value valid.now)) (letters_of a.now.automaton) (limit + 1) }
+    ensures no_letters { ¬ IsErrOf result OpFault.Letters }
+{
+    let names = a.names();
+    let dfa = a.dfa();
+    let alphabet = dfa.alphabet().copy(alloc)?;
+    let readers = validity_readers(alloc, &alphabet, dfa, valid)?;
+    tracked_side_by_side(alloc, alphabet, names, &readers, rule, limit)
+}
+
+// The readers of the automaton and of each track's language.
+fn validity_readers<'a>(
+    alloc: Global,
+    alphabet: &Alphabet,
+    dfa: &'a Dfa,
+    valid: &'a [Rc<Dfa>],
+) -> Result<Vec<Reader<'a>>, OutOfMemory>
+    requires sizes { alphabet.now ≡ dfa.now.sizes }
+    requires languages { AllFitTracks dfa.now.sizes (map rc_value valid.now) }
+    ensures { IfOk result (λ readers. readings_in readers.items ≡ validity_readings dfa.now (map rc_value valid.now)) }
+{
+    let mut readers = Vec::new(alloc);
+    readers.push(whole_reader(alloc, dfa)?)?;
+    add_track_readers(alloc, alphabet, valid, &mut readers)?;
+    Ok(readers)
+}

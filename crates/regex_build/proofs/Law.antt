@@ -1,0 +1,124 @@
+-- What the machine says of tokens.
+use Rattle.std.proofs.Common.{◌≡◌, refl, sym, ◌∙◌, ap, subst, ℕ, List, [], ◌∷◌, ◌++◌, append_assoc, append-nil, Option, None, Some}
+use Rattle.std.specs.Prelude.{ℤ}
+use Rattle.text_grammar.specs.Faults.{Begins}
+use Rattle.regex_build.specs.declared.step.Step.{Step}
+use Rattle.regex_build.specs.Expression.{Expression}
+use Rattle.regex_build.specs.Postfix.{tree_of, IsPostfix}
+use Rattle.regex_build.specs.Tokens.{Token}
+use Rattle.regex_build.specs.Grammar.{Cat, Alt, alt_then, alt_tree, AltFits, Spells}
+use Rattle.regex_build.specs.Machine.{State, start, step, ended}
+use Rattle.regex_build.proofs.GrammarSteps.{alt_on, steps_tree, steps_postfix}
+use Rattle.regex_build.proofs.Runs.{after, run, run-append}
+use Rattle.regex_build.proofs.Complete.{alt_read, behind_all, whole_ends}
+use Rattle.regex_build.proofs.Zippers.{Front, Position, at_post, behind, at_number, behind_number, Zipper, begin, cat_with, alt_with, state_of, zipper_then, ZipperFits}
+use Rattle.regex_build.proofs.Sound.{Extends, Leads, extends, zip, pair, cat_fits, alt_fits}
+use Rattle.regex_build.proofs.Completions.{completes}
+
+-- a derivation is read whole
+reads_all : (tracks : ℕ) (a : Alt) → AltFits tracks a → run tracks (alt_then a []) start ≡ Some (behind_all a)
+reads_all tracks a f = alt_read tracks a [] [] [] f
+
+reads_tokens : (tracks : ℕ) (ts : List Token) (tree : Expression (List ℤ)) (w : Spells tracks ts tree) → run tracks ts start ≡ Some (behind_all w.text)
+reads_tokens tracks ts tree w = ap (λ us. run tracks us start) (sym w.spells) ∙ reads_all tracks w.text w.fits
+
+-- the part of a derivation that the tokens are
+pub record Reached (tracks : ℕ) (ts : List Token) (s : State) : Type 0 where
+  pub zipper : Zipper
+  pub state_is : state_of zipper ≡ s
+  pub spells : (r : List Token) → zipper_then zipper r ≡ ts ++ r
+  pub fits : ZipperFits tracks zipper
+
+pub reached_start : (tracks : ℕ) → Reached tracks [] start
+reached_start tracks = record { zipper = begin; state_is = refl; spells = λ r. refl; fits = record { outer = tt; front = (tt, tt); position = tt } }
+
+pub reached_more : (tracks : ℕ) (ts : List Token) (s n : State) (t : Token) → Reached tracks ts s → step tracks s t ≡ Some n → Reached tracks (ts ++ t ∷ []) n
+reached_more tracks ts s n t h e =
+    let along : step tracks (state_of h.zipper) t ≡ Some n = ap (λ (x : State). step tracks x t) h.state_is ∙ e in
+    let x : Extends tracks h.zipper t n = subst (λ (o : Option State). Leads tracks h.zipper t o) along (extends tracks h.zipper t) in
+    record { zipper = x.next; state_is = x.state_is; spells = λ r. x.spells r ∙ (h.spells (t ∷ r) ∙ sym (append_assoc ts (t ∷ []) r)); fits = x.fits h.fits }
+
+-- what was read begins a text
+pub begins : (tracks : ℕ) (ts : List Token) (s : State) → Reached tracks ts s → Begins (Spells tracks) ts
+begins tracks ts s h =
+    let c = completes tracks h.zipper h.fits in
+    (c.more, alt_tree c.text, record { text = c.text; spells = c.spells ∙ h.spells c.more; fits = c.fits; tree_is = refl })
+
+-- no text goes on with a token that is not read
+pub breaks : (tracks : ℕ) (ts : List Token) (s : State) (t : Token) → run tracks ts start ≡ Some s → step tracks s t ≡ None → Begins (Spells tracks) (ts ++ t ∷ []) → ⊥
+breaks tracks ts s t e none b =
+    let all : run tracks (ts ++ t ∷ b.0) start ≡ None = run-append tracks ts (t ∷ b.0) start s e ∙ ap (λ o. after o (λ n. run tracks b.0 n)) none in
+    let read : run tracks ((ts ++ t ∷ []) ++ b.0) start ≡ Some (behind_all b.2.text) = reads_tokens tracks ((ts ++ t ∷ []) ++ b.0) b.1 b.2 in
+    differ (sym read ∙ (ap (λ us. run tracks us start) (append_assoc ts (t ∷ []) b.0) ∙ all))
+  where
+    differ : {X : Type 0} {x : X} → Some x ≡ None → ⊥
+    differ e = cc
+
+same_some : {X : Type 0} (x y : X) → Some x ≡ Some y → x ≡ y
+same_some x y e = cc
+
+-- a text at whose end the machine does not end is none
+pub ends_early : (tracks : ℕ) (ts : List Token) (s : State) (tree : Expression (List ℤ)) → run tracks ts start ≡ Some s → ended s ≡ None → Spells tracks ts tree → ⊥
+ends_early tracks ts s tree e none w =
+    let same : s ≡ behind_all w.text = same_some s (behind_all w.text) (sym e ∙ reads_tokens tracks ts tree w) in
+    differ (sym (whole_ends w.text) ∙ (ap ended (sym same) ∙ none))
+  where
+    differ : {X : Type 0} {x : X} → Some x ≡ None → ⊥
+    differ e = cc
+
+record Whole (tracks : ℕ) (z : Zipper) (steps : List Step) : Type 0 where
+  text : Alt
+  steps_are : alt_on text [] ≡ steps
+  spells : alt_then text [] ≡ zipper_then z []
+  fits : AltFits tracks text
+
+whole_at : (tracks : ℕ) (fs : List Front) (a : Option Alt) (c : Option Cat) (p : Position) (steps : List Step) → ZipperFits tracks (zip fs (pair a c) p) → ended (state_of (zip fs (pair a c) p)) ≡ Some steps → Whole tracks (zip fs (pair a c) p) steps
+whole_at tracks [] a c (behind p) steps h e = record {
+  text = alt_with a (cat_with c p);
+  steps_are = same_some (alt_on (alt_with a (cat_with c p)) []) steps (steps_same a c ∙ e);
+  spells = spells_same a c;
+  fits = alt_fits tracks a (cat_with c p) h.front.0 (cat_fits tracks c p h.front.1 h.position);
+}
+  where
+    steps_same : (a : Option Alt) (c : Option Cat) → Some (alt_on (alt_with a (cat_with c p)) []) ≡ ended (state_of (zip [] (pair a c) (behind p)))
+    steps_same None None = refl
+    steps_same None (Some c) = refl
+    steps_same (Some a) None = refl
+    steps_same (Some a) (Some c) = refl
+
+    spells_same : (a : Option Alt) (c : Option Cat) → alt_then (alt_with a (cat_with c p)) [] ≡ zipper_then (zip [] (pair a c) (behind p)) []
+    spells_same None None = refl
+    spells_same None (Some c) = refl
+    spells_same (Some a) None = refl
+    spells_same (Some a) (Some c) = refl
+whole_at tracks [] a c at_post steps h e = absurd cc
+whole_at tracks [] a c (at_number o) steps h e = absurd cc
+whole_at tracks [] a c (behind_number ns) steps h e = absurd cc
+whole_at tracks (f ∷ fs) a c p steps h e = absurd cc
+
+-- a text at whose end the machine ends is that of its steps
+pub record Ended (tracks : ℕ) (ts : List Token) (steps : List Step) : Type 0 where
+  pub spells : Spells tracks ts (tree_of steps)
+  pub postfix : IsPostfix steps
+
+pub ends : (tracks : ℕ) (ts : List Token) (s : State) (steps : List Step) → Reached tracks ts s → ended s ≡ Some steps → Ended tracks ts steps
+ends tracks ts s steps h e =
+    let z = h.zipper in
+    let w = whole_at tracks z.outer z.front.alternatives z.front.sequence z.position steps h.fits (ap ended h.state_is ∙ e) in
+    record {
+      spells = record {
+        text = w.text;
+        spells = w.spells ∙ (h.spells [] ∙ append-nil ts);
+        fits = w.fits;
+        tree_is = sym (steps_tree w.text) ∙ ap tree_of w.steps_are;
+      };
+      postfix = subst IsPostfix w.steps_are (steps_postfix w.text);
+    }
+
+-- tokens spell one expression
+pub one_tree : (tracks : ℕ) (ts : List Token) (e f : Expression (List ℤ)) → Spells tracks ts e → Spells tracks ts f → e ≡ f
+one_tree tracks ts e f v w =
+    let same : behind_all v.text ≡ behind_all w.text = same_some (behind_all v.text) (behind_all w.text) (sym (reads_tokens tracks ts e v) ∙ reads_tokens tracks ts f w) in
+    let steps : alt_on v.text [] ≡ alt_on w.text [] =
+    same_some (alt_on v.text []) (alt_on w.text []) (sym (whole_ends v.text) ∙ (ap ended same ∙ whole_ends w.text)) in
+    sym v.tree_is ∙ (sym (steps_tree v.text) ∙ (ap tree_of steps ∙ (steps_tree w.text ∙ w.tree_is)))

@@ -1,0 +1,46 @@
+-- What a token keeps to apart from the grammar: numbers are members of their tracks' sets, and parentheses nest at most 128.
+use Rattle.std.specs.Prelude.{ℕ, suc, pred, ◌<◌, ◌^◌, nat_lt, Bool, ℤ, pos, negsuc, IsTrue, List, [], ◌∷◌, Contains, slice_index_or, ⊤}
+use Rattle.regex_build.specs.Tokens.{Token, opening, closing, unbracket, digit, number}
+
+-- what a token stands within and behind: how many open parentheses, and how many numbers of its brackets
+pub record Around : Type 0 where
+  pub nesting : ℕ
+  pub numbers : ℕ
+
+abbrev pub nothing : Around
+nothing = record { nesting = 0; numbers = 0 }
+
+-- what stands around the next token
+abbrev pub behind : Around → Token → Around
+behind a opening = record a { nesting = suc a.nesting }
+behind a closing = record a { nesting = pred a.nesting }
+behind a (number z) = record a { numbers = suc a.numbers }
+behind a unbracket = record a { numbers = 0 }
+behind a _ = a
+
+abbrev pub behind_all : Around → List Token → Around
+behind_all a [] = a
+behind_all a (t ∷ ts) = behind_all (behind a t) ts
+
+-- the set of a track
+abbrev pub set_at : List (List ℤ) → ℕ → List ℤ
+set_at sets track = slice_index_or sets track []
+
+-- a number of 32 bits, signed
+abbrev pub is_short : ℤ → Bool
+is_short (pos n) = nat_lt n (2 ^ 31)
+is_short (negsuc n) = nat_lt n (2 ^ 31)
+
+abbrev pub IsMember : List ℤ → ℤ → Type 0
+IsMember set z = IsTrue (is_short z) × Contains set z
+
+-- the token keeps to its limit
+abbrev pub IsAllowed : List (List ℤ) → Around → Token → Type 0
+IsAllowed sets a opening = a.nesting < 128
+IsAllowed sets a (digit d) = IsMember (set_at sets 0) (pos d)
+IsAllowed sets a (number z) = IsMember (set_at sets a.numbers) z
+IsAllowed sets a _ = ⊤
+
+abbrev pub AreAllowed : List (List ℤ) → Around → List Token → Type 0
+AreAllowed sets a [] = ⊤
+AreAllowed sets a (t ∷ ts) = IsAllowed sets a t × AreAllowed sets (behind a t) ts

@@ -1,0 +1,92 @@
+-- A machine that reads tokens to the steps of their expression.
+use Rattle.std.specs.Prelude.{ℕ, ◌==◌, nat_lt, Bool, true, false, not, ◌&&◌, ℤ, pos, List, [], ◌∷◌, ◌++◌, length, Option, None, Some}
+use Rattle.regex_build.specs.declared.step.Step.{Step}
+use Rattle.regex_build.specs.declared.step.Step.TheVariants as kinds
+use Rattle.regex_build.specs.declared.reading.Group.{Group}
+use Rattle.regex_build.specs.declared.reading.Place.{Place}
+use Rattle.regex_build.specs.declared.reading.Place.TheVariants.{AtPost, Behind, AtNumber, BehindNumber}
+use Rattle.regex_build.specs.Tokens.{Token, bar, star, plus, optional, dot, opening, closing, bracket, comma, unbracket, digit, number}
+
+-- the groups around, the innermost first; the group that is read; the numbers of an open bracket; the steps so far
+pub record State : Type 0 where
+  pub outer : List Group
+  pub group : Group
+  pub place : Place
+  pub letter : List ℤ
+  pub steps : List Step
+
+abbrev pub fresh : Group
+fresh = record { alternatives = false; sequence = false }
+
+abbrev pub start : State
+start = record { outer = []; group = fresh; place = AtPost; letter = []; steps = [] }
+
+abbrev pub gate : {X : Type 0} → Bool → Option X → Option X
+gate true o = o
+gate false o = None
+
+abbrev pub step_if : Bool → Step → List Step → List Step
+step_if true x ss = ss ++ x ∷ []
+step_if false x ss = ss
+
+-- behind one step more
+abbrev pub pushed : State → Step → State
+pushed s x = record s { place = Behind; steps = s.steps ++ x ∷ [] }
+
+-- the last post ends the sequence so far
+abbrev pub followed : State → State
+followed s = record s { group = record s.group { sequence = true }; steps = step_if s.group.sequence kinds.Follow s.steps }
+
+-- the last sequence ends the alternatives so far
+abbrev pub joined : State → State
+joined s = record s { group = record { alternatives = true; sequence = false }; steps = step_if s.group.alternatives kinds.Either (followed s).steps }
+
+-- a group ends
+abbrev pub close : List Group → State → Option State
+close [] s = None
+close (g ∷ gs) s = Some (record s { outer = gs; group = g; place = Behind })
+
+-- a post begins
+abbrev pub enter : ℕ → State → Token → Option State
+enter tracks s (digit d) = gate (tracks == 1) (gate (nat_lt d 10) (Some (pushed s (kinds.Letter (pos d ∷ [])))))
+enter tracks s dot = Some (pushed s kinds.Any)
+enter tracks s opening = Some (record s { outer = s.group ∷ s.outer; group = fresh; place = AtPost })
+enter tracks s bracket = gate (nat_lt 0 tracks) (Some (record s { place = AtNumber }))
+enter tracks s _ = None
+
+abbrev pub is_fresh : Group → Bool
+is_fresh g = not g.alternatives && not g.sequence
+
+abbrev pub step_at : ℕ → State → Place → Token → Option State
+step_at tracks s AtPost closing = gate (is_fresh s.group) (close s.outer (pushed s kinds.Empty))
+step_at tracks s AtPost t = enter tracks s t
+step_at tracks s Behind star = Some (pushed s kinds.Star)
+step_at tracks s Behind plus = Some (pushed s kinds.Plus)
+step_at tracks s Behind optional = Some (pushed s kinds.Optional)
+step_at tracks s Behind bar = Some (record (joined s) { place = AtPost })
+step_at tracks s Behind closing = close s.outer (joined s)
+step_at tracks s Behind t = enter tracks (followed s) t
+step_at tracks s AtNumber (number z) = Some (record s { place = BehindNumber; letter = s.letter ++ z ∷ [] })
+step_at tracks s AtNumber _ = None
+step_at tracks s BehindNumber comma = gate (nat_lt (length s.letter) tracks) (Some (record s { place = AtNumber }))
+step_at tracks s BehindNumber unbracket = gate (length s.letter == tracks) (Some (record (pushed s (kinds.Letter s.letter)) { letter = [] }))
+step_at tracks s BehindNumber _ = None
+
+-- one token more; none where no text goes on with it
+abbrev pub step : ℕ → State → Token → Option State
+step tracks s t = step_at tracks s s.place t
+
+-- the steps of a text that ends
+abbrev pub ended_at : List Group → Place → State → Option (List Step)
+ended_at [] Behind s = Some (joined s).steps
+ended_at _ _ s = None
+
+abbrev pub ended : State → Option (List Step)
+ended s = ended_at s.outer s.place s
+
+-- whether a bracket is open
+abbrev pub in_bracket : Place → Bool
+in_bracket AtPost = false
+in_bracket Behind = false
+in_bracket AtNumber = true
+in_bracket BehindNumber = true

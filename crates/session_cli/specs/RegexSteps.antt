@@ -1,0 +1,36 @@
+-- The step that makes the automaton of an expression.
+use Rattle.std.specs.Prelude.{◌≡◌, ℕ, ◌+◌, ◌≤◌, ℤ, List}
+use Rattle.digit_tuple.specs.Deterministic.{Automaton, states_of}
+use Rattle.digit_tuple.specs.Letters.{IsAlphabet, product}
+use Rattle.digit_tuple.specs.Sets.{sizes_of}
+use Rattle.digit_tuple.specs.Tuples.{IsLetterOf}
+use Rattle.digit_tuple.specs.Width.{HasApart, HasWidth}
+use Rattle.digit_tuple.specs.declared.kind.Kind.TheVariants as kinds
+use Rattle.digit_tuple.specs.declared.steps.StepLine.{StepLine}
+use Rattle.regex_build.specs.Expression.{Expression}
+use Rattle.regex_build.specs.LastMarks.{SameLastMarks}
+use Rattle.session_cli.specs.Texts.{IsRegexAutomaton}
+
+-- words are alike for the step where they have the same last marks
+abbrev pub AlikeBy : List (List ℤ) → Expression (List ℤ) → List ℕ → List ℕ → Type 0
+AlikeBy sets expression = SameLastMarks (IsLetterOf sets) expression
+
+-- The step is within the limits, and makes this automaton: its width is the number of the words that are not alike, and its size that of
+-- the automaton's states.
+pub record IsRegexStep (limit : ℕ) (sets : List (List ℤ)) (expression : Expression (List ℤ)) (automaton : Automaton) (step : StepLine) : Type 0 where
+  pub alphabet : IsAlphabet (sizes_of sets)
+  pub of_regex : IsRegexAutomaton sets expression automaton
+  pub kind_is : step.kind ≡ kinds.Regex
+  pub width : HasWidth (AlikeBy sets expression) (product (sizes_of sets)) step.width
+  pub size_is : step.size ≡ states_of automaton
+  pub small : step.size ≤ step.width
+  pub within : step.width ≤ limit
+
+-- the step passes the limit of letters or of tracks
+abbrev pub ExceedsLetters : List (List ℤ) → Type 0
+ExceedsLetters sets = ¬ IsAlphabet (sizes_of sets)
+
+-- or that of its width: there are limit + 1 words of which no two are alike
+pub record ExceedsStates (limit : ℕ) (sets : List (List ℤ)) (expression : Expression (List ℤ)) : Type 0 where
+  pub alphabet : IsAlphabet (sizes_of sets)
+  pub apart : HasApart (AlikeBy sets expression) (product (sizes_of sets)) (limit + 1)
