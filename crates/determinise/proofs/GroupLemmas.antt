@@ -12,7 +12,7 @@ use Rattle.digit_tuple.specs.Automaton.{IsBefore}
 use Rattle.determinise.proofs.MemberLemmas.{Contains-head}
 use Rattle.std.proofs.lemmas.List.Quantifiers.{all_pairs_push}
 use Rattle.digit_tuple.specs.declared.edges.Edge.{Edge}
-use Rattle.explore.specs.Keys.{Step, key_by, IsByEarlier}
+use Rattle.digit_tuple.specs.Keys.{Step, key_by, IsByEarlier}
 use Rattle.determinise.specs.Subsets.{some_set}
 use Rattle.determinise.specs.Groups.{targets_by, AreGroups}
 

@@ -14,8 +14,8 @@ use Rattle.digit_tuple.specs.Letters.{IsWord, product}
 use Rattle.digit_tuple.proofs.DfaLemmas.{row_at, target_by-in_range}
 use Rattle.digit_tuple.proofs.PathLemmas.{Path-in_range}
 use Rattle.digit_tuple.proofs.WordLemmas.{IsWord-push, IsWord-append, run_of-append, run_of-push, accepts_from-append}
-use Rattle.explore.specs.Keys.{key_run, key_accepts, LeadAlike}
-use Rattle.explore.proofs.KeyLemmas.{key_accepts-run}
+use Rattle.digit_tuple.specs.Keys.{key_run, key_accepts, LeadAlike}
+use Rattle.digit_tuple.proofs.KeyLemmas.{key_accepts-run}
 use Rattle.std.proofs.lemmas.Bool.{cases_lt}
 use Rattle.digit_tuple.specs.Width.{HasApart, HasWidth}
 use Rattle.determinise.specs.Reversed.{IsReversal, AreAccepting, SameReversedResidual, bare_automaton}

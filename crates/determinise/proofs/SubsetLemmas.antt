@@ -12,8 +12,8 @@ use Rattle.digit_tuple.specs.declared.edges.Edge.{Edge}
 use Rattle.digit_tuple.specs.Automaton.{Branching, IsBranchTable, IsBefore, Leads, Path, Accepts, edges_of, states_of, letters_of, accepting_of}
 use Rattle.digit_tuple.specs.Letters.{IsWord}
 use Rattle.digit_tuple.proofs.TableLemmas.{Leads-in_range}
-use Rattle.explore.specs.Keys.{Step, AreSteps, key_run, key_accepts, LeadAlike}
-use Rattle.explore.proofs.KeyLemmas.{key_accepts-run, key_run-keeps}
+use Rattle.digit_tuple.specs.Keys.{Step, AreSteps, key_run, key_accepts, LeadAlike}
+use Rattle.digit_tuple.proofs.KeyLemmas.{key_accepts-run, key_run-keeps}
 use Rattle.determinise.specs.Groups.{targets_by, AreGroups}
 use Rattle.determinise.specs.Subsets.{leads_to, targets_of, some_set, set_after, has_accepting, IsStateSet, Alike}
 use Rattle.determinise.specs.SubsetLaws.{AllPairs-range, start_is_state_set, after_is_state_set}

@@ -4,7 +4,7 @@ use Rattle.std.specs.Option.{option_map, option_map_or}
 use Rattle.std.proofs.lemmas.List.{get_or-map, length-map}
 use Rattle.digit_tuple.specs.declared.edges.Edge.{Edge}
 use Rattle.digit_tuple.specs.Deterministic.{Automaton, IsRow, target_by, step_of, accepts_from}
-use Rattle.explore.specs.Keys.{Step, AreSteps, key_by, key_accepts}
+use Rattle.digit_tuple.specs.Keys.{Step, AreSteps, key_by, key_accepts}
 use Rattle.determinise.specs.Trimmed.{state_after, state_accepts}
 
 -- the step that an edge stands for

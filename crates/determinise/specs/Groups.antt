@@ -2,7 +2,7 @@
 use Rattle.std.specs.Prelude.{◌≡◌, ◌==◌, ℕ, List, map, filter}
 use Rattle.std.specs.List.{All, AllPairs, Contains}
 use Rattle.digit_tuple.specs.declared.edges.Edge.{Edge}
-use Rattle.explore.specs.Keys.{Step, key_by, IsByEarlier}
+use Rattle.digit_tuple.specs.Keys.{Step, key_by, IsByEarlier}
 use Rattle.determinise.specs.Subsets.{some_set}
 
 -- the targets of the edges by the letter

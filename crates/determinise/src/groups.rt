@@ -4,12 +4,12 @@ ghost use Rattle.std.specs.Prelude.{◌≡◌, ◌≢◌, ℕ, ◌<◌, ◌≤�
 ghost use Rattle.std.specs.List.{AllPairs, AllWithin};
 ghost use Rattle.digit_tuple.specs.Automaton.{IsBefore};
 ghost use Rattle.digit_tuple.specs.declared.edges.Edge.{Edge};
-ghost use Rattle.explore.specs.Steps.{steps_in};
+ghost use Rattle.digit_tuple.specs.KeySteps.{steps_in};
 ghost use Rattle.determinise.specs.Groups.{AreGroups};
 
 use digit_tuple::edges::Edge;
 use digit_tuple::faults::OutOfMemory;
-use explore::source::KeyStep;
+use digit_tuple::source::KeyStep;
 use std::alloc::Global;
 
 /// The steps by the letters of the edges, each to the targets of the edges by its letter.

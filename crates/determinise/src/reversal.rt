@@ -16,7 +16,7 @@ use digit_tuple::dfa::Dfa;
 use digit_tuple::dfa_builder::DfaBuilder;
 use digit_tuple::faults::{OpFault, OutOfMemory};
 use digit_tuple::stepped::Stepped;
-use explore::exploration::explore;
+use digit_tuple::exploration::explore;
 use std::alloc::Global;
 
 /// A deterministic automaton that accepts the reversed words. The width is the number of residuals

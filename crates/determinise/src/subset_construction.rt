@@ -14,7 +14,7 @@ use digit_tuple::dfa::Dfa;
 use digit_tuple::faults::OpFault;
 use digit_tuple::nfa::Nfa;
 use digit_tuple::stepped::Stepped;
-use explore::exploration::explore;
+use digit_tuple::exploration::explore;
 use std::alloc::Global;
 
 /// A deterministic automaton with the language of the nondeterministic one. Its states are the sets

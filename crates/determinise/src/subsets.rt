@@ -11,7 +11,7 @@ use crate::groups::grouped;
 use digit_tuple::edges::Edge;
 use digit_tuple::faults::OutOfMemory;
 use digit_tuple::nfa::Nfa;
-use explore::source::{KeyStep, Source};
+use digit_tuple::source::{KeyStep, Source};
 use std::alloc::Global;
 
 /// The sets of states that words lead to from the states of a first set, each as the list of its

@@ -8,8 +8,8 @@ ghost use Rattle.determinise.specs.Trimmed.{IsStateKey, state_after, state_accep
 
 use digit_tuple::dfa::Dfa;
 use digit_tuple::faults::OutOfMemory;
-use explore::exploration::explore;
-use explore::source::{KeyStep, Source};
+use digit_tuple::exploration::explore;
+use digit_tuple::source::{KeyStep, Source};
 use std::alloc::Global;
 
 /// The states that words lead to, each alone.

@@ -5,6 +5,8 @@ pub mod LetterLemmas
 pub mod TupleLemmas
 pub mod PartLemmas
 pub mod NameLemmas
+pub mod JointNames
+pub mod RangeLemmas
 pub mod SystemLemmas
 pub mod TableLemmas
 pub mod PathLemmas
@@ -13,3 +15,10 @@ pub mod ShortlexLemmas
 pub mod WordLemmas
 pub mod WidthLemmas
 pub mod BuilderLemmas
+pub mod NumberingLemmas
+pub mod KeyStepLemmas
+pub mod KeyLemmas
+pub mod RowLemmas
+pub mod FrontierLemmas
+pub mod ExploredLemmas
+pub mod LetterSteps

@@ -1,4 +1,5 @@
 pub mod Letters
+pub mod Paddings
 pub mod Parts
 pub mod Names
 pub mod Sets
@@ -14,3 +15,6 @@ pub mod Shortlex
 pub mod FirstWords
 pub mod Kinds
 pub mod Steps
+pub mod Keys
+pub mod KeySteps
+pub mod Explored

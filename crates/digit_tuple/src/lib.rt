@@ -46,6 +46,15 @@ pub mod dfa_builder;
 /// Results of one step of a construction.
 pub mod stepped;
 
+/// Where keys and the steps from them come from.
+pub mod source;
+
+/// Keys, numbered in the order in which they were first seen.
+pub mod numbering;
+
+/// The exploration: one for every construction.
+pub mod exploration;
+
 /// Kinds of steps.
 pub mod kind;
 

@@ -4,10 +4,10 @@ use Rattle.std.specs.List.{All, Contains}
 use Rattle.std.proofs.lemmas.Bool.{eqb-true}
 use Rattle.std.proofs.lemmas.List.{get_or-map, length-map}
 use Rattle.digit_tuple.specs.declared.edges.Edge.{Edge}
-use Rattle.explore.specs.Keys.{Step}
-use Rattle.explore.specs.Steps.{step_in, steps_in}
-use Rattle.explore.specs.declared.source.KeyStep.{KeyStep}
-use Rattle.explore.proofs.FrontierLemmas.{key_by-at}
+use Rattle.digit_tuple.specs.Keys.{Step}
+use Rattle.digit_tuple.specs.KeySteps.{step_in, steps_in}
+use Rattle.digit_tuple.specs.declared.source.KeyStep.{KeyStep}
+use Rattle.digit_tuple.proofs.FrontierLemmas.{key_by-at}
 use Rattle.determinise.specs.Reversed.{edge_to}
 use Rattle.determinise.specs.Subsets.{some_set}
 use Rattle.determinise.specs.Groups.{targets_by, AreGroups}

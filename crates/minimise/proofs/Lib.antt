@@ -10,3 +10,5 @@ pub mod QuotientLemmas
 pub mod SameLemmas
 pub mod GatheringLemmas
 pub mod PartitionLemmas
+pub mod LeadLemmas
+pub mod ApartLemmas

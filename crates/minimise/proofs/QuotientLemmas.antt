@@ -9,10 +9,10 @@ use Rattle.digit_tuple.specs.declared.edges.Edge.{Edge}
 use Rattle.digit_tuple.specs.Deterministic.{Automaton, IsTable, letters_of, states_of, step_of, edges_of, target_by, accepts_from}
 use Rattle.digit_tuple.specs.FirstWords.{IsNumberedByFirsts}
 use Rattle.digit_tuple.specs.Letters.{product, IsWord}
-use Rattle.explore.specs.Keys.{Step, AreSteps, key_by}
-use Rattle.explore.specs.Explored.{IsExplored, key_at}
-use Rattle.explore.specs.Steps.{step_in, steps_in}
-use Rattle.explore.specs.declared.source.KeyStep.{KeyStep}
+use Rattle.digit_tuple.specs.Keys.{Step, AreSteps, key_by}
+use Rattle.digit_tuple.specs.Explored.{IsExplored, key_at}
+use Rattle.digit_tuple.specs.KeySteps.{step_in, steps_in}
+use Rattle.digit_tuple.specs.declared.source.KeyStep.{KeyStep}
 use Rattle.minimise.specs.Residuals.{SameResidual, SameLanguage}
 use Rattle.minimise.specs.Canonical.{IsCanonical}
 use Rattle.minimise.specs.Classes.{AreResiduals, class_of, next_of, dead_class}

@@ -3,7 +3,7 @@ use Rattle.std.proofs.Common.{◌≡◌, ℕ, ◌+◌, ◌<◌, ◌≤◌, List,
 use Rattle.std.proofs.lemmas.Bool.{cases_lt, cases_order}
 use Rattle.std.proofs.lemmas.List.{length_push, get_or_push, get_or_append_left}
 use Rattle.digit_tuple.specs.Deterministic.{Automaton, IsTable, letters_of, states_of}
-use Rattle.explore.specs.Explored.{AreApart, IsNumbered, key_at}
+use Rattle.digit_tuple.specs.Explored.{AreApart, IsNumbered, key_at}
 use Rattle.minimise.specs.Classes.{class_of}
 use Rattle.minimise.specs.Signatures.{signature_of}
 use Rattle.minimise.specs.Refinement.{AreRefined}

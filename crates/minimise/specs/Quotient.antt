@@ -3,7 +3,7 @@ use Rattle.std.specs.Prelude.{◌≡◌, ℕ, ◌+◌, ◌<◌, ◌≤◌, Bool,
 use Rattle.std.specs.Option.{option_map}
 use Rattle.digit_tuple.specs.Deterministic.{Automaton, IsTable, letters_of, states_of, accepting_of}
 use Rattle.digit_tuple.specs.declared.edges.Edge.{Edge}
-use Rattle.explore.specs.Keys.{Step}
+use Rattle.digit_tuple.specs.Keys.{Step}
 use Rattle.minimise.specs.Classes.{AreResiduals, class_of, next_of, live_class}
 
 -- the first states of a table have states of their classes in the list, at their classes

@@ -1,5 +1,5 @@
 -- Residual languages: the words that are accepted from a state.
-use Rattle.std.specs.Prelude.{◌≡◌, ℕ, false, List}
+use Rattle.std.specs.Prelude.{◌≡◌, ℕ, false, List, ◌++◌}
 use Rattle.digit_tuple.specs.Deterministic.{Automaton, letters_of, accepts_from, accepts_of}
 use Rattle.digit_tuple.specs.Letters.{IsWord}
 
@@ -14,3 +14,7 @@ SameLanguage d e = (w : List ℕ) → IsWord (letters_of d) w → accepts_of d w
 -- no word over the alphabet is accepted from q
 abbrev pub IsDead : Automaton → ℕ → Type 0
 IsDead d q = (w : List ℕ) → IsWord (letters_of d) w → accepts_from d q w ≡ false
+
+-- the automaton's language has one residual after both words: what follows the one and is accepted follows the other
+abbrev pub SameAfter : Automaton → List ℕ → List ℕ → Type 0
+SameAfter d w v = (u : List ℕ) → IsWord (letters_of d) u → accepts_of d (w ++ u) ≡ accepts_of d (v ++ u)

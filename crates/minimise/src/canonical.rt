@@ -8,7 +8,7 @@ use crate::classes::residual_classes;
 use crate::quotient::{Quotient, leaders};
 use digit_tuple::dfa::Dfa;
 use digit_tuple::faults::OutOfMemory;
-use explore::exploration::explore;
+use digit_tuple::exploration::explore;
 use std::alloc::Global;
 
 /// The canonical automaton with the same language: its states are the residual languages that words

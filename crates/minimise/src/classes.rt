@@ -15,7 +15,7 @@ use crate::partition::parted;
 use crate::signatures::signature;
 use digit_tuple::dfa::Dfa;
 use digit_tuple::faults::OutOfMemory;
-use explore::numbering::Numbering;
+use digit_tuple::numbering::Numbering;
 use std::alloc::Global;
 
 /// The class of each state, and last that of the sink, where missing edges lead. States have one

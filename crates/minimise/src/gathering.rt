@@ -9,7 +9,7 @@ use determinise::groups::grouped;
 use digit_tuple::edges::Edge;
 use digit_tuple::faults::OutOfMemory;
 use digit_tuple::nfa::Nfa;
-use explore::source::KeyStep;
+use digit_tuple::source::KeyStep;
 use std::alloc::Global;
 
 /// Where the edges from the states of the set lead, for each letter that one of them has.

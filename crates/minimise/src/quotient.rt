@@ -3,7 +3,7 @@
 ghost use Rattle.std.specs.Prelude.{◌≡◌, ◌+◌, ◌<◌, ◌≤◌, [], ◌∷◌, length, map, IfOk};
 ghost use Rattle.std.specs.List.{All};
 ghost use Rattle.digit_tuple.specs.Deterministic.{letters_of, states_of, edges_of};
-ghost use Rattle.explore.specs.Steps.{steps_in};
+ghost use Rattle.digit_tuple.specs.KeySteps.{steps_in};
 ghost use Rattle.minimise.specs.Classes.{class_of, dead_class};
 ghost use Rattle.minimise.specs.Signatures.{class_edges};
 ghost use Rattle.minimise.specs.Quotient.{AreLeaders, IsQuotient, IsClass, class_after, class_accepts, step_by};
@@ -11,7 +11,7 @@ ghost use Rattle.minimise.specs.QuotientLaws.{start_is_class, class_after_is_cla
 
 use digit_tuple::dfa::Dfa;
 use digit_tuple::faults::OutOfMemory;
-use explore::source::{KeyStep, Source};
+use digit_tuple::source::{KeyStep, Source};
 use std::alloc::Global;
 
 /// The classes of an automaton's states and its sink, and a state of each class. A key is a class

@@ -5,11 +5,11 @@ use Rattle.std.proofs.lemmas.List.{get_or-map, length-map}
 use Rattle.std.proofs.lemmas.List.FromFn.{fill_by_all, length-map-range_with_len, get_or-map-range_with_len}
 use Rattle.digit_tuple.specs.Letters.{IsWord}
 use Rattle.digit_tuple.specs.Deterministic.{letters_of, accepting_of, accepts_of}
-use Rattle.explore.specs.Keys.{key_run, key_accepts, LeadAlike}
-use Rattle.minimise.specs.Classes.{next_of}
-use Rattle.product_op.specs.Readings.{Reading, AreReadings, AreAlike, no_reading, reading_at, part_read, word_read, state_at, first_of, first_key, next_key, flags_at, flags_of}
-use Rattle.product_op.proofs.RangeLemmas.{map-range-same, map-range-list}
-use Rattle.product_op.proofs.LeadLemmas.{lead, accepting_of-lead, accepts_of-first, SameAfter-lead, one_lead}
+use Rattle.digit_tuple.specs.Keys.{key_run, key_accepts, LeadAlike}
+use Rattle.minimise.specs.Classes.{next_of, first_of}
+use Rattle.product_op.specs.Readings.{Reading, AreReadings, AreAlike, no_reading, reading_at, part_read, word_read, state_at, first_key, next_key, flags_at, flags_of}
+use Rattle.digit_tuple.proofs.RangeLemmas.{map-range-same, map-range-list}
+use Rattle.minimise.proofs.LeadLemmas.{lead, accepting_of-lead, accepts_of-first, SameAfter-lead, one_lead}
 
 some_value : (a b : List ℕ) → Some a ≡ Some b → a ≡ b
 some_value a b same = cc

@@ -1,9 +1,5 @@
-pub mod RangeLemmas
-pub mod LeadLemmas
 pub mod KeyLemmas
-pub mod StepLemmas
 pub mod ReaderLemmas
-pub mod TrackLemmas
 pub mod SizeLemmas
 pub mod ReadingLemmas
 pub mod ProductLemmas

@@ -17,12 +17,13 @@ use Rattle.product_op.specs.declared.rule.Rule.TheVariants.{Both, NotFirst}
 use Rattle.product_op.specs.declared.rule.Rule.TheVariants as rules
 use Rattle.product_op.specs.declared.readers.Reader.{Reader}
 use Rattle.product_op.specs.Connectives.{connective, among_valid}
-use Rattle.product_op.specs.Tracks.{AreJoint, AgreeOnShared, joint_names, joint_size, joint_sizes}
+use Rattle.digit_tuple.specs.Names.{AreJoint, joint_names}
+use Rattle.product_op.specs.Tracks.{AgreeOnShared, joint_size, joint_sizes}
 use Rattle.product_op.specs.Validity.{language_at, is_valid, TracksAlike}
 use Rattle.product_op.specs.Products.{joint_part, in_product, ProductAlike, in_complement, in_valid_part, ValidityAlike}
 use Rattle.product_op.specs.Readings.{Reading, IsReading, reading_in, readings_in, AreSideBySide, AreAlike, word_read, flags_of, all_true, combined, arguments_of}
 use Rattle.product_op.specs.TrackReadings.{read_on, whole_reading, track_reading, track_readings, counted_of, argument_reading, product_readings, validity_readings, AllFitTracks}
-use Rattle.product_op.proofs.TrackLemmas.{AreJoint-joint_names}
+use Rattle.digit_tuple.proofs.JointNames.{AreJoint-joint_names}
 use Rattle.product_op.proofs.SizeLemmas.{joint_size-first, joint_size-second, picked_sizes}
 use Rattle.product_op.proofs.ReadingLemmas.{IsReading-on, IsReading-whole, AreReadings-tracks, word_read-part, word_read-all, SameAfter-words, all_true-valid, tracks_from_alike, alike_from_tracks, alike_cons, alike_head, alike_tail}
 

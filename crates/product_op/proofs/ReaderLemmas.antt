@@ -4,9 +4,9 @@ use Rattle.std.specs.List.{range_with_len}
 use Rattle.std.proofs.lemmas.List.{get_or-map, length-map, at_drop_more, at_drop_all, take_more, map-append}
 use Rattle.std.proofs.lemmas.List.FromFn.{length-map-range_with_len, get_or-map-range_with_len, map-range_with_len_more}
 use Rattle.digit_tuple.specs.Deterministic.{accepting_of}
-use Rattle.minimise.specs.Classes.{next_of}
+use Rattle.minimise.specs.Classes.{next_of, first_of}
 use Rattle.product_op.specs.declared.readers.Reader.{Reader}
-use Rattle.product_op.specs.Readings.{Reading, no_reading, reading_in, readings_in, reading_at, part_read, state_at, first_of, first_key, flags_at, flag_at, all_true}
+use Rattle.product_op.specs.Readings.{Reading, no_reading, reading_in, readings_in, reading_at, part_read, state_at, first_key, flags_at, flag_at, all_true}
 
 pub reading_at-reader : (readers : List Reader) (i : ℕ) (r : Reader) → i < length readers → r ≡ get_or readers i r → reading_at (readings_in readers) i ≡ reading_in r
 reading_at-reader readers i r within is = get_or-map reading_in readers i r no_reading within ∙ ap reading_in (sym is)

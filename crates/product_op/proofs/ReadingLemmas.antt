@@ -8,8 +8,8 @@ use Rattle.digit_tuple.specs.Deterministic.{Automaton, letters_of, accepts_of}
 use Rattle.digit_tuple.specs.Parts.{picked, letter_part, part}
 use Rattle.digit_tuple.proofs.PartLemmas.{letter_part-below, get_or-parts, part-all, picked-all}
 use Rattle.minimise.specs.Canonical.{IsCanonical}
-use Rattle.product_op.specs.Residuals.{SameAfter}
-use Rattle.product_op.proofs.RangeLemmas.{All-range}
+use Rattle.minimise.specs.Residuals.{SameAfter}
+use Rattle.digit_tuple.proofs.RangeLemmas.{All-range}
 use Rattle.product_op.specs.Readings.{Reading, IsReading, AreReadings, AreAlike, no_reading, reading_at, word_read, flags_of, all_true}
 use Rattle.product_op.specs.Validity.{AreLanguages, language_at, is_valid, TracksAlike}
 use Rattle.product_op.specs.TrackReadings.{read_on, whole_reading, track_reading, track_readings, AllFitTracks}

@@ -1,5 +1,4 @@
 pub mod Connectives
-pub mod Residuals
 pub mod Tracks
 pub mod Validity
 pub mod Products

@@ -4,8 +4,9 @@ use Rattle.digit_tuple.specs.Deterministic.{Automaton, accepts_of}
 use Rattle.minimise.specs.Tracked.{NamedAutomaton}
 use Rattle.product_op.specs.declared.op.Op.{Op}
 use Rattle.product_op.specs.Connectives.{connective, among_valid}
-use Rattle.product_op.specs.Residuals.{SameAfter}
-use Rattle.product_op.specs.Tracks.{joint_names, joint_sizes, part_on}
+use Rattle.minimise.specs.Residuals.{SameAfter}
+use Rattle.digit_tuple.specs.Names.{joint_names}
+use Rattle.product_op.specs.Tracks.{joint_sizes, part_on}
 use Rattle.product_op.specs.Validity.{is_valid, TracksAlike}
 
 -- the part of a word over the joint tracks of a and b on the tracks of some names

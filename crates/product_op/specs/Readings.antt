@@ -1,12 +1,12 @@
 -- Automata that read parts of letters side by side; a key has a state of each. The sink of an automaton, where missing edges lead,
 -- is the number past its states.
-use Rattle.std.specs.Prelude.{◌≡◌, ◌==◌, ℕ, ◌<◌, ◌≤◌, Bool, false, not, ◌&&◌, List, [], length, map, drop, slice_index_or, if◌then◌else◌}
+use Rattle.std.specs.Prelude.{◌≡◌, ℕ, ◌<◌, ◌≤◌, Bool, false, not, ◌&&◌, List, [], length, map, drop, slice_index_or}
 use Rattle.std.specs.List.{All, list_all, range_with_len}
-use Rattle.digit_tuple.specs.Deterministic.{Automaton, states_of, letters_of, accepting_of, edges_of, accepts_of}
+use Rattle.digit_tuple.specs.Deterministic.{Automaton, states_of, letters_of, accepting_of, accepts_of}
 use Rattle.minimise.specs.Canonical.{IsCanonical}
-use Rattle.minimise.specs.Classes.{next_of}
+use Rattle.minimise.specs.Classes.{next_of, first_of}
 use Rattle.product_op.specs.Connectives.{connective}
-use Rattle.product_op.specs.Residuals.{SameAfter}
+use Rattle.minimise.specs.Residuals.{SameAfter}
 use Rattle.product_op.specs.declared.rule.Rule.{Rule}
 use Rattle.product_op.specs.declared.rule.Rule.TheVariants.{Both, NotFirst}
 use Rattle.product_op.specs.declared.rule.Rule.TheVariants as rules
@@ -45,10 +45,6 @@ pub record IsReading (letters : ℕ) (r : Reading) : Type 0 where
 
 abbrev pub AreReadings : ℕ → List Reading → Type 0
 AreReadings letters readings = All (IsReading letters) readings
-
--- the initial state, or the sink where no word is accepted
-abbrev pub first_of : Automaton → ℕ
-first_of d = if not (accepting_of d 0) && (length (edges_of d 0) == 0) then states_of d else 0
 
 abbrev pub state_at : List ℕ → ℕ → ℕ
 state_at key i = slice_index_or key i 0

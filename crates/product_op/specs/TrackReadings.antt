@@ -8,7 +8,8 @@ use Rattle.minimise.specs.Canonical.{IsCanonical}
 use Rattle.minimise.specs.Tracked.{NamedAutomaton}
 use Rattle.product_op.specs.declared.op.Op.{Op}
 use Rattle.product_op.specs.Connectives.{among_valid}
-use Rattle.product_op.specs.Tracks.{joint_names, joint_sizes}
+use Rattle.digit_tuple.specs.Names.{joint_names}
+use Rattle.product_op.specs.Tracks.{joint_sizes}
 use Rattle.product_op.specs.Validity.{language_at}
 use Rattle.product_op.specs.Readings.{Reading}
 

@@ -4,7 +4,7 @@ use Rattle.std.specs.List.{list_all, range_with_len}
 use Rattle.digit_tuple.specs.Deterministic.{Automaton, accepts_of}
 use Rattle.digit_tuple.specs.Parts.{part}
 use Rattle.minimise.specs.Canonical.{IsCanonical}
-use Rattle.product_op.specs.Residuals.{SameAfter}
+use Rattle.minimise.specs.Residuals.{SameAfter}
 
 abbrev pub no_language : Automaton
 no_language = record { sizes = []; states = [] }

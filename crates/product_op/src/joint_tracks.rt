@@ -1,20 +1,19 @@
 //! The tracks of two automata seen as one list.
 
-ghost use Rattle.std.specs.Prelude.{◌≡◌, ◌≤◌, ◌<◌, ◌^◌, ◌↔◌, ◌++◌, ◌∷◌, ℕ, List, length, take, drop, map, IfOk, OnOk, IfSome, IsTrue, MatchOption};
-ghost use Rattle.std.specs.List.{All, Contains};
+ghost use Rattle.std.specs.Prelude.{◌≡◌, ◌↔◌, map, IfOk, OnOk, IsTrue};
+ghost use Rattle.std.specs.List.{Contains};
 ghost use Rattle.std.specs.Result.{IsErrOf};
 ghost use Rattle.digit_tuple.specs.Letters.{IsAlphabet, IsTooLarge};
-ghost use Rattle.digit_tuple.specs.Names.{place_of, places_of};
+ghost use Rattle.digit_tuple.specs.Names.{joint_names as joint_names_of};
 ghost use Rattle.minimise.specs.Tracked.{IsTracked};
-ghost use Rattle.product_op.specs.Tracks.{AreJoint, AgreeOnShared, with_name, with_names, joint_names as joint_names_of, joint_size, joint_sizes, size_of};
+ghost use Rattle.product_op.specs.Tracks.{AgreeOnShared, joint_size, joint_sizes, size_of};
 
 use digit_tuple::alphabet::Alphabet;
 use digit_tuple::faults::{OpFault, OutOfMemory};
 use digit_tuple::name::Name;
-use digit_tuple::names::find_name;
+use digit_tuple::names::{find_name, joint_names};
 use minimise::tracked::Tracked;
 use std::alloc::Global;
-use std::cmp::Ordering;
 
 /// The tracks of two automata as one list: their names in byte order, and the alphabet over them.
 #[derive(Drop)]
@@ -40,78 +39,6 @@ pub fn joint_tracks(alloc: Global, a: &Tracked, b: &Tracked) -> Result<JointTrac
     let sizes = sizes_of_names(alloc, &names, a, b)?;
     let alphabet = Alphabet::new(alloc, &sizes)?;
     Ok(JointTracks { names, alphabet })
-}
-
-/// The names of both lists in byte order, each once. So stand the tracks of a product.
-pub fn joint_names(alloc: Global, first: &[Name], second: &[Name]) -> Result<Vec<Name>, OutOfMemory>
-    ensures names { IfOk result (λ names. names.items ≡ joint_names_of first.now second.now) }
-    ensures joint { IfOk result (λ names. AreJoint first.now second.now names.items) }
-{
-    let mut names = Vec::new(alloc);
-    insert_names(alloc, &mut names, first)?;
-    insert_names(alloc, &mut names, second)?;
-    Ok(names)
-}
-
-// Adds names at their places.
-fn insert_names(alloc: Global, names: &mut Vec<Name>, more: &[Name]) -> Result<(), OutOfMemory>
-    ensures { OnOk result (names.new.items ≡ with_names names.old.items more.now) }
-{
-    for name in more {
-        insert_name(alloc, names, name)?;
-    }
-    Ok(())
-}
-
-// Adds a name at its place, unless it is there.
-fn insert_name(alloc: Global, names: &mut Vec<Name>, name: &Name) -> Result<(), OutOfMemory>
-    ensures { OnOk result (names.new.items ≡ with_name names.old.items name.now) }
-{
-    if let Some(place) = new_place(names, name) {
-        names.insert(place, name.copy(alloc)?)?;
-    }
-    Ok(())
-}
-
-// The place at which the name is to stand, or None if it stands among the names.
-fn new_place(names: &[Name], name: &Name) -> Option<usize>
-    ensures within { IfSome result (λ place. place ≤ length names.now) }
-    ensures place { MatchOption result (with_name names.now name.now ≡ names.now)
-        (λ place. with_name names.now name.now ≡ take place names.now ++ name.now ∷ drop place names.now) }
-{
-    for (place, other) in names.iter().enumerate() {
-        match other.as_bytes().cmp(name.as_bytes()) {
-            Ordering::Less => {}
-            Ordering::Equal => return None,
-            Ordering::Greater => return Some(place),
-        }
-    }
-    Some(names.len())
-}
-
-/// The place of each of some names among the names. They are there, and fewer than 2^32.
-pub fn places_in(alloc: Global, names: &[Name], some: &[Name]) -> Result<Vec<u32>, OutOfMemory>
-    requires there { All (Contains names.now) some.now }
-    requires few { length names.now < 2 ^ 32 }
-    ensures { IfOk result (λ places. places.items ≡ places_of names.now some.now) }
-{
-    let mut places = Vec::with_capacity(alloc, some.len())?;
-    for name in some {
-        places.push(place_in(names, name))?;
-    }
-    Ok(places)
-}
-
-// The place of a name that is among the names.
-fn place_in(names: &[Name], name: &Name) -> u32
-    requires there { Contains names.now name.now }
-    requires few { length names.now < 2 ^ 32 }
-    ensures { result ≡ place_of names.now name.now }
-{
-    match find_name(names, name) {
-        Some(place) => place as u32,
-        None => unreachable!(),
-    }
 }
 
 /// The size of the track of each name, in the one automaton or the other.

@@ -2,16 +2,16 @@
 
 ghost use Rattle.std.specs.Prelude.{◌≡◌, ◌<◌, ◌≤◌, ℕ, List, Some, length, drop, map, IfOk, slice_index_or};
 ghost use Rattle.digit_tuple.specs.Deterministic.{states_of, accepting_of, IsTable, letters_of};
-ghost use Rattle.explore.specs.Keys.{AreSteps};
-ghost use Rattle.explore.specs.Steps.{steps_in};
-ghost use Rattle.minimise.specs.Classes.{next_of};
-ghost use Rattle.product_op.specs.Readings.{readings_in, reading_in, AreReadings, AreSideBySide, AreStates, first_of, first_key, next_key, flags_at, combined, all_true, arguments_of};
+ghost use Rattle.digit_tuple.specs.Keys.{AreSteps};
+ghost use Rattle.digit_tuple.specs.KeySteps.{steps_in};
+ghost use Rattle.minimise.specs.Classes.{next_of, first_of};
+ghost use Rattle.product_op.specs.Readings.{readings_in, reading_in, AreReadings, AreSideBySide, AreStates, first_key, next_key, flags_at, combined, all_true, arguments_of};
 ghost use Rattle.product_op.specs.ReadingLaws.{first_is_key, next_is_key};
 
 use crate::rule::Rule;
 use digit_tuple::dfa::Dfa;
 use digit_tuple::faults::OutOfMemory;
-use explore::source::{KeyStep, Source};
+use digit_tuple::source::{KeyStep, Source};
 use std::alloc::Global;
 
 /// An automaton, and the part of each letter that it reads. The number past its states is its sink,

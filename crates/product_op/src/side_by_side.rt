@@ -16,7 +16,7 @@ use digit_tuple::dfa::Dfa;
 use digit_tuple::faults::OpFault;
 use digit_tuple::name::Name;
 use digit_tuple::stepped::Stepped;
-use explore::exploration::explore;
+use digit_tuple::exploration::explore;
 use minimise::tracked::Tracked;
 use std::alloc::Global;
 

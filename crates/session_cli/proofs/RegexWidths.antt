@@ -7,7 +7,7 @@ use Rattle.digit_tuple.specs.Sets.{sizes_of}
 use Rattle.digit_tuple.specs.Width.{HasApart, HasWidth}
 use Rattle.digit_tuple.specs.declared.steps.StepLine.{StepLine}
 use Rattle.regex_build.specs.Expression.{Expression}
-use Rattle.regex_build.proofs.WidthSteps.{apart_within_width}
+use Rattle.minimise.proofs.ApartLemmas.{apart_within_width}
 use Rattle.session_cli.specs.RegexSteps.{AlikeBy, IsRegexStep, ExceedsStates}
 use Rattle.session_cli.proofs.RegexTexts.{one_automaton}
 

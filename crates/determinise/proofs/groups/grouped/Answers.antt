@@ -1,7 +1,7 @@
 use Rattle.std.proofs.Common.{◌≡◌, [], ◌∷◌, ◌++◌, take, get_or, refl, sym, ap, ◌∙◌, subst, arith}
 use Rattle.std.proofs.lemmas.List.{map-append}
 use Rattle.digit_tuple.specs.declared.edges.Edge.{Edge}
-use Rattle.explore.specs.Steps.{step_in, steps_in}
+use Rattle.digit_tuple.specs.KeySteps.{step_in, steps_in}
 use Rattle.determinise.specs.Groups.{AreGroups}
 use Rattle.determinise.proofs.GroupLemmas.{AreGroups-next, IsParted-next}
 use Rattle.determinise.proofs.groups.grouped.Goals as goal

@@ -1,6 +1,6 @@
 use Rattle.std.proofs.Common.{ℕ, ◌-◌, ◌<◌, ◌≤◌, length, take, get_or}
 use Rattle.digit_tuple.specs.declared.edges.Edge.{Edge}
-use Rattle.explore.specs.Steps.{steps_in}
+use Rattle.digit_tuple.specs.KeySteps.{steps_in}
 use Rattle.determinise.specs.Groups.{AreGroups}
 use Rattle.determinise.proofs.groups.grouped.Given as goal
 

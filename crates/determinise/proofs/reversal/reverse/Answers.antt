@@ -7,7 +7,7 @@ use Rattle.digit_tuple.specs.Letters.{IsWord, product}
 use Rattle.digit_tuple.specs.Width.{HasApart, HasWidth}
 use Rattle.digit_tuple.proofs.WidthLemmas.{HasApart-same, HasWidth-same}
 use Rattle.digit_tuple.proofs.WordLemmas.{IsWord-append}
-use Rattle.explore.specs.Keys.{LeadAlike}
+use Rattle.digit_tuple.specs.Keys.{LeadAlike}
 use Rattle.determinise.specs.Reversed.{AreAccepting, SameReversedResidual}
 use Rattle.determinise.specs.Subsets.{set_after}
 use Rattle.determinise.proofs.ReversalLemmas.{IsWord-reverse, key_accepts-reversed, SameReversedResidual-lead, LeadAlike-residual, IsStateSet-accepting, accepts_of-none, nil_of_length, bare_refuses, HasApart-one, HasWidth-one}

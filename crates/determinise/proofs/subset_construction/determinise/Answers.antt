@@ -2,7 +2,7 @@ use Rattle.std.proofs.Common.{◌+◌, [], ◌∷◌, sym, ◌∙◌}
 use Rattle.std.proofs.lemmas.Result.{IfOk-weaker}
 use Rattle.digit_tuple.specs.Automaton.{letters_of}
 use Rattle.digit_tuple.proofs.WidthLemmas.{HasApart-same, HasWidth-same}
-use Rattle.explore.specs.Keys.{LeadAlike}
+use Rattle.digit_tuple.specs.Keys.{LeadAlike}
 use Rattle.determinise.specs.Subsets.{Alike, set_after}
 use Rattle.determinise.specs.SubsetLaws.{start_is_state_set}
 use Rattle.determinise.proofs.SubsetLemmas.{key_accepts-start, Alike-lead, LeadAlike-states}

@@ -6,7 +6,7 @@ use Rattle.std.proofs.lemmas.List.Kept.{Contains-from_dedup}
 use Rattle.std.proofs.lemmas.List.Sorted.{Contains-permutation, IsPermutation-sym}
 use Rattle.digit_tuple.specs.declared.edges.Edge.{Edge}
 use Rattle.digit_tuple.specs.Automaton.{IsBefore}
-use Rattle.explore.specs.Steps.{steps_in}
+use Rattle.digit_tuple.specs.KeySteps.{steps_in}
 use Rattle.determinise.specs.Groups.{AreGroups}
 use Rattle.determinise.proofs.EdgeLemmas.{AllPairs-dedup, Contains-dedup, edges_tell}
 use Rattle.minimise.specs.Gathering.{IsGathered}

@@ -1,6 +1,6 @@
 use Rattle.std.proofs.Common.{get_or, refl, ap, ◌∙◌, arith}
 use Rattle.digit_tuple.specs.declared.edges.Edge.{Edge}
-use Rattle.explore.specs.Steps.{steps_in}
+use Rattle.digit_tuple.specs.KeySteps.{steps_in}
 use Rattle.minimise.proofs.QuotientLemmas.{steps_in-dead, steps_in-live}
 use Rattle.minimise.proofs.quotient.class_steps.Goals as goal
 use Rattle.minimise.proofs.quotient.class_steps.Goals.{then-class-dead+in_ok-key+in_ok-push, else-class-dead}

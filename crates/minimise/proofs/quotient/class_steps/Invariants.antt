@@ -1,5 +1,5 @@
 use Rattle.std.proofs.Common.{◌≡◌, take, map}
-use Rattle.explore.specs.Steps.{steps_in}
+use Rattle.digit_tuple.specs.KeySteps.{steps_in}
 use Rattle.minimise.specs.Signatures.{class_edges}
 use Rattle.minimise.specs.Quotient.{step_by}
 use Rattle.minimise.proofs.quotient.class_steps.Given as goal

@@ -2,7 +2,7 @@ use Rattle.std.proofs.Common.{◌≡◌, ◌∙◌, ◌<◌, [], ◌∷◌, ◌+
 use Rattle.std.specs.List.{All, range_with_len}
 use Rattle.digit_tuple.specs.Parts.{picked}
 use Rattle.digit_tuple.proofs.PartLemmas.{picked-all}
-use Rattle.product_op.proofs.RangeLemmas.{All-range, range_more}
+use Rattle.digit_tuple.proofs.RangeLemmas.{All-range, range_more}
 use Rattle.product_op.proofs.argument_readers.whole_reader.Goals as goal
 
 pub loop-track-preserved : goal.loop-track-preserved

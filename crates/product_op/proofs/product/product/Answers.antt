@@ -7,11 +7,12 @@ use Rattle.digit_tuple.specs.Width.{HasApart, HasWidth}
 use Rattle.digit_tuple.proofs.WidthLemmas.{HasApart-same, HasWidth-same}
 use Rattle.digit_tuple.specs.Deterministic.{Automaton}
 use Rattle.product_op.specs.declared.rule.Rule.TheVariants.{Both}
-use Rattle.product_op.specs.Tracks.{AreJoint, joint_names, joint_sizes}
+use Rattle.digit_tuple.specs.Names.{AreJoint, joint_names}
+use Rattle.product_op.specs.Tracks.{joint_sizes}
 use Rattle.product_op.specs.Products.{ProductAlike}
 use Rattle.product_op.specs.Readings.{Reading, AreSideBySide, AreAlike, readings_in, flags_of, combined}
 use Rattle.product_op.specs.TrackReadings.{AllFitTracks, argument_reading, product_readings, track_readings}
-use Rattle.product_op.proofs.TrackLemmas.{AreJoint-joint_names}
+use Rattle.digit_tuple.proofs.JointNames.{AreJoint-joint_names}
 use Rattle.product_op.proofs.SizeLemmas.{AreDistinct-ordered}
 use Rattle.product_op.proofs.ReadingLemmas.{AllFitTracks-languages}
 use Rattle.product_op.proofs.ProductLemmas.{AllFitTracks-counted, AreSideBySide-product, length-joint, product_flags, product_from_alike, alike_from_product}

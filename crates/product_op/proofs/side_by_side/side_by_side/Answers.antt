@@ -3,7 +3,7 @@ use Rattle.std.proofs.lemmas.Result.{IfOk-weaker}
 use Rattle.digit_tuple.specs.Letters.{product, IsWord}
 use Rattle.digit_tuple.specs.Width.{HasApart, HasWidth}
 use Rattle.digit_tuple.proofs.WidthLemmas.{HasApart-same, HasWidth-same}
-use Rattle.explore.specs.Keys.{LeadAlike}
+use Rattle.digit_tuple.specs.Keys.{LeadAlike}
 use Rattle.product_op.specs.Readings.{readings_in, AreAlike, first_key, combined}
 use Rattle.product_op.proofs.KeyLemmas.{key_after, key_accepts-flags, alike_from_keys, keys_from_alike}
 use Rattle.product_op.proofs.side_by_side.side_by_side.Goals as goal

@@ -2,8 +2,8 @@ use Rattle.std.proofs.Common.{List, subst}
 use Rattle.std.proofs.lemmas.Result.{IfOk-weaker}
 use Rattle.digit_tuple.specs.Automaton.{letters_of}
 use Rattle.digit_tuple.specs.declared.edges.Edge.{Edge}
-use Rattle.explore.specs.Keys.{AreSteps}
-use Rattle.explore.specs.Steps.{steps_in}
+use Rattle.digit_tuple.specs.Keys.{AreSteps}
+use Rattle.digit_tuple.specs.KeySteps.{steps_in}
 use Rattle.determinise.specs.Groups.{AreGroups}
 use Rattle.determinise.specs.Subsets.{set_after}
 use Rattle.determinise.proofs.SubsetLemmas.{AreSteps-groups}

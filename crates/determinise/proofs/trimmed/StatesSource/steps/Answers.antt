@@ -1,8 +1,8 @@
 use Rattle.std.proofs.Common.{◌≡◌, map, sym, ap, ◌∙◌, subst, arith}
 use Rattle.std.proofs.lemmas.List.{take_all}
 use Rattle.digit_tuple.specs.Deterministic.{IsRow, letters_of, states_of, edges_of}
-use Rattle.explore.specs.Keys.{AreSteps}
-use Rattle.explore.specs.Steps.{steps_in}
+use Rattle.digit_tuple.specs.Keys.{AreSteps}
+use Rattle.digit_tuple.specs.KeySteps.{steps_in}
 use Rattle.determinise.specs.Trimmed.{state_after, state_in_key}
 use Rattle.determinise.proofs.TrimmedLemmas.{AreSteps-edges, step_of_edge}
 use Rattle.determinise.proofs.trimmed.StatesSource.steps.Goals as goal

@@ -1,5 +1,5 @@
 use Rattle.std.proofs.Common.{◌≡◌, map, take}
-use Rattle.explore.specs.Steps.{steps_in}
+use Rattle.digit_tuple.specs.KeySteps.{steps_in}
 use Rattle.determinise.proofs.TrimmedLemmas.{step_of_edge}
 use Rattle.determinise.proofs.trimmed.StatesSource.steps.Given as goal
 

@@ -1,6 +1,6 @@
 use Rattle.std.proofs.Common.{List, ℕ, length, sym, subst, arith}
 use Rattle.std.proofs.lemmas.List.{length-map}
-use Rattle.explore.specs.declared.source.KeyStep.{KeyStep}
+use Rattle.digit_tuple.specs.declared.source.KeyStep.{KeyStep}
 use Rattle.minimise.specs.Gathering.{IsGathered, edges_by_class}
 use Rattle.minimise.specs.Partition.{IsUnion, lists_in}
 use Rattle.minimise.proofs.PartitionLemmas.{part_at, IsUnion-class, class_below}

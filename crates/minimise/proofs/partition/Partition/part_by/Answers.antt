@@ -1,7 +1,7 @@
 use Rattle.std.proofs.Common.{sym, subst}
 use Rattle.std.specs.List.{flat_map}
 use Rattle.digit_tuple.specs.Automaton.{edges_of}
-use Rattle.explore.specs.declared.source.KeyStep.{KeyStep}
+use Rattle.digit_tuple.specs.declared.source.KeyStep.{KeyStep}
 use Rattle.minimise.specs.Gathering.{IsGathered}
 use Rattle.minimise.specs.Partition.{IsUnion}
 use Rattle.minimise.proofs.PartitionLemmas.{part_at, IsUnion-sources}

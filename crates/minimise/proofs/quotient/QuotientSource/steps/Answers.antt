@@ -1,7 +1,7 @@
 use Rattle.std.proofs.Common.{List, subst, sym}
 use Rattle.std.proofs.lemmas.Result.{IfOk-weaker}
 use Rattle.digit_tuple.specs.Deterministic.{letters_of}
-use Rattle.explore.specs.Keys.{Step, AreSteps}
+use Rattle.digit_tuple.specs.Keys.{Step, AreSteps}
 use Rattle.minimise.specs.Quotient.{class_after}
 use Rattle.minimise.proofs.QuotientLemmas.{AreSteps-class}
 use Rattle.minimise.proofs.quotient.QuotientSource.steps.Goals as goal

@@ -1,10 +1,10 @@
 use Rattle.std.proofs.Common.{◌≡◌, ℕ, List, [], ◌∷◌, ◌++◌, Some, ap, sym, ◌∙◌, subst, arith}
 use Rattle.std.proofs.lemmas.List.{map-append}
-use Rattle.explore.specs.Keys.{Step, AreSteps}
-use Rattle.explore.specs.Steps.{step_in, steps_in}
-use Rattle.explore.specs.declared.source.KeyStep.{KeyStep}
+use Rattle.digit_tuple.specs.Keys.{Step, AreSteps}
+use Rattle.digit_tuple.specs.KeySteps.{step_in, steps_in}
+use Rattle.digit_tuple.specs.declared.source.KeyStep.{KeyStep}
 use Rattle.product_op.specs.Readings.{readings_in, next_key}
-use Rattle.product_op.proofs.StepLemmas.{steps_to, AreSteps-all, steps_to_more}
+use Rattle.digit_tuple.proofs.LetterSteps.{steps_to, AreSteps-all, steps_to_more}
 use Rattle.product_op.proofs.readers.SideBySideSource.steps.Goals as goal
 
 pub loop-letter-preserved : goal.loop-letter-preserved

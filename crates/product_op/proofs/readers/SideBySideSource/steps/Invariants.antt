@@ -1,7 +1,7 @@
 use Rattle.std.proofs.Common.{◌≡◌}
-use Rattle.explore.specs.Steps.{steps_in}
+use Rattle.digit_tuple.specs.KeySteps.{steps_in}
 use Rattle.product_op.specs.Readings.{readings_in, next_key}
-use Rattle.product_op.proofs.StepLemmas.{steps_to}
+use Rattle.digit_tuple.proofs.LetterSteps.{steps_to}
 use Rattle.product_op.proofs.readers.SideBySideSource.steps.Given as goal
 
 abbrev pub invariant-loop-letter : goal.invariant-loop-letter

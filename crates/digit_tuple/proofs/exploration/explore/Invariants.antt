@@ -1,0 +1,17 @@
+use Rattle.std.proofs.Common.{◌≡◌, ◌≤◌, ◌<◌, ◌-◌, true, length, vec_len}
+use Rattle.std.specs.List.{All}
+use Rattle.digit_tuple.specs.DfaRows.{states_in}
+use Rattle.digit_tuple.proofs.ExploredLemmas.{IsExploring}
+use Rattle.digit_tuple.proofs.exploration.explore.Given as goal
+
+abbrev pub invariant-explore : goal.invariant-explore
+invariant-explore g l = record {
+  few : length l.keys ≤ l.limit;
+  room : l.gap ≡ true → length l.keys < l.limit;
+  valid : All (g.S.Source.is_key l.source) l.keys;
+  explored : vec_len l.rows ≤ length l.keys;
+  exploring : IsExploring (g.S.Source.letters l.source) (g.S.Source.start l.source) (g.S.Source.after l.source) (g.S.Source.accepts l.source) l.keys (states_in l.rows.items) l.gap;
+}
+
+abbrev pub decreases-explore : goal.decreases-explore
+decreases-explore g l = l.limit - vec_len l.rows

@@ -1,0 +1,62 @@
+//! Keys, numbered in the order in which they were first seen.
+
+ghost use Rattle.std.specs.Prelude.{◌≡◌, ◌<◌, ◌^◌, [], length, IfOk};
+ghost use Rattle.digit_tuple.specs.Explored.{AreApart, IsNumbered, key_at};
+
+use crate::faults::OutOfMemory;
+use indexmap::IndexSet;
+use std::alloc::Global;
+use std::marker::Model;
+
+/// Lists of numbers, no two the same, numbered in the order in which they were first seen.
+#[derive(Drop)]
+pub struct Numbering {
+    lists: IndexSet<Vec<u32>>,
+}
+
+impl Model for Numbering {
+    ghost use Rattle.std.specs.Prelude.{ℕ, List, map};
+    ghost use Rattle.digit_tuple.specs.Explored.{AreApart};
+
+    ghost Value = { List (List ℕ) };
+
+    ghost view = { λ a. map (λ list. list.items) a.lists.keys };
+
+    ghost invariant = { λ a. AreApart (map (λ list. list.items) a.lists.keys) };
+}
+
+impl Numbering {
+    /// No keys.
+    pub fn new(alloc: Global) -> Self
+        ensures { result ≡ [] }
+    {
+        Numbering {
+            lists: IndexSet::new(alloc),
+        }
+    }
+
+    /// How many keys have numbers.
+    pub fn len(&self) -> usize
+        ensures len { result ≡ length self.now }
+        ensures apart { AreApart self.now }
+        ensures small { result < 2 ^ 63 }
+    {
+        self.lists.len()
+    }
+
+    /// The key with the number.
+    pub fn key(&self, number: usize) -> &[u32]
+        requires { number < length self.now }
+        ensures { result.now ≡ key_at self.now number }
+    {
+        &self.lists[number]
+    }
+
+    /// The number of a key, a new one if the key was not seen before.
+    pub fn number_of(&mut self, key: Vec<u32>) -> Result<usize, OutOfMemory>
+        ensures { IfOk result (IsNumbered self.old self.new key.items) }
+    {
+        let (number, _) = self.lists.insert_full(key)?;
+        Ok(number)
+    }
+}

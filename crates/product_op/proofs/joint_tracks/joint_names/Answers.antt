@@ -1,9 +1,0 @@
-use Rattle.std.proofs.Common.{◌∙◌, ap, sym, subst}
-use Rattle.product_op.specs.Tracks.{AreJoint, with_names}
-use Rattle.product_op.proofs.TrackLemmas.{AreJoint-joint_names}
-use Rattle.product_op.proofs.joint_tracks.joint_names.Goals as goal
-
-pub returns-clause-joint : goal.returns-clause-joint
-returns-clause-joint c =
-    let all = c.in_ok-insert_names-2.ensures ∙ ap (λ ns. with_names ns c.args.second.now) (c.in_ok-insert_names.ensures ∙ ap (λ ns. with_names ns c.args.first.now) c.new-names.ensures.items) in
-    subst (AreJoint c.args.first.now c.args.second.now) (sym all) (AreJoint-joint_names c.args.first.now c.args.second.now)

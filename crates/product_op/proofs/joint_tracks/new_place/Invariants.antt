@@ -1,6 +1,0 @@
-use Rattle.std.proofs.Common.{◌≡◌, ◌++◌, take, drop}
-use Rattle.product_op.specs.Tracks.{with_name}
-use Rattle.product_op.proofs.joint_tracks.new_place.Given as goal
-
-abbrev pub invariant-loop-place : goal.invariant-loop-place
-invariant-loop-place l = with_name l.names l.name ≡ take l.place l.names ++ with_name (drop l.place l.names) l.name
