@@ -81,21 +81,6 @@ length-members [] (d ∷ ds) h = absurd h
 length-members (set ∷ sets) [] h = absurd h
 length-members (set ∷ sets) (d ∷ ds) h = ap suc (length-members sets ds h.1)
 
--- the member of a set at its place, as a loop over the sets reads it
-module _ (sets : List (List ℤ)) (places : List ℕ) (k : ℕ) (set members : List ℤ) (fit : AreDigits (sizes_of sets) places) (lt : k < length sets) (read : set ≡ get_or sets k set) (same : members ≡ set) where
-  is_set : members ≡ get_or sets k []
-  is_set = same ∙ get_or_read sets k set lt read []
-
-  pub place_in : k < length places
-  place_in = (has_member sets places k fit lt).place_in
-
-  pub place_below : get_or places k 0 < length members
-  place_below = rw is_set (has_member sets places k fit lt).member_in
-
-  -- the tuple with one member more
-  pub tuple_more : (m : ℤ) → m ≡ get_or members (get_or places k 0) (pos 0) → take (k + 1) (members_at sets places) ≡ take k (members_at sets places) ++ m ∷ []
-  tuple_more m e = take_more (members_at sets places) k (pos 0) (has_member sets places k fit lt).in_tuple ∙ ap (λ x. take k (members_at sets places) ++ x ∷ []) ((has_member sets places k fit lt).member ∙ ap (λ s. get_or s (get_or places k 0) (pos 0)) (sym is_set) ∙ sym e)
-
 -- the members at places, one more
 pub members_more : (sets : List (List ℤ)) (places : List ℕ) (k : ℕ) → AreDigits (sizes_of sets) places → k < length places → take (k + 1) (members_at sets places) ≡ take k (members_at sets places) ++ get_or (get_or sets k []) (get_or places k 0) (pos 0) ∷ []
 members_more sets places k fit lt =
