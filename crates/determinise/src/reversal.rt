@@ -14,9 +14,9 @@ use crate::trimmed::trimmed;
 use digit_tuple::alphabet::Alphabet;
 use digit_tuple::dfa::Dfa;
 use digit_tuple::dfa_builder::DfaBuilder;
+use digit_tuple::exploration::explore;
 use digit_tuple::faults::{OpFault, OutOfMemory};
 use digit_tuple::stepped::Stepped;
-use digit_tuple::exploration::explore;
 use std::alloc::Global;
 
 /// A deterministic automaton that accepts the reversed words. The width is the number of residuals

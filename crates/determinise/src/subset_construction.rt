@@ -11,10 +11,10 @@ ghost use Rattle.determinise.specs.Subsets.{Alike};
 
 use crate::subsets::Subsets;
 use digit_tuple::dfa::Dfa;
+use digit_tuple::exploration::explore;
 use digit_tuple::faults::OpFault;
 use digit_tuple::nfa::Nfa;
 use digit_tuple::stepped::Stepped;
-use digit_tuple::exploration::explore;
 use std::alloc::Global;
 
 /// A deterministic automaton with the language of the nondeterministic one. Its states are the sets

@@ -7,8 +7,8 @@ ghost use Rattle.digit_tuple.specs.Letters.{product, IsWord};
 ghost use Rattle.determinise.specs.Trimmed.{IsStateKey, state_after, state_accepts, start_is_state_key, after_is_state_key};
 
 use digit_tuple::dfa::Dfa;
-use digit_tuple::faults::OutOfMemory;
 use digit_tuple::exploration::explore;
+use digit_tuple::faults::OutOfMemory;
 use digit_tuple::source::{KeyStep, Source};
 use std::alloc::Global;
 

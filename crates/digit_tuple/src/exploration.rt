@@ -12,12 +12,12 @@ ghost use Rattle.digit_tuple.specs.Keys.{LeadAlike, key_accepts};
 ghost use Rattle.digit_tuple.specs.KeySteps.{steps_in};
 ghost use Rattle.digit_tuple.specs.Explored.{AreNumbered, NumbersSome, IsStateFrom, Overflows, IsExplored, key_at};
 
-use crate::numbering::Numbering;
-use crate::source::{KeyStep, Source};
 use crate::alphabet::Alphabet;
 use crate::dfa::{Dfa, DfaState};
 use crate::edges::Edge;
 use crate::faults::OpFault;
+use crate::numbering::Numbering;
+use crate::source::{KeyStep, Source};
 use crate::stepped::Stepped;
 use std::alloc::Global;
 

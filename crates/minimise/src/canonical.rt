@@ -7,8 +7,8 @@ ghost use Rattle.minimise.specs.Canonical.{IsCanonical};
 use crate::classes::residual_classes;
 use crate::quotient::{Quotient, leaders};
 use digit_tuple::dfa::Dfa;
-use digit_tuple::faults::OutOfMemory;
 use digit_tuple::exploration::explore;
+use digit_tuple::faults::OutOfMemory;
 use std::alloc::Global;
 
 /// The canonical automaton with the same language: its states are the residual languages that words

@@ -13,10 +13,10 @@ use crate::readers::{Reader, SideBySide};
 use crate::rule::Rule;
 use digit_tuple::alphabet::Alphabet;
 use digit_tuple::dfa::Dfa;
+use digit_tuple::exploration::explore;
 use digit_tuple::faults::OpFault;
 use digit_tuple::name::Name;
 use digit_tuple::stepped::Stepped;
-use digit_tuple::exploration::explore;
 use minimise::tracked::Tracked;
 use std::alloc::Global;
 
