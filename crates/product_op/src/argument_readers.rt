@@ -8,13 +8,13 @@ ghost use Rattle.digit_tuple.specs.Parts.{picked};
 ghost use Rattle.product_op.specs.Readings.{reading_in, readings_in};
 ghost use Rattle.product_op.specs.TrackReadings.{read_on, whole_reading, track_readings, AllFitTracks};
 
-use crate::joint_tracks::places_in;
 use crate::readers::Reader;
 use digit_tuple::alphabet::Alphabet;
 use digit_tuple::dfa::Dfa;
 use digit_tuple::faults::OutOfMemory;
 use digit_tuple::letter_parts::letter_parts;
 use digit_tuple::name::Name;
+use digit_tuple::names::places_in;
 use minimise::tracked::Tracked;
 use std::alloc::Global;
 use std::rc::Rc;
