@@ -4,3 +4,10 @@ pub mod WordSteps
 pub mod ScriptSteps
 pub mod TreeSteps
 pub mod Weights
+pub mod PartSteps
+pub mod ProductSteps
+pub mod TokenCuts
+pub mod Tests
+pub mod SpelledNumbers
+pub mod Spelled
+pub mod TextTokens

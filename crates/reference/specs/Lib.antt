@@ -4,3 +4,5 @@ pub mod Ends
 pub mod Scripts
 pub mod Readings
 pub mod Trees
+pub mod Tokens
+pub mod Spellings

@@ -1,0 +1,6 @@
+mod TruthLemmas
+mod ValueLemmas
+mod CarryLemmas
+mod AdderLemmas
+mod EdgeLemmas
+mod TableLemmas

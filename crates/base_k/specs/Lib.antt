@@ -1,0 +1,3 @@
+pub mod Positional
+pub mod Carries
+pub mod BaseLaws

@@ -1,0 +1,12 @@
+pub mod CountLemmas
+pub mod PaddingLemmas
+pub mod BelowLemmas
+pub mod RankLemmas
+pub mod SpellLemmas
+pub mod TrackLemmas
+pub mod ConstantLemmas
+pub mod AcceptedLemmas
+pub mod SealLemmas
+pub mod OrderLemmas
+pub mod PairLemmas
+pub mod ZeroLemmas

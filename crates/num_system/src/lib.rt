@@ -1,0 +1,28 @@
+//! Numeration systems: words of a language stand for their ranks.
+#![tactic(auto)]
+
+/// What a numeration system gives, and its laws.
+pub mod num_system;
+
+/// Sealed systems.
+pub mod system;
+
+/// How a system is sealed.
+pub mod seal;
+
+/// States of automata with a sink.
+mod sink;
+
+/// Pairs of words that are read side by side.
+mod pairs;
+
+/// The order of numbers.
+pub mod order;
+
+/// The number 0.
+pub mod zero;
+
+/// Laws of the definitions.
+pub mod laws;
+#[cfg(test)]
+mod tests;

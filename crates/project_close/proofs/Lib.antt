@@ -1,0 +1,16 @@
+pub mod ZeroClosureLemmas
+pub mod ImageLemmas
+pub mod ProjectionLemmas
+pub mod KeySizes
+pub mod SameBranches
+pub mod SinkLeads
+pub mod PaddingWords
+pub mod PaddedPairLemmas
+pub mod PaddedSetLemmas
+pub mod ZeroSteps
+pub mod PartReadingLemmas
+pub mod FewerLemmas
+pub mod SubstitutionLemmas
+pub mod RenamingLemmas
+pub mod RestrictionLemmas
+pub mod EqualTracks

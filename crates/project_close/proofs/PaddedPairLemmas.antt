@@ -1,0 +1,134 @@
+-- Pairs of states that words lead to without their trailing zeros and with them.
+use Rattle.std.proofs.Common.{◌≡◌, ℕ, zero, suc, ◌<◌, Bool, true, false, List, [], ◌∷◌, ◌++◌, reverse, filter, slice_index, Option, Some, ◌↔◌, IsTrue, refl, sym, ap, ◌∙◌, arith}
+use Rattle.std.specs.List.{Contains, range_with_len}
+use Rattle.std.specs.Option.{option_map_or}
+use Rattle.std.proofs.lemmas.List.FromFn.{length-range_with_len, get_or-range_with_len}
+use Rattle.digit_tuple.specs.Automaton.{Branching}
+use Rattle.digit_tuple.specs.Deterministic.{Automaton, letters_of, states_of, accepting_of, accepts_of, run_of}
+use Rattle.digit_tuple.specs.Keys.{LeadAlike, key_accepts, key_run}
+use Rattle.digit_tuple.specs.Letters.{IsWord}
+use Rattle.digit_tuple.specs.Paddings.{zeros, strip}
+use Rattle.digit_tuple.specs.declared.direction.Direction.TheVariants.{Lsd}
+use Rattle.digit_tuple.proofs.KeyLemmas.{key_accepts-run}
+use Rattle.determinise.specs.Reversed.{IsReversal}
+use Rattle.determinise.proofs.MemberLemmas.{Contains-filter, Contains-from_filter}
+use Rattle.determinise.proofs.ReversalLemmas as reversal
+use Rattle.minimise.specs.Canonical.{IsCanonical}
+use Rattle.minimise.specs.Classes.{next_of, first_of}
+use Rattle.minimise.proofs.LeadLemmas.{lead, SameAfter-lead, one_lead}
+use Rattle.project_close.specs.Padding.{IsPadded, LsdPaddedAlike}
+use Rattle.project_close.specs.PaddedPairs.{AreFinal, pair_after, twice}
+use Rattle.project_close.specs.ZeroClosure.{IsOverFlagged, IsReached, flag_at}
+use Rattle.project_close.proofs.PaddingWords.{with_front, trimmed, strip-trimmed, strip-zeros, zeros_at_end, IsWord-strip, reverse-zeros}
+use Rattle.project_close.proofs.SinkLeads.{accepts_of-lead, accepting_within, within_from_lead, run_from_lead, lead_from_run, lead-append, IsWord-accepted}
+
+Contains-range : (n q : ℕ) → q < n → Contains (range_with_len 0 n) q
+Contains-range n q within = (q, omega (arith, length-range_with_len 0 n), get_or-range_with_len 0 n q q within ∙ omega arith)
+
+-- where a letter leads, as of a source
+abbrev pub pair_step : Automaton → List ℕ → ℕ → Option (List ℕ)
+pair_step d key a = Some (pair_after d key a)
+
+module _ (d : Automaton) where
+  -- where a word without trailing zeros leads, or the state from before, where there are zeros alone
+  abbrev stripped_lead : ℕ → ℕ → List ℕ → ℕ
+  stripped_lead p q [] = p
+  stripped_lead p q (a ∷ u) = lead d q (a ∷ u)
+
+  zero_first : (p q : ℕ) (u : List ℕ) → stripped_lead p (next_of d q 0) u ≡ stripped_lead p q (with_front 0 u)
+  zero_first p q [] = refl
+  zero_first p q (b ∷ u) = refl
+
+  one_state : (q : ℕ) (u : List ℕ) → stripped_lead q q u ≡ lead d q u
+  one_state q [] = refl
+  one_state q (b ∷ u) = refl
+
+  pair_run : (w : List ℕ) (p q : ℕ) → key_run (pair_step d) (p ∷ q ∷ []) w ≡ Some (stripped_lead p q (trimmed w) ∷ lead d q w ∷ [])
+  pair_run [] p q = refl
+  pair_run (zero ∷ w) p q = pair_run w p (next_of d q 0) ∙ ap (λ (r : ℕ). Some (r ∷ lead d (next_of d q 0) w ∷ [])) (zero_first p q (trimmed w))
+  pair_run (suc a ∷ w) p q = pair_run w (next_of d q (suc a)) (next_of d q (suc a)) ∙ ap (λ (r : ℕ). Some (r ∷ lead d (next_of d q (suc a)) w ∷ [])) (one_state (next_of d q (suc a)) (trimmed w))
+
+  -- the pair that a word leads to
+  pub pair_run-first : (w : List ℕ) → key_run (pair_step d) (twice (first_of d)) w ≡ Some (lead d (first_of d) (strip Lsd w) ∷ lead d (first_of d) w ∷ [])
+  pair_run-first w = pair_run w (first_of d) (first_of d)
+      ∙ ap (λ (r : ℕ). Some (r ∷ lead d (first_of d) w ∷ [])) (one_state (first_of d) (trimmed w) ∙ ap (lead d (first_of d)) (sym (strip-trimmed w)))
+
+same_pairs : (p q r s : ℕ) → Some (p ∷ q ∷ []) ≡ Some (r ∷ s ∷ []) → (p ≡ r) × (q ≡ s)
+same_pairs p q r s same = let one : p ≡ r = cc in let two : q ≡ s = cc in (one, two)
+
+module _ (d : Automaton) (canonical : IsCanonical d) where
+  -- words that lead to one pair are alike
+  pub alike_from_pairs : (w v : List ℕ) → LeadAlike (pair_step d) (twice (first_of d)) w v → LsdPaddedAlike d w v
+  alike_from_pairs w v same =
+      let both = same_pairs (lead d (first_of d) (strip Lsd w)) (lead d (first_of d) w) (lead d (first_of d) (strip Lsd v)) (lead d (first_of d) v) (sym (pair_run-first d w) ∙ same ∙ pair_run-first d v) in
+      record { stripped = SameAfter-lead d (strip Lsd w) (strip Lsd v) both.0; whole = SameAfter-lead d w v both.1 }
+
+  -- and alike words lead to one pair
+  pub pairs_from_alike : (w v : List ℕ) → IsWord (letters_of d) w → IsWord (letters_of d) v → LsdPaddedAlike d w v → LeadAlike (pair_step d) (twice (first_of d)) w v
+  pairs_from_alike w v over there alike =
+      let stripped = one_lead d canonical (strip Lsd w) (strip Lsd v) (IsWord-strip (letters_of d) w over) (IsWord-strip (letters_of d) v there) alike.stripped in
+      let whole = one_lead d canonical w v over there alike.whole in
+      pair_run-first d w
+      ∙ ap (λ (r : ℕ). Some (r ∷ lead d (first_of d) w ∷ [])) stripped
+      ∙ ap (λ (r : ℕ). Some (lead d (first_of d) (strip Lsd v) ∷ r ∷ [])) whole
+      ∙ sym (pair_run-first d v)
+
+  module _ (flags : List Bool) (final : AreFinal d flags) where
+    accepts_at : (w : List ℕ) → key_accepts (pair_step d) (λ key. flag_at flags (slice_index key 0)) (twice (first_of d)) w ≡ flag_at flags (lead d (first_of d) (strip Lsd w))
+    accepts_at w = key_accepts-run (pair_step d) (λ key. flag_at flags (slice_index key 0)) w (twice (first_of d))
+        ∙ ap (λ (o : Option (List ℕ)). option_map_or (λ key. flag_at flags (slice_index key 0)) o false) (pair_run-first d w)
+
+    -- the pairs accept the padded words
+    pub pairs_accept : (w : List ℕ) → IsTrue (key_accepts (pair_step d) (λ key. flag_at flags (slice_index key 0)) (twice (first_of d)) w) ↔ IsPadded Lsd d w
+    pairs_accept w = ((λ is. forth ((final (lead d (first_of d) (strip Lsd w))).0 (sym (accepts_at w) ∙ is))), (λ padded. accepts_at w ∙ (final (lead d (first_of d) (strip Lsd w))).1 (back padded)))
+      where
+        forth : (k : ℕ) × (accepting_of d (lead d (lead d (first_of d) (strip Lsd w)) (zeros k)) ≡ true) → IsPadded Lsd d w
+        forth found =
+            let v = strip Lsd w ++ zeros found.0 in
+            let is : accepts_of d v ≡ true = accepts_of-lead d v ∙ ap (accepting_of d) (lead-append d (strip Lsd w) (zeros found.0) (first_of d)) ∙ found.1 in
+            (v, IsWord-accepted d canonical.table v 0 is, strip-zeros w found.0, is)
+
+        back : IsPadded Lsd d w → (k : ℕ) × (accepting_of d (lead d (lead d (first_of d) (strip Lsd w)) (zeros k)) ≡ true)
+        back padded =
+            let v = padded.0 in
+            let end = zeros_at_end v in (
+              end.0,
+              ap (λ (u : List ℕ). accepting_of d (lead d (lead d (first_of d) u) (zeros end.0))) (sym padded.2)
+                  ∙ ap (accepting_of d) (sym (lead-append d (strip Lsd v) (zeros end.0) (first_of d)) ∙ ap (lead d (first_of d)) (sym end.1))
+                  ∙ sym (accepts_of-lead d v)
+                  ∙ padded.3,
+            )
+
+  module _ (n : Branching) (turned : IsReversal d n) (flags : List Bool)
+      (reached : (q : ℕ) → (flag_at flags q ≡ true) ↔ IsReached n (true ∷ []) (filter (accepting_of d) (range_with_len 0 (states_of d))) q) where
+    -- over the zero letter alone
+    all_zeros : (w : List ℕ) → IsOverFlagged (true ∷ []) w → (k : ℕ) × (w ≡ zeros k)
+    all_zeros [] over = (0, refl)
+    all_zeros (zero ∷ w) over = let rest = all_zeros w over.1 in (suc rest.0, ap (λ (u : List ℕ). 0 ∷ u) rest.1)
+    all_zeros (suc a ∷ w) over = let no : false ≡ true = over.0 in cc
+
+    zeros_flagged : (k : ℕ) → IsOverFlagged (true ∷ []) (zeros k)
+    zeros_flagged zero = tt
+    zeros_flagged (suc k) = (refl, zeros_flagged k)
+
+    -- the search over turned edges finds the states from which zeros lead to accepting ones
+    pub AreFinal-reached : AreFinal d flags
+    AreFinal-reached q = ((λ is. forth ((reached q).0 is)), (λ found. (reached q).1 (back found)))
+      where
+        forth : IsReached n (true ∷ []) (filter (accepting_of d) (range_with_len 0 (states_of d))) q → (k : ℕ) × (accepting_of d (lead d q (zeros k)) ≡ true)
+        forth found =
+            let accepting = (Contains-from_filter (accepting_of d) (range_with_len 0 (states_of d)) found.0 found.1).1 in
+            let word = all_zeros found.2.0 found.2.1 in
+            let run = reversal.run_of-path d canonical.table n turned found.2.0 found.0 q found.2.2 in
+            let back : run_of d q (zeros word.0) ≡ Some found.0 = ap (run_of d q) (sym (reverse-zeros word.0) ∙ ap reverse (sym word.1)) ∙ run in
+            (word.0, ap (accepting_of d) (lead_from_run d (zeros word.0) q found.0 back) ∙ accepting)
+
+        back : (k : ℕ) × (accepting_of d (lead d q (zeros k)) ≡ true) → IsReached n (true ∷ []) (filter (accepting_of d) (range_with_len 0 (states_of d))) q
+        back found =
+            let p = lead d q (zeros found.0) in
+            let inside = accepting_within d p found.1 in
+            let run : run_of d q (reverse (zeros found.0)) ≡ Some p = ap (run_of d q) (reverse-zeros found.0) ∙ run_from_lead d (zeros found.0) q p inside refl in (
+              p,
+              Contains-filter (accepting_of d) (range_with_len 0 (states_of d)) p (Contains-range (states_of d) p inside) found.1,
+              (zeros found.0, zeros_flagged found.0, reversal.path_from_run d canonical.table n turned (zeros found.0) p q (within_from_lead d (zeros found.0) q found.1) run),
+            )

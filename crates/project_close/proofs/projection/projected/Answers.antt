@@ -1,0 +1,37 @@
+use Rattle.std.proofs.Common.{◌≡◌, ◌+◌, [], true≢false, sym, ap, ◌∙◌, subst, arith}
+use Rattle.std.proofs.lemmas.Result.{IfOk-weaker}
+use Rattle.digit_tuple.specs.Deterministic.{Automaton, accepts_of}
+use Rattle.digit_tuple.specs.Letters.{product}
+use Rattle.digit_tuple.specs.Width.{HasApart, HasWidth}
+use Rattle.determinise.proofs.ReversalLemmas.{HasApart-one, HasWidth-one, bare_refuses}
+use Rattle.minimise.specs.Residuals.{IsDead}
+use Rattle.project_close.specs.Projection.{ProjectionAlike}
+use Rattle.project_close.proofs.ProjectionLemmas.{ProjectionAlike-dead, none_in_projection}
+use Rattle.project_close.proofs.projection.projected.Goals as goal
+
+pub returns-then-accepts_nothing-clause-language : goal.returns-then-accepts_nothing-clause-language
+returns-then-accepts_nothing-clause-language c =
+    let d = c.args.d.now in
+    let dead : IsDead d 0 = c.accepts_nothing.ensures.0 c.if-accepts_nothing.true in
+    IfOk-weaker c.nothing.result _ _
+    (λ stepped is w over. (
+      (λ yes. absurd (true≢false (sym yes ∙ ap (λ (e : Automaton). accepts_of e w) is ∙ bare_refuses c.args.alphabet w))),
+      (λ inside. absurd (none_in_projection d dead c.args.places.now c.args.direction w inside)),
+    ))
+    c.nothing.ensures.result_is
+
+pub returns-then-accepts_nothing-clause-width : goal.returns-then-accepts_nothing-clause-width
+returns-then-accepts_nothing-clause-width c =
+    let d = c.args.d.now in
+    let dead : IsDead d 0 = c.accepts_nothing.ensures.0 c.if-accepts_nothing.true in
+    let alike = ProjectionAlike d c.args.places.now c.args.direction in
+    IfOk-weaker c.nothing.result _ _
+    (λ stepped one. subst (HasWidth alike (product c.args.alphabet)) (sym one) (HasWidth-one alike (product c.args.alphabet) (λ w over. ProjectionAlike-dead d dead c.args.places.now c.args.direction w [])))
+    c.nothing.ensures.width
+
+pub returns-then-accepts_nothing-clause-states : goal.returns-then-accepts_nothing-clause-states
+returns-then-accepts_nothing-clause-states c refused =
+    let alike = ProjectionAlike c.args.d.now c.args.places.now c.args.direction in
+    let none : c.args.limit ≡ 0 = c.nothing.ensures.states refused in
+    let count : 1 ≡ c.args.limit + 1 = omega (arith, none) in
+    subst (HasApart alike (product c.args.alphabet)) count (HasApart-one alike (product c.args.alphabet))

@@ -1,0 +1,11 @@
+-- Definitions that the contracts cite, in reading order.
+pub mod ZeroClosure
+pub mod Image
+pub mod Projection
+pub mod Padding
+pub mod SameBranching
+pub mod PaddedSets
+pub mod PaddedPairs
+pub mod PartReading
+pub mod Substitution
+pub mod Restriction

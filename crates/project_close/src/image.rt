@@ -1,0 +1,149 @@
+//! Automata read on some of their tracks.
+
+ghost use Rattle.std.specs.Prelude.{◌≡◌, ◌==◌, ◌<◌, ◌↔◌, ℕ, List, true, length, map, IfOk};
+ghost use Rattle.std.specs.List.{All};
+ghost use Rattle.digit_tuple.specs.Automaton as branching;
+ghost use Rattle.digit_tuple.specs.Automaton.{IsBranchTable};
+ghost use Rattle.digit_tuple.specs.Deterministic.{accepting_of, letters_of, states_of};
+ghost use Rattle.digit_tuple.specs.Letters.{product};
+ghost use Rattle.digit_tuple.specs.Parts.{parts_of_letters, picked};
+ghost use Rattle.project_close.specs.Image.{AreFirst, AreRelabelled, IsEnd, IsImage, ReadsProjection};
+ghost use Rattle.project_close.specs.ZeroClosure.{flag_at};
+
+use crate::zero_closure::{flagged, reached, zero_closure};
+use determinise::reversed::reversed;
+use digit_tuple::alphabet::Alphabet;
+use digit_tuple::dfa::Dfa;
+use digit_tuple::direction::Direction;
+use digit_tuple::edges::{Edge, NfaState};
+use digit_tuple::faults::OutOfMemory;
+use digit_tuple::letter_parts::letter_parts;
+use digit_tuple::nfa::Nfa;
+use std::alloc::Global;
+
+/// An automaton read on some of its tracks, and the states at which reading begins.
+#[derive(Drop)]
+pub struct Reading {
+    pub image: Nfa,
+    pub first: Vec<u32>,
+}
+
+/// The automaton read on the tracks at some places, counted from 0: each letter is its part there, a
+/// letter of `alphabet`. With the most significant digit first, reading begins after any number of
+/// zeros; else a word may end wherever zeros lead on to a state that accepts.
+pub fn reading_on(
+    alloc: Global,
+    d: &Dfa,
+    places: &[u32],
+    alphabet: &Alphabet,
+    direction: Direction,
+) -> Result<Reading, OutOfMemory>
+    requires places { All (λ place. place < length d.now.sizes) places.now }
+    requires alphabet { alphabet.now ≡ picked places.now d.now.sizes }
+    ensures { IfOk result (λ reading. ReadsProjection d.now places.now direction reading.image reading.first.items) }
+{
+    let parts = letter_parts(alloc, d.alphabet(), places, alphabet)?;
+    let ends = ends(alloc, d, &parts, direction)?;
+    let image = image(alloc, d, &ends, &parts, alphabet.copy(alloc)?)?;
+    let first = first_states(alloc, &image, direction)?;
+    Ok(Reading { image, first })
+}
+
+// The automaton with another letter in place of each of its own: a letter of `alphabet`, from the
+// list `parts` by letters. A letter may then lead to several states. The flagged states accept.
+fn image(
+    alloc: Global,
+    d: &Dfa,
+    accepting: &[bool],
+    parts: &[u32],
+    alphabet: Alphabet,
+) -> Result<Nfa, OutOfMemory>
+    requires accepting { length accepting.now ≡ states_of d.now }
+    requires parts { length parts.now ≡ letters_of d.now }
+    requires letters { All (λ part. part < product alphabet) parts.now }
+    ensures image { IfOk result (IsImage d.now accepting.now parts.now alphabet) }
+    ensures table { IfOk result (λ nfa. IsBranchTable (branching.letters_of nfa) nfa.states) }
+{
+    let states = d.states();
+    let mut rows = Vec::with_capacity(alloc, states as usize)?;
+    for state in 0..states {
+        rows.push(NfaState {
+            accepting: accepting[state as usize],
+            edges: relabelled(alloc, d.edges(state), parts)?,
+        })?;
+    }
+    Nfa::from_states(alloc, alphabet, rows)
+}
+
+// The edges with other letters in place of theirs, in order.
+fn relabelled(alloc: Global, edges: &[Edge], parts: &[u32]) -> Result<Vec<Edge>, OutOfMemory>
+    requires { All (λ edge. edge.letter < length parts.now) edges.now }
+    ensures { IfOk result (λ new. AreRelabelled parts.now edges.now new.items) }
+{
+    let mut new = Vec::with_capacity(alloc, edges.len())?;
+    for edge in edges {
+        new.push(Edge {
+            letter: parts[edge.letter as usize],
+            target: edge.target,
+        })?;
+    }
+    new.sort()?;
+    new.dedup();
+    Ok(new)
+}
+
+// For each state whether a word may end there: whether it accepts, or with the least significant
+// digit first, whether a word leads from it to a state that accepts whose part is zeros alone.
+// `parts` is the part of each letter.
+fn ends(
+    alloc: Global,
+    d: &Dfa,
+    parts: &[u32],
+    direction: Direction,
+) -> Result<Vec<bool>, OutOfMemory>
+    ensures size { IfOk result (λ flags. length flags.items ≡ states_of d.now) }
+    ensures ends { (places : List ℕ) → parts.now ≡ parts_of_letters d.now.sizes places
+        → IfOk result (λ flags. (q : ℕ) → (flag_at flags.items q ≡ true) ↔ IsEnd direction d.now places q) }
+{
+    let accepting = accepting_flags(alloc, d)?;
+    match direction {
+        Direction::Msd => Ok(accepting),
+        Direction::Lsd => {
+            let turned = reversed(alloc, d)?;
+            let zero = zero_flags(alloc, parts)?;
+            let last = flagged(alloc, &accepting)?;
+            reached(alloc, &turned, &zero, &last)
+        }
+    }
+}
+
+// For each state whether it accepts.
+fn accepting_flags(alloc: Global, d: &Dfa) -> Result<Vec<bool>, OutOfMemory>
+    ensures size { IfOk result (λ flags. length flags.items ≡ states_of d.now) }
+    ensures flags { IfOk result (λ flags. (q : ℕ) → flag_at flags.items q ≡ accepting_of d.now q) }
+{
+    let states = d.states();
+    let mut flags = Vec::with_capacity(alloc, states as usize)?;
+    for state in 0..states {
+        flags.push(d.accepting(state))?;
+    }
+    Ok(flags)
+}
+
+// For each number whether it is 0.
+fn zero_flags(alloc: Global, numbers: &[u32]) -> Result<Vec<bool>, OutOfMemory>
+    ensures { IfOk result (λ flags. flags.items ≡ map (λ n. n == 0) numbers.now) }
+{
+    Ok(numbers.iter().map(|number| *number == 0).collect(alloc)?)
+}
+
+// The states at which reading begins: with the most significant digit first those that some number
+// of zero letters leads to, in order, else the initial one.
+fn first_states(alloc: Global, nfa: &Nfa, direction: Direction) -> Result<Vec<u32>, OutOfMemory>
+    ensures { IfOk result (λ first. AreFirst direction nfa.now first.items) }
+{
+    match direction {
+        Direction::Msd => zero_closure(alloc, nfa),
+        Direction::Lsd => Ok(vec![in alloc; 0]?),
+    }
+}

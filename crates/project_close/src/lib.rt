@@ -1,0 +1,48 @@
+//! Projections of canonical automata, their closure under padding, and canonical automata over other
+//! tracks: under new names, and with two tracks as one.
+#![tactic(auto)]
+
+/// The states that zero letters lead to.
+pub mod zero_closure;
+
+/// Automata read on some of their tracks.
+pub mod image;
+
+/// Projections of automata to all tracks but one.
+pub mod projection;
+
+/// Where letters lead, with the sink.
+mod sink;
+
+/// Deterministic automata seen as nondeterministic ones.
+mod same_branching;
+
+/// The exploration, made canonical.
+mod canonical_exploration;
+
+/// Closure under leading zeros.
+mod padding_msd;
+
+/// Closure under trailing zeros.
+mod padding_lsd;
+
+/// Closure under padding.
+pub mod padding;
+
+/// Automata that read the parts of letters.
+mod part_reading;
+
+/// Automata whose tracks stand under other names.
+mod substitution;
+
+/// Automata with new names for their tracks.
+pub mod renaming;
+
+/// Automata on the words of which two tracks are equal.
+#[cfg(test)]
+mod padding_tests;
+#[cfg(test)]
+mod projection_tests;
+#[cfg(test)]
+mod renaming_tests;
+pub mod restriction;

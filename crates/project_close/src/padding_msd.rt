@@ -1,0 +1,170 @@
+//! Closure under leading zeros.
+
+ghost use Rattle.std.specs.Prelude.{◌≡◌, ℕ, ◌+◌, ◌≤◌, ◌<◌, ◌↔◌, [], List, map, IfOk, IsTrue};
+ghost use Rattle.std.specs.List.{All};
+ghost use Rattle.std.specs.Result.{IsErrOf};
+ghost use Rattle.digit_tuple.specs.Automaton as branching;
+ghost use Rattle.digit_tuple.specs.Automaton.{IsBranchTable};
+ghost use Rattle.digit_tuple.specs.Deterministic.{accepts_of, letters_of, states_of};
+ghost use Rattle.digit_tuple.specs.Keys.{AreSteps};
+ghost use Rattle.digit_tuple.specs.KeySteps.{steps_in};
+ghost use Rattle.digit_tuple.specs.Letters.{IsWord};
+ghost use Rattle.digit_tuple.specs.Width.{HasApart, HasWidth};
+ghost use Rattle.digit_tuple.specs.declared.direction.Direction.TheVariants.{Msd};
+ghost use Rattle.determinise.specs.Subsets.{set_after, has_accepting};
+ghost use Rattle.minimise.specs.Canonical.{IsCanonical};
+ghost use Rattle.project_close.specs.Padding.{IsPadded, PaddedAlike};
+ghost use Rattle.project_close.specs.PaddedSets.{IsStateList, AreFirst, padded_after, padded_accepts, zero_steps, zero_first, nothing_is_state_list, padded_after_is_state_list};
+ghost use Rattle.project_close.specs.SameBranching.{branching_as};
+
+use crate::canonical_exploration::explore_canonical;
+use crate::same_branching::same_branching;
+use crate::sink::first;
+use crate::zero_closure::zero_closure;
+use determinise::subsets::Subsets;
+use digit_tuple::dfa::Dfa;
+use digit_tuple::faults::{OpFault, OutOfMemory};
+use digit_tuple::nfa::Nfa;
+use digit_tuple::source::{KeyStep, Source};
+use digit_tuple::stepped::Stepped;
+use std::alloc::Global;
+
+/// The sets of states that words without their leading zeros lead to, from the states of a first set,
+/// each as the list of its states in order. The empty list stands for the first set, after zeros
+/// alone; else the empty set is no key.
+#[derive(Clone, Copy)]
+struct PaddedSets<'a> {
+    nfa: &'a Nfa,
+    first: &'a [u32],
+}
+
+impl Source for PaddedSets<'_> {
+    ghost letters = { λ s. branching.letters_of s.nfa.now };
+
+    ghost is_source = { λ s. IsBranchTable (branching.letters_of s.nfa.now) s.nfa.now.states × IsStateList s.nfa.now s.first.now };
+
+    ghost is_key = { λ s. IsStateList s.nfa.now };
+
+    ghost start = { λ s. [] };
+
+    ghost after = { λ s. padded_after s.nfa.now s.first.now };
+
+    ghost accepts = { λ s. padded_accepts s.nfa.now s.first.now };
+
+    ghost start_is_key = { λ s source. nothing_is_state_list s.nfa.now };
+
+    ghost after_is_key = { λ s key letter source is_list small. padded_after_is_state_list s.nfa.now s.first.now key letter };
+
+    fn first_key(&self, alloc: Global) -> Result<Vec<u32>, OutOfMemory> {
+        Ok(Vec::new(alloc))
+    }
+
+    fn steps(&self, alloc: Global, key: &[u32]) -> Result<Vec<KeyStep>, OutOfMemory> {
+        if key.is_empty() {
+            first_steps(alloc, self.nfa, self.first)
+        } else {
+            set_steps(alloc, self.nfa, key)
+        }
+    }
+
+    fn is_accepting(&self, key: &[u32]) -> bool {
+        if key.is_empty() {
+            any_accepting(self.nfa, self.first)
+        } else {
+            any_accepting(self.nfa, key)
+        }
+    }
+}
+
+// Whether a state of the set accepts.
+fn any_accepting(nfa: &Nfa, set: &[u32]) -> bool
+    requires { All (λ q. q < branching.states_of nfa.now) set.now }
+    ensures { result ≡ has_accepting nfa.now set.now }
+{
+    set.iter().any(|state| nfa.is_accepting(*state))
+}
+
+// The steps after zeros alone: zeros stay, and the other letters lead from the first set on.
+fn first_steps(alloc: Global, nfa: &Nfa, first: &[u32]) -> Result<Vec<KeyStep>, OutOfMemory>
+    requires table { IsBranchTable (branching.letters_of nfa.now) nfa.now.states }
+    requires first { IsStateList nfa.now first.now }
+    ensures { IfOk result (λ steps. AreSteps (branching.letters_of nfa.now) (padded_after nfa.now first.now []) (steps_in steps.items)) }
+{
+    let others = set_steps(alloc, nfa, first)?;
+    with_zero(alloc, nfa.alphabet().letters(), others)
+}
+
+// The steps, but by the zero letter one to the empty list.
+fn with_zero(alloc: Global, letters: u32, others: Vec<KeyStep>) -> Result<Vec<KeyStep>, OutOfMemory>
+    ensures { IfOk result (λ steps. steps_in steps.items ≡ zero_first letters (steps_in others.items)) }
+{
+    let mut steps = zero_step(alloc, letters)?;
+    for step in others {
+        if step.letter != 0 {
+            steps.push(step)?;
+        }
+    }
+    Ok(steps)
+}
+
+// The step by the zero letter to the empty list, if there is such a letter.
+fn zero_step(alloc: Global, letters: u32) -> Result<Vec<KeyStep>, OutOfMemory>
+    ensures { IfOk result (λ steps. steps_in steps.items ≡ zero_steps letters) }
+{
+    let mut steps = Vec::new(alloc);
+    if letters > 0 {
+        steps.push(KeyStep {
+            letter: 0,
+            key: Vec::new(alloc),
+        })?;
+    }
+    Ok(steps)
+}
+
+// The steps from a set.
+fn set_steps(alloc: Global, nfa: &Nfa, set: &[u32]) -> Result<Vec<KeyStep>, OutOfMemory>
+    requires table { IsBranchTable (branching.letters_of nfa.now) nfa.now.states }
+    requires set { IsStateList nfa.now set.now }
+    ensures { IfOk result (λ steps. AreSteps (branching.letters_of nfa.now) (set_after nfa.now set.now) (steps_in steps.items)) }
+{
+    if set.is_empty() {
+        return Ok(Vec::new(alloc));
+    }
+    let subsets = Subsets { nfa, first: set };
+    subsets.steps(alloc, set)
+}
+
+// The states that some number of zero letters leads to. None are where nothing is accepted.
+fn first_set(alloc: Global, a: &Dfa, nfa: &Nfa) -> Result<Vec<u32>, OutOfMemory>
+    requires canonical { IsCanonical a.now }
+    requires same { nfa.now ≡ branching_as a.now }
+    ensures { IfOk result (λ set. AreFirst a.now set.items) }
+{
+    if first(a) == a.states() {
+        return Ok(Vec::new(alloc));
+    }
+    zero_closure(alloc, nfa)
+}
+
+/// The closure under leading zeros. `pad` says more.
+pub fn pad_msd(alloc: Global, a: &Dfa, limit: u32) -> Result<Stepped<Dfa>, OpFault>
+    requires { IsCanonical a.now }
+    ensures sizes { IfOk result (λ stepped. stepped.result.sizes ≡ a.now.sizes) }
+    ensures canonical { IfOk result (λ stepped. IsCanonical stepped.result) }
+    ensures language { IfOk result (λ stepped. (w : List ℕ) → IsWord (letters_of a.now) w
+        → IsTrue (accepts_of stepped.result w) ↔ IsPadded Msd a.now w) }
+    ensures width { IfOk result (λ stepped. HasWidth (PaddedAlike Msd a.now) (letters_of a.now) stepped.width) }
+    ensures size { IfOk result (λ stepped. states_of stepped.result ≤ stepped.width) }
+    ensures within { IfOk result (λ stepped. stepped.width ≤ limit) }
+    ensures states { IsErrOf result OpFault.States → HasApart (PaddedAlike Msd a.now) (letters_of a.now) (limit + 1) }
+    ensures no_letters { ¬ IsErrOf result OpFault.Letters }
+{
+    let nfa = same_branching(alloc, a)?;
+    let first = first_set(alloc, a, &nfa)?;
+    let alphabet = a.alphabet().copy(alloc)?;
+    let sets = PaddedSets {
+        nfa: &nfa,
+        first: &first,
+    };
+    explore_canonical(alloc, &sets, alphabet, limit)
+}

@@ -1,0 +1,36 @@
+//! Automata with new names for their tracks.
+
+ghost use Rattle.std.specs.Prelude.{◌≡◌, ℕ, [], List, length, IfOk};
+ghost use Rattle.std.specs.List.{AllPairs};
+ghost use Rattle.digit_tuple.specs.Deterministic.{accepts_of};
+ghost use Rattle.digit_tuple.specs.Letters.{product, IsWord};
+ghost use Rattle.digit_tuple.specs.Names.{AreDistinct, IsBytesBefore, with_names};
+ghost use Rattle.minimise.specs.Canonical.{IsCanonical};
+ghost use Rattle.project_close.specs.Substitution.{sizes_under, word_under};
+
+use crate::substitution::substitute;
+use digit_tuple::faults::OutOfMemory;
+use digit_tuple::name::Name;
+use digit_tuple::names::joint_names;
+use minimise::tracked::Tracked;
+use std::alloc::Global;
+
+/// The automaton with these names for its tracks: one for each, in the order of the tracks of `a`, no
+/// two the same. The result is canonical; its tracks stand in byte order of the new names, and it
+/// accepts a word exactly where `a` accepts the word that has, on each track, the digits of the track of
+/// its new name. OutOfMemory comes too where 2^32 - 1 states are not enough. Time and memory follow the
+/// states of `a` times the letters.
+pub fn rename(alloc: Global, a: &Tracked, names: &[Name]) -> Result<Tracked, OutOfMemory>
+    requires count { length names.now ≡ length a.now.names }
+    requires distinct { AreDistinct names.now }
+    ensures names { IfOk result (λ renamed. renamed.names ≡ with_names [] names.now) }
+    ensures ordered { IfOk result (λ renamed. AllPairs IsBytesBefore renamed.names) }
+    ensures sizes { IfOk result (λ renamed. renamed.automaton.sizes ≡ sizes_under a.now.automaton.sizes names.now (with_names [] names.now)) }
+    ensures canonical { IfOk result (λ renamed. IsCanonical renamed.automaton) }
+    ensures language { IfOk result (λ renamed. (w : List ℕ) → IsWord (product (sizes_under a.now.automaton.sizes names.now (with_names [] names.now))) w
+        → accepts_of renamed.automaton w ≡ accepts_of a.now.automaton (word_under a.now.automaton.sizes names.now (with_names [] names.now) w)) }
+{
+    let _old = a.names();
+    let ordered = joint_names(alloc, names, &[])?;
+    substitute(alloc, a.dfa(), names, &ordered)
+}
