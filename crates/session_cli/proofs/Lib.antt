@@ -6,7 +6,9 @@ pub mod Coming
 pub mod Between
 pub mod WholeSteps
 pub mod RegexTexts
-pub mod RegexWidths
+pub mod TrackWidths
+pub mod BaseLemmas
+pub mod BaseSteps
 pub mod RegexPlans
 pub mod PlanSteps
 pub mod OneLimits

@@ -47,6 +47,7 @@ proper limit ledger text shown (Err (faults.Number part at)) is store memory = i
 proper limit ledger text shown (Err (faults.Depth part at)) is store memory = is
 proper limit ledger text shown (Err (faults.Long bytes)) is store memory = is
 proper limit ledger text shown (Err (faults.SystemUnknown name)) is store memory = is
+proper limit ledger text shown (Err (faults.Direction first other)) is store memory = is
 proper limit ledger text shown (Err (faults.Letters step)) is store memory = is
 proper limit ledger text shown (Err (faults.States step)) is store memory = is
 
@@ -57,6 +58,7 @@ open_is text (Err (faults.Syntax parts.Command at)) (short, is) = inr (short, ap
 open_is text (Err (faults.Syntax parts.Regex at)) is = absurd is
 open_is text (Err (faults.Depth part at)) is = absurd is
 open_is text (Err (faults.SystemUnknown name)) is = absurd is
+open_is text (Err (faults.Direction first other)) is = absurd is
 open_is text (Err (faults.Letters step)) is = absurd is
 open_is text (Err (faults.States step)) is = absurd is
 open_is text (Err (faults.Number part at)) is = absurd is

@@ -1,13 +1,10 @@
 -- The automaton of an expression, and its text.
-use Rattle.std.proofs.Common.{◌≡◌, ◌↔◌, ℕ, Bool, true, false, IsTrue, List, [], ◌∷◌, ℤ, refl, sym, ap, ◌∙◌, subst}
+use Rattle.std.proofs.Common.{◌≡◌, ℕ, List, [], ◌∷◌, ℤ, sym, ap, ◌∙◌}
 use Rattle.std.specs.List.{AllByRecursion}
-use Rattle.digit_tuple.specs.Deterministic.{Automaton, letters_of, accepts_of}
-use Rattle.digit_tuple.specs.Letters.{IsWord, product}
-use Rattle.digit_tuple.specs.Sets.{sizes_of}
+use Rattle.digit_tuple.specs.Deterministic.{Automaton}
 use Rattle.digit_tuple.specs.Tuples.{Codes}
 use Rattle.digit_tuple.specs.declared.header.Header.TheVariants as headers
-use Rattle.digit_tuple.proofs.TupleLemmas.{tuple_from_letter, letter_from_members, members_from_letter}
-use Rattle.minimise.proofs.CanonicalLemmas.{canonical_forms}
+use Rattle.digit_tuple.proofs.TupleLemmas.{letter_from_members, members_from_letter}
 use Rattle.regex_build.specs.Expression.{Expression}
 use Rattle.regex_build.specs.Matches.{Matches}
 use Rattle.regex_build.specs.Patterns.{AreMembers}
@@ -15,15 +12,9 @@ use Rattle.dfa_text.specs.Meaning.{FileAccepts, AreTrackSets}
 use Rattle.dfa_text.specs.RelationText.{relation_text}
 use Rattle.dfa_text.specs.RelationLaws.{IsAutomatonOver}
 use Rattle.dfa_text.proofs.RelationPaths.{text_accepts_words, text_accepts_only_codes}
-use Rattle.session_cli.specs.Texts.{IsRegexAutomaton, IsRegexText}
-
--- each word of letters stands for a word of tuples
-coded_tuples : (sets : List (List ℤ)) (word : List ℕ) → IsWord (product (sizes_of sets)) word → (tuples : List (List ℤ)) × Codes sets tuples word
-coded_tuples sets [] is = ([], tt)
-coded_tuples sets (letter ∷ word) is =
-    let first = tuple_from_letter sets letter is.0 in
-    let rest : (tuples : List (List ℤ)) × Codes sets tuples word = coded_tuples sets word is.1 in
-    (first.0 ∷ rest.0, (first.1, rest.1))
+use Rattle.reg_steps.specs.RegexSteps.{IsRegexAutomaton}
+use Rattle.reg_steps.proofs.OneRegex.{one_automaton}
+use Rattle.session_cli.specs.Texts.{IsRegexText}
 
 -- each word over the sets has a word of letters
 coded_letters : (sets : List (List ℤ)) (tuples : List (List ℤ)) → AllByRecursion (AreMembers sets) tuples → (word : List ℕ) × Codes sets tuples word
@@ -40,23 +31,7 @@ members_of_coded sets [] (letter ∷ word) codes = absurd codes
 members_of_coded sets (tuple ∷ tuples) [] codes = absurd codes
 members_of_coded sets (tuple ∷ tuples) (letter ∷ word) codes = (members_from_letter sets tuple letter codes.0, members_of_coded sets tuples word codes.1)
 
-same_truth : (v w : Bool) (P : Type 0) → (IsTrue v ↔ P) → (IsTrue w ↔ P) → v ≡ w
-same_truth true true P one other = refl
-same_truth true false P one other = let yes : IsTrue false = other.1 (one.0 refl) in cc
-same_truth false true P one other = let yes : IsTrue false = one.1 (other.0 refl) in cc
-same_truth false false P one other = refl
-
--- an expression over sets has one automaton
-pub one_automaton : (sets : List (List ℤ)) (e : Expression (List ℤ)) (d f : Automaton) → IsRegexAutomaton sets e d → IsRegexAutomaton sets e f → d ≡ f
-one_automaton sets e d f one other = canonical_forms d f one.canonical other.canonical (one.sizes ∙ sym other.sizes) same
-  where
-    same : (word : List ℕ) → IsWord (letters_of d) word → accepts_of d word ≡ accepts_of f word
-    same word is =
-        let P : List ℕ → Type 0 = λ sizes. IsWord (product sizes) word in
-        let coded : (tuples : List (List ℤ)) × Codes sets tuples word = coded_tuples sets word (subst P one.sizes is) in
-        same_truth (accepts_of d word) (accepts_of f word) (Matches e coded.0) (one.language coded.0 word coded.1) (other.language coded.0 word coded.1)
-
--- and one text
+-- an expression over sets has one text
 pub one_regex_text : (sets : List (List ℤ)) (e : Expression (List ℤ)) (text other : List ℕ) → IsRegexText sets e text → IsRegexText sets e other → text ≡ other
 one_regex_text sets e text other a b =
     a.text_is ∙ (ap (λ (d : Automaton). relation_text (headers.Sets sets) d) (one_automaton sets e a.automaton b.automaton a.of_regex b.of_regex) ∙ sym b.text_is)

@@ -1,9 +1,11 @@
 -- Definitions that the contracts cite, in reading order.
 pub mod Codes
 pub mod Words
+pub mod BaseSystems
+pub mod Tracks
 pub mod Trees
 pub mod Texts
-pub mod RegexSteps
+pub mod TrackSteps
 pub mod Lines
 pub mod Outcomes
 pub mod Views
@@ -12,6 +14,7 @@ pub mod Whole
 pub mod Laws
 -- what functions inside the crate do
 pub mod Plans
+pub mod Bases
 pub mod Commands
 pub mod Tallies
 pub mod Handing

@@ -34,6 +34,7 @@ detail (faults.Number part at) = (codes ": F04 Number in " ++ part_name part) ++
 detail (faults.Depth part at) = (codes ": F06 Depth in " ++ part_name part) ++ (codes " at " ++ decimal at)
 detail (faults.Long bytes) = codes ": F07 Long " ++ decimal bytes
 detail (faults.SystemUnknown name) = codes ": F14 SystemUnknown " ++ name
+detail (faults.Direction first other) = (codes ": F17 Direction " ++ first) ++ (codes " " ++ other)
 detail (faults.Letters step) = codes ": F18 Letters step " ++ decimal step
 detail (faults.States step) = codes ": F19 States step " ++ decimal step
 detail (faults.Store folder name) = (codes ": F26 Store " ++ folder_text folder) ++ (codes "/" ++ name)

@@ -1,24 +1,19 @@
 -- Which text stores an entry.
-use Rattle.std.specs.Prelude.{◌≡◌, ◌↔◌, ℕ, ℤ, List, Option, None, Some, ⊤, IsTrue}
+use Rattle.std.specs.Prelude.{◌≡◌, ◌↔◌, ℕ, ℤ, List, Option, None, Some, ⊤}
 use Rattle.std.specs.List.{AllByRecursion}
-use Rattle.digit_tuple.specs.Deterministic.{Automaton, accepts_of}
-use Rattle.digit_tuple.specs.Sets.{sizes_of}
-use Rattle.digit_tuple.specs.Tuples.{Codes}
+use Rattle.digit_tuple.specs.Deterministic.{Automaton}
+use Rattle.digit_tuple.specs.declared.direction.Direction.{Direction}
 use Rattle.digit_tuple.specs.declared.header.Header.TheVariants as headers
-use Rattle.minimise.specs.Canonical.{IsCanonical}
 use Rattle.regex_build.specs.Expression.{Expression}
 use Rattle.regex_build.specs.Matches.{Matches}
 use Rattle.regex_build.specs.Patterns.{AreMembers}
 use Rattle.dfa_text.specs.Meaning.{FileAccepts}
 use Rattle.dfa_text.specs.RelationText.{relation_text}
 use Rattle.wal_outside.specs.Files.{Files}
+use Rattle.reg_steps.specs.RegexSteps.{IsRegexAutomaton}
+use Rattle.reg_steps.specs.Relations.{IsRelation}
+use Rattle.session_cli.specs.Tracks.{Tracks, OverSets, OverBases, letter_sets, header_of, bases}
 use Rattle.session_cli.specs.Trees.{Tree, File, Regex, Entry, Bytes, Defined, Ledger}
-
--- the canonical automaton that accepts exactly the words of letters whose tuples the expression matches
-pub record IsRegexAutomaton (sets : List (List ℤ)) (expression : Expression (List ℤ)) (automaton : Automaton) : Type 0 where
-  pub sizes : automaton.sizes ≡ sizes_of sets
-  pub canonical : IsCanonical automaton
-  pub language : (tuples : List (List ℤ)) (word : List ℕ) → Codes sets tuples word → IsTrue (accepts_of automaton word) ↔ Matches expression tuples
 
 -- The text of an expression over sets. As a file it accepts exactly the words over the sets that the expression matches; it is the text of
 -- the canonical automaton.
@@ -28,10 +23,22 @@ pub record IsRegexText (sets : List (List ℤ)) (expression : Expression (List �
   pub of_regex : IsRegexAutomaton sets expression automaton
   pub text_is : text ≡ relation_text (headers.Sets sets) automaton
 
+-- The text of an expression over bases: that of the canonical automaton of the spellings of the tuples of numbers of which some spelling
+-- matches.
+pub record IsSpelledText (direction : Direction) (ks : List ℕ) (expression : Expression (List ℤ)) (text : List ℕ) : Type 0 where
+  pub automaton : Automaton
+  pub of_relation : IsRelation direction (bases ks) (letter_sets (OverBases direction ks)) expression automaton
+  pub text_is : text ≡ relation_text (header_of (OverBases direction ks)) automaton
+
+-- the text of an expression over tracks
+abbrev pub IsTrackText : Tracks → Expression (List ℤ) → List ℕ → Type 0
+IsTrackText (OverSets sets) expression text = IsRegexText sets expression text
+IsTrackText (OverBases direction ks) expression text = IsSpelledText direction ks expression text
+
 -- the text of a definition
 abbrev pub HasTreeText : Tree → List ℕ → Type 0
 HasTreeText (File bytes) text = text ≡ bytes
-HasTreeText (Regex sets expression) text = IsRegexText sets expression text
+HasTreeText (Regex tracks expression) text = IsTrackText tracks expression text
 
 -- the text of an entry
 abbrev pub HasText : Entry → List ℕ → Type 0

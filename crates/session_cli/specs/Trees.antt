@@ -4,11 +4,12 @@ use Rattle.std.specs.Option.{option_map}
 use Rattle.wal_outside.specs.declared.folder.Folder.{Folder}
 use Rattle.wal_outside.specs.Files.{Files, same_file}
 use Rattle.regex_build.specs.Expression.{Expression}
+use Rattle.session_cli.specs.Tracks.{Tracks}
 
--- a definition: the bytes of a file, or an expression over a set for each track
+-- a definition: the bytes of a file, or an expression over tracks
 pub data Tree : Type 0 where
   File : List ℕ → Tree
-  Regex : List (List ℤ) → Expression (List ℤ) → Tree
+  Regex : Tracks → Expression (List ℤ) → Tree
 
 -- what stands under a name: bytes, or a definition
 pub data Entry : Type 0 where

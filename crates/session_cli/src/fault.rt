@@ -1,8 +1,10 @@
 ghost use Rattle.std.specs.Prelude.{◌≡◌};
 ghost use Rattle.session_cli.specs.declared.fault.Fault.TheVariants.{Memory};
+ghost use Rattle.session_cli.specs.Bases.{fault_of};
 
 use digit_tuple::faults::OutOfMemory;
 use digit_tuple::name::Name;
+use reg_steps::fault::StepFault;
 use std::alloc::{AllocError, AllocFailed};
 use wal_outside::Folder;
 
@@ -30,6 +32,8 @@ pub enum Fault {
     Long(usize),
     /// F14: there is no system of this name.
     SystemUnknown(Name),
+    /// F17: its first system, and the first later one of the other direction.
+    Direction(Name, Name),
     /// F18: this step, counted from 1, would be over more than 16 tracks or 65,536 letters.
     Letters(u64),
     /// F19: this step, counted from 1, would have more values than a step may have.
@@ -47,6 +51,18 @@ impl From<OutOfMemory> for Fault {
 
     fn from(_error: OutOfMemory) -> Fault {
         Fault::Memory
+    }
+}
+
+impl From<StepFault> for Fault {
+    ghost from_gives = { λ f e. e ≡ fault_of f };
+
+    fn from(fault: StepFault) -> Fault {
+        match fault {
+            StepFault::Letters(step) => Fault::Letters(step),
+            StepFault::States(step) => Fault::States(step),
+            StepFault::Memory => Fault::Memory,
+        }
     }
 }
 

@@ -9,7 +9,9 @@ mod fault;
 mod lines;
 // what a command prints
 mod answer;
-// the expression of a command: its step and its text
+// the systems of tracks, by their names
+mod bases;
+// the expression of a command: its steps and its text
 mod regexes;
 // what a command stores and prints, from its text
 mod planning;

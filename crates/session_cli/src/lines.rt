@@ -49,6 +49,13 @@ fn send_detail<K: Sink>(out: &mut K, fault: &Fault) -> Result<(), WriteFault>
         Fault::Depth(part, at) => send_place(out, b": F06 Depth in ", *part, *at),
         Fault::Long(bytes) => send_number(out, b": F07 Long ", *bytes as u64),
         Fault::SystemUnknown(name) => send_two(out, b": F14 SystemUnknown ", name.as_bytes()),
+        Fault::Direction(first, other) => send_four(
+            out,
+            b": F17 Direction ",
+            first.as_bytes(),
+            b" ",
+            other.as_bytes(),
+        ),
         Fault::Letters(step) => send_number(out, b": F18 Letters step ", *step),
         Fault::States(step) => send_number(out, b": F19 States step ", *step),
         Fault::Store(folder, name) => send_file(out, *folder, name),

@@ -1,9 +1,11 @@
-ghost use Rattle.std.specs.Prelude.{◌≡◌, ◌<◌, ◌≤◌, [], length, slice_index_or, codes};
+ghost use Rattle.std.specs.Prelude.{◌≡◌, ◌≤◌, length, codes};
+ghost use Rattle.command_head.specs.HeadViews.{tracks_of};
 ghost use Rattle.command_head.specs.Parts.{first_word_of};
-ghost use Rattle.session_cli.specs.Plans.{Plans};
+ghost use Rattle.session_cli.specs.Plans.{AreFormedTracks, Plans, PlansOver};
 
+use crate::bases::Bases;
 use crate::fault::{Fault, Part};
-use crate::regexes::{Made, regex_over};
+use crate::regexes::{Made, regex_over, regex_over_bases};
 use command_head::{Alphabets, HeadFault, RegParts, first_word, reg_parts};
 use digit_tuple::name::Name;
 use std::alloc::Global;
@@ -34,7 +36,7 @@ pub(crate) fn plan_of(alloc: Global, limit: u32, text: &[u8], shown: bool) -> Re
     plan_reg(alloc, limit, text, shown)
 }
 
-/// What a `reg` stores and prints. No system is known.
+/// What a `reg` stores and prints.
 fn plan_reg(alloc: Global, limit: u32, text: &[u8], shown: bool) -> Result<Plan, Fault>
     requires short { length text.now ≤ COMMAND_LIMIT }
     requires word { first_word_of text.now ≡ codes "reg" }
@@ -47,12 +49,9 @@ fn plan_reg(alloc: Global, limit: u32, text: &[u8], shown: bool) -> Result<Plan,
                 alphabets,
                 body,
             },
-        ) => match alphabets {
-            Alphabets::Sets(sets) => match regex_over(alloc, limit, sets, body, shown) {
-                Ok(made) => Ok(Plan { name, made }),
-                Err(fault) => Err(fault),
-            },
-            Alphabets::Systems(names) => Err(unknown_system(names)),
+        ) => match made_over(alloc, limit, alphabets, body, shown) {
+            Ok(made) => Ok(Plan { name, made }),
+            Err(fault) => Err(fault),
         },
         Err(HeadFault::Syntax(at)) => Err(Fault::Syntax(Part::Command, at)),
         Err(HeadFault::Number(at)) => Err(Fault::Number(Part::Command, at)),
@@ -60,11 +59,22 @@ fn plan_reg(alloc: Global, limit: u32, text: &[u8], shown: bool) -> Result<Plan,
     }
 }
 
-/// The fault of the first of these systems, of which none is known.
-fn unknown_system(names: Vec<Name>) -> Fault
-    requires { 0 < length names.items }
-    ensures { result ≡ Fault.SystemUnknown (slice_index_or names.items 0 []) }
+/// What is made of the expression in a quoted text over sets, or over systems.
+fn made_over(
+    alloc: Global,
+    limit: u32,
+    alphabets: Alphabets,
+    body: &[u8],
+    shown: bool,
+) -> Result<Made, Fault>
+    requires { AreFormedTracks (tracks_of alphabets) }
+    ensures { PlansOver limit (tracks_of alphabets) body.now shown result }
 {
-    let mut names = names;
-    Fault::SystemUnknown(names.swap_remove(0))
+    match alphabets {
+        Alphabets::Sets(sets) => regex_over(alloc, limit, sets, body, shown),
+        Alphabets::Systems(names) => {
+            let bases = Bases::of_names(alloc, &names)?;
+            regex_over_bases(alloc, limit, &bases, &names, body, shown)
+        }
+    }
 }

@@ -1,20 +1,22 @@
-ghost use Rattle.std.specs.Prelude.{◌≡◌, ◌+◌, ◌<◌, ◌^◌, length};
+ghost use Rattle.std.specs.Prelude.{◌≡◌, MatchResult};
 ghost use Rattle.digit_tuple.specs.Headers.{sets_of};
+ghost use Rattle.digit_tuple.specs.Sets.{sizes_of};
 ghost use Rattle.dfa_text.specs.Meaning.{AreTrackSets};
-ghost use Rattle.digit_tuple.specs.declared.header.Header.TheVariants as headers;
-ghost use Rattle.session_cli.specs.Plans.{PlansRegex, Steps as DoesStep};
+ghost use Rattle.session_cli.specs.Bases.{AreBasesOf, digits_in};
+ghost use Rattle.session_cli.specs.Plans.{ParsesTo, PlansRegex, Prints};
+ghost use Rattle.session_cli.specs.Tracks.{OverBases, OverSets};
 
 use crate::answer::Answer;
+use crate::bases::Bases;
 use crate::fault::{Fault, Part};
 use dfa_text::print_relation;
 use digit_tuple::dfa::Dfa;
-use digit_tuple::faults::OpFault;
 use digit_tuple::header::Header;
-use digit_tuple::kind::Kind;
+use digit_tuple::name::Name;
 use digit_tuple::sets::Sets;
-use digit_tuple::stepped::Stepped;
 use digit_tuple::steps::Steps;
-use regex_build::build::build;
+use reg_steps::regex_step::regex_step;
+use reg_steps::relation_steps::relation_steps;
 use regex_build::fault::RegexFault;
 use regex_build::parse;
 use regex_build::regex::Regex;
@@ -30,7 +32,7 @@ pub(crate) struct Made {
     pub(crate) answer: Answer,
 }
 
-/// What is made of the expression in a quoted text over sets.
+/// What is made of the expression in a quoted text over sets, by the step `regex`.
 pub(crate) fn regex_over(
     alloc: Global,
     limit: u32,
@@ -39,40 +41,65 @@ pub(crate) fn regex_over(
     shown: bool,
 ) -> Result<Made, Fault>
     requires sets { AreTrackSets sets }
-    ensures { PlansRegex limit sets body.now shown result }
+    ensures { PlansRegex limit (OverSets sets) body.now shown result }
 {
     let header = Header::Sets(sets);
-    let regex = match parse(alloc, body, &header) {
-        Ok(regex) => regex,
-        Err(RegexFault::Syntax(at)) => return Err(Fault::Syntax(Part::Regex, at)),
-        Err(RegexFault::Number(at)) => return Err(Fault::Number(Part::Regex, at)),
-        Err(RegexFault::Depth(at)) => return Err(Fault::Depth(Part::Regex, at)),
-        Err(RegexFault::Memory) => return Err(Fault::Memory),
-    };
+    let regex = parsed(alloc, body, &header)?;
     let mut steps = Steps::new(alloc, limit);
     let automaton = regex_step(alloc, &regex, &mut steps)?;
-    let stored = print_relation(alloc, &header, &automaton)?;
+    printed(alloc, &header, &automaton, &steps, shown)
+}
+
+/// What is made of the expression in a quoted text over systems, by the steps `regex`, `pad` and `valid`.
+pub(crate) fn regex_over_bases(
+    alloc: Global,
+    limit: u32,
+    bases: &Bases,
+    names: &[Name],
+    body: &[u8],
+    shown: bool,
+) -> Result<Made, Fault>
+    requires { AreBasesOf names.now bases.now }
+    ensures { PlansRegex limit (OverBases bases.now.direction (digits_in bases.now.systems.items)) body.now shown result }
+{
+    let header = Header::Systems(bases.tracks(alloc, names)?);
+    let regex = parsed(alloc, body, &header)?;
+    let languages = bases.languages(alloc)?;
+    let mut steps = Steps::new(alloc, limit);
+    let relation = relation_steps(alloc, &regex, bases.direction, &languages, &mut steps)?;
+    printed(alloc, &header, relation.dfa(), &steps, shown)
+}
+
+/// The expression in a quoted text.
+fn parsed(alloc: Global, body: &[u8], header: &Header) -> Result<Regex, Fault>
+    ensures { ParsesTo (sets_of header.now) body.now result }
+{
+    match parse(alloc, body, header) {
+        Ok(regex) => Ok(regex),
+        Err(RegexFault::Syntax(at)) => Err(Fault::Syntax(Part::Regex, at)),
+        Err(RegexFault::Number(at)) => Err(Fault::Number(Part::Regex, at)),
+        Err(RegexFault::Depth(at)) => Err(Fault::Depth(Part::Regex, at)),
+        Err(RegexFault::Memory) => Err(Fault::Memory),
+    }
+}
+
+/// The text of an automaton, and what is printed of the steps.
+fn printed(
+    alloc: Global,
+    header: &Header,
+    automaton: &Dfa,
+    steps: &Steps,
+    shown: bool,
+) -> Result<Made, Fault>
+    requires { automaton.now.sizes ≡ sizes_of (sets_of header.now) }
+    ensures { Prints header.now automaton.now shown steps.now.lines result }
+{
+    let stored = print_relation(alloc, header, automaton)?;
     if stored.len() > TEXT_LIMIT {
         return Err(Fault::Long(TEXT_LIMIT));
     }
     Ok(Made {
         stored,
-        answer: Answer::of_steps(alloc, &steps, shown)?,
+        answer: Answer::of_steps(alloc, steps, shown)?,
     })
-}
-
-/// The step `regex`, as the next one.
-fn regex_step(alloc: Global, regex: &Regex, steps: &mut Steps) -> Result<Dfa, Fault>
-    requires few { length steps.old.lines < 2 ^ 32 }
-    ensures { DoesStep steps.old regex.now.sets regex.now.tree result steps.new }
-{
-    match build(alloc, regex, steps.limit()) {
-        Ok(Stepped { result, width }) => {
-            steps.done(Kind::Regex, width, result.states())?;
-            Ok(result)
-        }
-        Err(OpFault::Letters) => Err(Fault::Letters(steps.count() + 1)),
-        Err(OpFault::States) => Err(Fault::States(steps.count() + 1)),
-        Err(OpFault::Memory) => Err(Fault::Memory),
-    }
 }

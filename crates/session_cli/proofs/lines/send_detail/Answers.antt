@@ -20,3 +20,6 @@ returns-in-SystemUnknown-clause-sent g c = rw (c.in-SystemUnknown.is) (rw c.as_b
 
 pub returns-in-States-clause-sent : goal.returns-in-States-clause-sent
 returns-in-States-clause-sent g c = rw c.in-States.is c.send_number-in-States.ensures.sent
+
+pub returns-in-Direction-clause-sent : goal.returns-in-Direction-clause-sent
+returns-in-Direction-clause-sent g c = rw c.in-Direction.is (rw (c.as_bytes-in-Direction.ensures, c.as_bytes-in-Direction-2.ensures) at c.send_four.ensures.sent)

@@ -1,15 +1,22 @@
 -- The step that makes the automaton of an expression.
-use Rattle.std.specs.Prelude.{◌≡◌, ℕ, ◌+◌, ◌≤◌, ℤ, List}
-use Rattle.digit_tuple.specs.Deterministic.{Automaton, states_of}
+use Rattle.std.specs.Prelude.{◌≡◌, ◌↔◌, ℕ, ◌+◌, ◌≤◌, ℤ, List, IsTrue}
+use Rattle.digit_tuple.specs.Deterministic.{Automaton, states_of, accepts_of}
 use Rattle.digit_tuple.specs.Letters.{IsAlphabet, product}
 use Rattle.digit_tuple.specs.Sets.{sizes_of}
-use Rattle.digit_tuple.specs.Tuples.{IsLetterOf}
+use Rattle.digit_tuple.specs.Tuples.{IsLetterOf, Codes}
 use Rattle.digit_tuple.specs.Width.{HasApart, HasWidth}
 use Rattle.digit_tuple.specs.declared.kind.Kind.TheVariants as kinds
 use Rattle.digit_tuple.specs.declared.steps.StepLine.{StepLine}
+use Rattle.minimise.specs.Canonical.{IsCanonical}
 use Rattle.regex_build.specs.Expression.{Expression}
 use Rattle.regex_build.specs.LastMarks.{SameLastMarks}
-use Rattle.session_cli.specs.Texts.{IsRegexAutomaton}
+use Rattle.regex_build.specs.Matches.{Matches}
+
+-- the canonical automaton that accepts exactly the words of letters whose tuples the expression matches
+pub record IsRegexAutomaton (sets : List (List ℤ)) (expression : Expression (List ℤ)) (automaton : Automaton) : Type 0 where
+  pub sizes : automaton.sizes ≡ sizes_of sets
+  pub canonical : IsCanonical automaton
+  pub language : (tuples : List (List ℤ)) (word : List ℕ) → Codes sets tuples word → IsTrue (accepts_of automaton word) ↔ Matches expression tuples
 
 -- words are alike for the step where they have the same last marks
 abbrev pub AlikeBy : List (List ℤ) → Expression (List ℤ) → List ℕ → List ℕ → Type 0

@@ -1,15 +1,34 @@
 -- The step of an expression has one width and one line.
-use Rattle.std.proofs.Common.{◌≡◌, ◌⊎◌, ℕ, ◌+◌, ◌<◌, ◌≤◌, List, length, ℤ, sym, ap, ◌∙◌, inl, inr, arith}
+use Rattle.std.proofs.Common.{◌≡◌, ◌⊎◌, ◌↔◌, ℕ, ◌+◌, ◌<◌, ◌≤◌, Bool, true, false, IsTrue, List, length, ℤ, refl, sym, ap, ◌∙◌, subst, inl, inr, arith}
 use Rattle.std.proofs.lemmas.Bool.{cases_lt}
-use Rattle.digit_tuple.specs.Deterministic.{Automaton, states_of}
-use Rattle.digit_tuple.specs.Letters.{IsAlphabet, product}
+use Rattle.digit_tuple.specs.Deterministic.{Automaton, letters_of, states_of, accepts_of}
+use Rattle.digit_tuple.specs.Letters.{IsAlphabet, IsWord, product}
 use Rattle.digit_tuple.specs.Sets.{sizes_of}
+use Rattle.digit_tuple.specs.Tuples.{Codes}
 use Rattle.digit_tuple.specs.Width.{HasApart, HasWidth}
 use Rattle.digit_tuple.specs.declared.steps.StepLine.{StepLine}
+use Rattle.digit_tuple.proofs.TupleLemmas.{tuples_from_word}
+use Rattle.minimise.proofs.CanonicalLemmas.{canonical_forms}
 use Rattle.regex_build.specs.Expression.{Expression}
+use Rattle.regex_build.specs.Matches.{Matches}
 use Rattle.minimise.proofs.ApartLemmas.{apart_within_width}
-use Rattle.session_cli.specs.RegexSteps.{AlikeBy, IsRegexStep, ExceedsStates}
-use Rattle.session_cli.proofs.RegexTexts.{one_automaton}
+use Rattle.reg_steps.specs.RegexSteps.{AlikeBy, IsRegexAutomaton, IsRegexStep, ExceedsStates}
+
+pub same_truth : (v w : Bool) (P : Type 0) → (IsTrue v ↔ P) → (IsTrue w ↔ P) → v ≡ w
+same_truth true true P one other = refl
+same_truth true false P one other = let yes : IsTrue false = other.1 (one.0 refl) in cc
+same_truth false true P one other = let yes : IsTrue false = one.1 (other.0 refl) in cc
+same_truth false false P one other = refl
+
+-- an expression over sets has one automaton
+pub one_automaton : (sets : List (List ℤ)) (e : Expression (List ℤ)) (d f : Automaton) → IsRegexAutomaton sets e d → IsRegexAutomaton sets e f → d ≡ f
+one_automaton sets e d f one other = canonical_forms d f one.canonical other.canonical (one.sizes ∙ sym other.sizes) same
+  where
+    same : (word : List ℕ) → IsWord (letters_of d) word → accepts_of d word ≡ accepts_of f word
+    same word is =
+        let P : List ℕ → Type 0 = λ sizes. IsWord (product sizes) word in
+        let coded : (tuples : List (List ℤ)) × Codes sets tuples word = tuples_from_word sets word (subst P one.sizes is) in
+        same_truth (accepts_of d word) (accepts_of f word) (Matches e coded.0) (one.language coded.0 word coded.1) (other.language coded.0 word coded.1)
 
 -- words that are alike to one word are alike
 shared : (sets : List (List ℤ)) (e : Expression (List ℤ)) (w v u : List ℕ) → AlikeBy sets e w u → AlikeBy sets e v u → AlikeBy sets e w v

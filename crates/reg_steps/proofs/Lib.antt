@@ -1,0 +1,11 @@
+pub mod DirectionLemmas
+pub mod SpelledWords
+pub mod OneRegex
+pub mod RelationLemmas
+pub mod StepSizes
+pub mod DoneSteps
+pub mod OnePad
+pub mod OneValid
+pub mod OneRelation
+pub mod OneLanguages
+pub mod RelationDone

@@ -1,0 +1,75 @@
+-- Words whose tracks are valid, and words that spell numbers.
+use Rattle.std.proofs.Common.{◌≡◌, ℕ, ◌<◌, true, List, [], ◌∷◌, length, map, get_or, sym, ap, ◌∙◌, subst, arith}
+use Rattle.std.specs.List.{range_with_len, AllPass}
+use Rattle.std.proofs.lemmas.List.{get_or_default}
+use Rattle.std.proofs.lemmas.List.Sums.{AllPass-from_list_all, list_all-from_AllPass}
+use Rattle.std.proofs.lemmas.List.FromFn.{length-range_with_len, get_or-range_with_len, length-map-range_with_len, get_or-map-range_with_len}
+use Rattle.digit_tuple.specs.Deterministic.{Automaton, accepts_of}
+use Rattle.digit_tuple.specs.Parts.{part}
+use Rattle.digit_tuple.specs.Paddings.{in_order}
+use Rattle.digit_tuple.specs.declared.direction.Direction.{Direction}
+use Rattle.product_op.specs.Validity.{language_at, is_valid}
+use Rattle.num_system.specs.Words.{rank}
+use Rattle.num_system.specs.Systems.{System, IsNumeral}
+use Rattle.num_system.specs.Spelling.{Spells, sizes_of}
+use Rattle.num_system.proofs.TrackLemmas.{track, numerals_from_spelling, spelling_from_numerals}
+use Rattle.reg_steps.specs.Relations.{AreSystemLanguages}
+use Rattle.reg_steps.proofs.DirectionLemmas.{part-in_order}
+
+-- what stands for a system that is not there
+abbrev pub no_system : System
+no_system = record { digits = 0; test = λ w. true }
+
+module _ (sizes : List ℕ) (languages : List Automaton) (w : List ℕ) where
+  -- whether the track is in its language
+  abbrev pub in_language : ℕ → Type 0
+  in_language i = accepts_of (language_at languages i) (part sizes (i ∷ []) w) ≡ true
+
+  pub each_track : is_valid sizes languages w ≡ true → (i : ℕ) → i < length languages → in_language i
+  each_track valid i within =
+      let at : get_or (range_with_len 0 (length languages)) i 0 ≡ i = omega (arith, get_or-range_with_len 0 (length languages) i 0 within) in
+      let passes = AllPass-from_list_all (λ track. accepts_of (language_at languages track) (part sizes (track ∷ []) w)) (range_with_len 0 (length languages)) valid i 0 (omega (arith, within, length-range_with_len 0 (length languages))) in
+      subst in_language at passes
+
+  pub all_tracks : ((i : ℕ) → i < length languages → in_language i) → is_valid sizes languages w ≡ true
+  all_tracks each = list_all-from_AllPass (λ track. accepts_of (language_at languages track) (part sizes (track ∷ []) w)) (range_with_len 0 (length languages)) pass
+    where
+      pass : AllPass (λ track. accepts_of (language_at languages track) (part sizes (track ∷ []) w)) (range_with_len 0 (length languages))
+      pass i d within =
+          let small : i < length languages = omega (arith, within, length-range_with_len 0 (length languages)) in
+          let at : get_or (range_with_len 0 (length languages)) i d ≡ i = omega (arith, get_or-range_with_len 0 (length languages) i d small) in
+          subst in_language (sym at) (each i small)
+
+module _ (direction : Direction) (ss : List System) (languages : List Automaton) (are : AreSystemLanguages direction ss languages) (w : List ℕ) where
+  -- a track is valid where its language accepts it
+  track_test : (i : ℕ) (s : System) → i < length ss → accepts_of (language_at languages i) (part (sizes_of ss) (i ∷ []) w) ≡ (get_or ss i s).test (track ss i (in_order direction w))
+  track_test i s within =
+      (are.each i s within).of_system.accepts (part (sizes_of ss) (i ∷ []) w)
+      ∙ ap (get_or ss i s).test (sym (part-in_order direction (sizes_of ss) (i ∷ []) w))
+
+  -- the rank of each track
+  abbrev rank_at : ℕ → ℕ
+  rank_at i = let s : System = get_or ss i no_system in rank s.digits s.test (track ss i (in_order direction w))
+
+  abbrev ranks : List ℕ
+  ranks = map rank_at (range_with_len 0 (length ss))
+
+  -- a valid word spells numbers
+  pub valid_spells : is_valid (sizes_of ss) languages w ≡ true → (ns : List ℕ) × Spells ss (in_order direction w) ns
+  valid_spells valid = (ranks, spelling_from_numerals ss (in_order direction w) ranks (record { count = length-map-range_with_len rank_at 0 (length ss); each = numeral }))
+    where
+      numeral : (i : ℕ) (d : System) → i < length ss → IsNumeral (get_or ss i d) (track ss i (in_order direction w)) (get_or ranks i 0)
+      numeral i d within =
+          let at : get_or ranks i 0 ≡ rank_at i = get_or-map-range_with_len rank_at 0 (length ss) i i 0 within (omega arith) in
+          let same : get_or ss i no_system ≡ get_or ss i d = get_or_default ss i no_system d within in
+          subst (λ (s : System). IsNumeral s (track ss i (in_order direction w)) (get_or ranks i 0)) same
+          ((sym (track_test i no_system within) ∙ each_track (sizes_of ss) languages w valid i (omega (arith, within, are.count))), sym at)
+
+  -- and a word that spells numbers is valid
+  pub spelled_valid : (ns : List ℕ) → Spells ss (in_order direction w) ns → is_valid (sizes_of ss) languages w ≡ true
+  spelled_valid ns spelled = all_tracks (sizes_of ss) languages w each
+    where
+      each : (i : ℕ) → i < length languages → in_language (sizes_of ss) languages w i
+      each i within =
+          let inside : i < length ss = omega (arith, within, are.count) in
+          track_test i no_system inside ∙ ((numerals_from_spelling ss (in_order direction w) ns spelled).each i no_system inside).0

@@ -1,0 +1,9 @@
+-- Definitions that the contracts cite, in reading order.
+pub mod RegexSteps
+pub mod PadSteps
+pub mod ValidSteps
+pub mod RelationSteps
+pub mod Relations
+pub mod Laws
+-- what functions inside the crate do
+pub mod Refusals

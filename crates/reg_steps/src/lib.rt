@@ -1,0 +1,21 @@
+//! The steps by which an expression becomes an automaton: over sets the step `regex` alone, over
+//! numeration systems the steps `regex`, `pad` and `valid`.
+#![tactic(auto)]
+
+/// Why a step gives no automaton.
+pub mod fault;
+
+/// The step `regex`.
+pub mod regex_step;
+
+/// The step `pad`.
+pub mod pad_step;
+
+/// The step `valid`.
+pub mod valid_step;
+
+/// The three steps over numeration systems.
+pub mod relation_steps;
+
+/// Laws of the definitions.
+pub mod laws;

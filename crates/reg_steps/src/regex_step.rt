@@ -1,0 +1,37 @@
+//! The step `regex`.
+
+ghost use Rattle.std.specs.Prelude.{◌<◌, ◌^◌, length};
+ghost use Rattle.reg_steps.specs.Refusals.{DoesRegex};
+
+use crate::fault::StepFault;
+use digit_tuple::dfa::Dfa;
+use digit_tuple::faults::OpFault;
+use digit_tuple::kind::Kind;
+use digit_tuple::stepped::Stepped;
+use digit_tuple::steps::Steps;
+use regex_build::build::build;
+use regex_build::regex::Regex;
+use std::alloc::Global;
+
+/// The canonical automaton of the words that the expression matches, by the step `regex` as the next
+/// one. Its width is the number of sets of last marks that words have, its size the number of the
+/// automaton's states.
+///
+/// # Errors
+/// `Letters` exactly where the sets are too many or have too many tuples for an alphabet, looked at
+/// first; `States` exactly where the width passes the limit. The steps are as before then, also where
+/// memory is wanting.
+pub fn regex_step(alloc: Global, regex: &Regex, steps: &mut Steps) -> Result<Dfa, StepFault>
+    requires few { length steps.old.lines < 2 ^ 32 }
+    ensures { DoesRegex steps.old regex.now.sets regex.now.tree result steps.new }
+{
+    match build(alloc, regex, steps.limit()) {
+        Ok(Stepped { result, width }) => {
+            steps.done(Kind::Regex, width, result.states())?;
+            Ok(result)
+        }
+        Err(OpFault::Letters) => Err(StepFault::Letters(steps.count() + 1)),
+        Err(OpFault::States) => Err(StepFault::States(steps.count() + 1)),
+        Err(OpFault::Memory) => Err(StepFault::Memory),
+    }
+}

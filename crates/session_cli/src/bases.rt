@@ -1,0 +1,130 @@
+ghost use Rattle.std.specs.Prelude.{◌≡◌, ◌≢◌, ◌<◌, ℕ, length, map, slice_index_or, IfSome, IfOk, IsNone, MatchOption, MatchResult, decimal};
+ghost use Rattle.std.specs.List.{All, AllByRecursion};
+ghost use Rattle.std.specs.Rc.{rc_value};
+ghost use Rattle.reg_steps.specs.Relations.{AreSystemLanguages};
+ghost use Rattle.session_cli.specs.BaseSystems.{base_name, base_tracks, IsBase, IsKnown};
+ghost use Rattle.session_cli.specs.Tracks.{bases};
+ghost use Rattle.session_cli.specs.Bases.{AreNamed, IsUnknown, AreBasesOf, AreRefusedNames, IsFirstApart, IsIn, digits_in, name_of};
+
+use crate::fault::Fault;
+use base_k::base_k::{BaseK, GREATEST_BASE, LEAST_BASE};
+use digit_tuple::dfa::Dfa;
+use digit_tuple::direction::Direction;
+use digit_tuple::faults::OutOfMemory;
+use digit_tuple::name::Name;
+use digit_tuple::systems::Systems;
+use itoa::Buffer;
+use minimise::canonical::canonical;
+use num_system::num_system::NumSystem;
+use std::alloc::Global;
+use std::rc::Rc;
+
+/// The systems of tracks, all read in one direction.
+#[derive(Drop)]
+pub(crate) struct Bases {
+    /// The direction.
+    pub(crate) direction: Direction,
+    /// The system of each track.
+    pub(crate) systems: Vec<BaseK>,
+}
+
+impl Bases {
+    /// The systems of these names, of which there is at least one.
+    ///
+    /// # Errors
+    /// `SystemUnknown` with the first name that is not known; then `Direction` with the first name and the first later one of
+    /// the other direction.
+    pub(crate) fn of_names(alloc: Global, names: &[Name]) -> Result<Self, Fault>
+        requires { 0 < length names.now }
+        ensures { MatchResult result (AreBasesOf names.now) (AreRefusedNames names.now) }
+    {
+        let systems = known_bases(alloc, names)?;
+        let direction = systems[0].direction;
+        match other_direction(&systems, direction) {
+            Some(place) => Err(Fault::Direction(names[0].copy(alloc)?, names[place].copy(alloc)?)),
+            None => Ok(Bases { direction, systems }),
+        }
+    }
+
+    /// The tracks of a header over the systems.
+    pub(crate) fn tracks(&self, alloc: Global, names: &[Name]) -> Result<Systems, OutOfMemory>
+        requires { AreBasesOf names.now self.now }
+        ensures { IfOk result (λ systems. systems ≡ base_tracks self.now.direction (digits_in self.now.systems.items)) }
+    {
+        let mut tracks = Systems::new(alloc);
+        for (place, system) in self.systems.iter().enumerate() {
+            tracks.push(names[place].copy(alloc)?, system.base)?;
+        }
+        Ok(tracks)
+    }
+
+    /// The canonical language of each system.
+    pub(crate) fn languages(&self, alloc: Global) -> Result<Vec<Rc<Dfa>>, OutOfMemory>
+        requires { All (IsIn self.now.direction) self.now.systems.items }
+        ensures { IfOk result (λ languages. AreSystemLanguages self.now.direction (bases (digits_in self.now.systems.items)) (map rc_value languages.items)) }
+    {
+        let mut languages = Vec::new(alloc);
+        for system in &self.systems {
+            let language = system.language(alloc)?;
+            languages.push(Rc::new(alloc, canonical(alloc, &language)?)?)?;
+        }
+        Ok(languages)
+    }
+}
+
+// The system of each name.
+fn known_bases(alloc: Global, names: &[Name]) -> Result<Vec<BaseK>, Fault>
+    ensures { MatchResult result (λ systems. AreNamed names.now systems.items) (IsUnknown names.now) }
+{
+    let mut systems = Vec::new(alloc);
+    for name in names {
+        match base_of(name) {
+            Some(system) => systems.push(system)?,
+            None => return Err(Fault::SystemUnknown(name.copy(alloc)?)),
+        }
+    }
+    Ok(systems)
+}
+
+// The place of the first system that is read in another direction.
+fn other_direction(systems: &[BaseK], direction: Direction) -> Option<usize>
+    ensures { MatchOption result (All (IsIn direction) systems.now) (IsFirstApart direction systems.now) }
+{
+    for (place, system) in systems.iter().enumerate() {
+        if system.direction != direction {
+            return Some(place);
+        }
+    }
+    None
+}
+
+// The base of this name.
+fn base_of(name: &Name) -> Option<BaseK>
+    ensures { MatchOption result (¬ IsKnown name.now) (λ system. name.now ≡ name_of system) }
+{
+    let bytes = name.as_bytes();
+    if bytes.len() < 4 {
+        return None;
+    }
+    let (front, digits) = bytes.split_at(4);
+    if front == b"msd_".as_slice() {
+        base_by_digits(digits, Direction::Msd)
+    } else if front == b"lsd_".as_slice() {
+        base_by_digits(digits, Direction::Lsd)
+    } else {
+        None
+    }
+}
+
+// The base that these digits name.
+fn base_by_digits(digits: &[u8], direction: Direction) -> Option<BaseK>
+    ensures found { IfSome result (λ system. (system.direction ≡ direction) × (digits.now ≡ decimal system.base)) }
+    ensures missing { IsNone result → (k : ℕ) → IsBase k → digits.now ≢ decimal k }
+{
+    for base in LEAST_BASE..GREATEST_BASE + 1 {
+        if Buffer::new().format(base).as_bytes() == digits {
+            return BaseK::new(base, direction);
+        }
+    }
+    None
+}
