@@ -32,8 +32,9 @@ fn texts_are_spelled(
 ) -> Result<(), Fail> {
     let header = three_digits(alloc, tracks)?;
     let mut read = 0;
+    let letters = u32::try_from(bytes.len()).ok().ok_or("few bytes")?;
     for length in 0..=longest {
-        for word in &all_words(alloc, bytes.len() as u32, length)? {
+        for word in &all_words(alloc, letters, length)? {
             let text = text_of(alloc, bytes.as_bytes(), word.letters())?;
             if is_read(rt, alloc, &header, &text)? {
                 read = usize::saturating_add(read, 1);

@@ -79,8 +79,9 @@ fn texts_over(
     longest: usize,
 ) -> Result<Vec<Text>, Fail> {
     let mut texts = Vec::new(alloc);
+    let letters = u32::try_from(bytes.len()).ok().ok_or("few bytes")?;
     for length in 0..=longest {
-        for word in &all_words(alloc, bytes.len() as u32, length)? {
+        for word in &all_words(alloc, letters, length)? {
             let text = text_of(alloc, bytes.as_bytes(), word.letters())?;
             let codes = codes_read(alloc, header, &text)?;
             let tokens = tokens_in(alloc, &text)?;
