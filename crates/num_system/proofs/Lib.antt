@@ -10,3 +10,11 @@ pub mod SealLemmas
 pub mod OrderLemmas
 pub mod PairLemmas
 pub mod ZeroLemmas
+pub mod InOrder
+pub mod PartSpelling
+pub mod ProductLinks
+pub mod ReadingLinks
+pub mod NamedLinks
+pub mod ProjectionLinks
+pub mod SuccessorLemmas
+pub mod StepLemmas

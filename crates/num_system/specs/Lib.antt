@@ -5,3 +5,5 @@ pub mod Relations
 pub mod Sealed
 pub mod Orders
 pub mod PairKeys
+pub mod Joined
+pub mod Successor

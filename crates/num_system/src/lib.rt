@@ -22,6 +22,9 @@ pub mod order;
 /// The number 0.
 pub mod zero;
 
+/// The successor of a system's numbers.
+pub mod successor;
+
 /// Laws of the definitions.
 pub mod laws;
 #[cfg(test)]

@@ -7,7 +7,7 @@ pub mod Weights
 pub mod PartSteps
 pub mod ProductSteps
 pub mod TokenCuts
-pub mod Tests
+pub mod TruthSteps
 pub mod SpelledNumbers
 pub mod Spelled
 pub mod TextTokens

@@ -8,7 +8,7 @@ use Rattle.reference.specs.Tokens.{tokens_of}
 use Rattle.reference.specs.Spellings.{SpellsSequence, SpellsPostfix, SpellsBehindBar}
 use Rattle.reference.proofs.Cuts.{refuted, found, answers_yes, answers_no}
 use Rattle.reference.proofs.TokenCuts.{cut_at, no_cut, one_more_cut}
-use Rattle.reference.proofs.Tests.{by_first, by_second, by_first_alone, by_second_alone}
+use Rattle.reference.proofs.TruthSteps.{by_first, by_second, by_first_alone, by_second_alone}
 use Rattle.reference.proofs.Spelled.{sequence_spells, postfix_spells, primary_spells, group_spells, spells_forms, sequence_forms, postfix_forms, primary_forms, either_forms, follow_forms, star_forms, plus_forms, optional_forms, empty_forms, any_forms, letter_forms, no_either, no_follow, no_sign, no_plain}
 use Rattle.reference.proofs.spelling.+spells.Goals as goal
 use Rattle.reference.proofs.spelling.+spells.Goals.{spells_either-else-spells-via-then-spells+else-spells_behind_bar, spells_either-else-spells-via-else-spells}

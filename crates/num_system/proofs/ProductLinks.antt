@@ -1,0 +1,82 @@
+-- Products of automata that hold of relations hold of the joined relation.
+use Rattle.std.proofs.Common.{◌≡◌, ℕ, ◌<◌, Bool, true, false, List, length, inl, inr, refl, sym, ◌∙◌, ◌↔◌, IsTrue}
+use Rattle.std.specs.List.{All}
+use Rattle.std.proofs.lemmas.Bool.{false≢true}
+use Rattle.digit_tuple.specs.Letters.{IsWord}
+use Rattle.digit_tuple.specs.Parts.{picked, part}
+use Rattle.digit_tuple.specs.Paddings.{in_order}
+use Rattle.digit_tuple.specs.Deterministic.{Automaton, accepts_of}
+use Rattle.digit_tuple.specs.declared.direction.Direction.{Direction}
+use Rattle.product_op.specs.declared.op.Op.{Op}
+use Rattle.product_op.specs.declared.op.Op.TheVariants.{And, AndNot, Or, Xor, Implies, Iff}
+use Rattle.product_op.specs.Connectives.{connective}
+use Rattle.num_system.specs.Systems.{System}
+use Rattle.num_system.specs.Spelling.{sizes_of, letters_in, Spells}
+use Rattle.num_system.specs.Relations.{HoldsOf}
+use Rattle.num_system.specs.Joined.{systems_at, Joined, joined}
+use Rattle.num_system.proofs.PaddingLemmas.{IsWord-in_order}
+use Rattle.num_system.proofs.TrackLemmas.{AreNumerals, numerals_from_spelling, spelling_from_numerals}
+use Rattle.num_system.proofs.PartSpelling.{AreValid, ranks, numerals_valid, valid_numerals, holds_at}
+
+-- the connective of two truth values tells the connective of what they tell
+pub connective_tells : (op : Op) (b c : Bool) (P Q : Type 0) → IsTrue b ↔ P → IsTrue c ↔ Q → IsTrue (connective op b c) ↔ Joined op P Q
+connective_tells And true true P Q p q = (λ yes. (p.0 refl, q.0 refl), λ both. refl)
+connective_tells And true false P Q p q = (λ yes. absurd (false≢true yes), λ both. q.1 both.1)
+connective_tells And false true P Q p q = (λ yes. absurd (false≢true yes), λ both. p.1 both.0)
+connective_tells And false false P Q p q = (λ yes. absurd (false≢true yes), λ both. p.1 both.0)
+connective_tells AndNot true true P Q p q = (λ yes. absurd (false≢true yes), λ both. absurd (both.1 (q.0 refl)))
+connective_tells AndNot true false P Q p q = (λ yes. (p.0 refl, λ y. false≢true (q.1 y)), λ both. refl)
+connective_tells AndNot false true P Q p q = (λ yes. absurd (false≢true yes), λ both. p.1 both.0)
+connective_tells AndNot false false P Q p q = (λ yes. absurd (false≢true yes), λ both. p.1 both.0)
+connective_tells Or true true P Q p q = (λ yes. inl (p.0 refl), λ one. refl)
+connective_tells Or true false P Q p q = (λ yes. inl (p.0 refl), λ one. refl)
+connective_tells Or false true P Q p q = (λ yes. inr (q.0 refl), λ one. refl)
+connective_tells Or false false P Q p q = (λ yes. absurd (false≢true yes), λ one. elim one [ inl x ↦ p.1 x | inr y ↦ q.1 y ])
+connective_tells Xor true true P Q p q = (λ yes. absurd (false≢true yes), λ one. elim one [ inl x ↦ absurd (x.1 (q.0 refl)) | inr y ↦ absurd (y.0 (p.0 refl)) ])
+connective_tells Xor true false P Q p q = (λ yes. inl (p.0 refl, λ y. false≢true (q.1 y)), λ one. refl)
+connective_tells Xor false true P Q p q = (λ yes. inr (λ x. false≢true (p.1 x), q.0 refl), λ one. refl)
+connective_tells Xor false false P Q p q = (λ yes. absurd (false≢true yes), λ one. elim one [ inl x ↦ p.1 x.0 | inr y ↦ q.1 y.1 ])
+connective_tells Implies true true P Q p q = (λ yes x. q.0 refl, λ f. refl)
+connective_tells Implies true false P Q p q = (λ yes. absurd (false≢true yes), λ f. q.1 (f (p.0 refl)))
+connective_tells Implies false true P Q p q = (λ yes x. q.0 refl, λ f. refl)
+connective_tells Implies false false P Q p q = (λ yes x. absurd (false≢true (p.1 x)), λ f. refl)
+connective_tells Iff true true P Q p q = (λ yes. (λ x. q.0 refl, λ y. p.0 refl), λ f. refl)
+connective_tells Iff true false P Q p q = (λ yes. absurd (false≢true yes), λ f. q.1 (f.0 (p.0 refl)))
+connective_tells Iff false true P Q p q = (λ yes. absurd (false≢true yes), λ f. p.1 (f.1 (q.0 refl)))
+connective_tells Iff false false P Q p q = (λ yes. (λ x. absurd (false≢true (p.1 x)), λ y. absurd (false≢true (q.1 y))), λ f. refl)
+
+-- an automaton on all tracks, two that hold of relations on those at ps and at qs, and a connective
+module _ (way : Direction) (ss : List System) (op : Op) (ps qs : List ℕ) (P Q : List ℕ → Type 0) (a b c : Automaton)
+    (first : All (λ place. place < length ss) ps) (second : All (λ place. place < length ss) qs)
+    (holds_a : HoldsOf way (systems_at ps ss) P a) (holds_b : HoldsOf way (systems_at qs ss) Q b) where
+  -- what the connective says of the parts of a word
+  abbrev pub parts_say : List ℕ → Bool
+  parts_say w = connective op (accepts_of a (part (sizes_of ss) ps w)) (accepts_of b (part (sizes_of ss) qs w))
+
+  -- on valid words it says what it says of the numbers
+  pub parts_tell : (w ns : List ℕ) → IsWord (letters_in ss) w → (spelled : AreNumerals ss (in_order way w) ns) → IsTrue (parts_say w) ↔ joined op ps P qs Q ns
+  parts_tell w ns over are =
+      let turned = IsWord-in_order way (letters_in ss) w over in
+      connective_tells op (accepts_of a (part (sizes_of ss) ps w)) (accepts_of b (part (sizes_of ss) qs w)) (P (picked ps ns)) (Q (picked qs ns))
+      (holds_at ss ps first way P a holds_a w ns over turned are) (holds_at ss qs second way Q b holds_b w ns over turned are)
+
+  -- so an automaton that accepts the valid words of which the connective says so holds of the joined relation
+  pub product_holds : c.sizes ≡ sizes_of ss
+      → ((w : List ℕ) → IsWord (letters_in ss) w → IsTrue (accepts_of c w) → AreValid ss (in_order way w))
+      → ((w : List ℕ) → IsWord (letters_in ss) w → AreValid ss (in_order way w) → accepts_of c w ≡ parts_say w)
+      → HoldsOf way ss (joined op ps P qs Q) c
+  product_holds sizes valid says = record { sizes = sizes; accepts = λ w over. (there w over, back w over) }
+    where
+      there : (w : List ℕ) → IsWord (letters_in ss) w → IsTrue (accepts_of c w) → (ns : List ℕ) × Spells ss (in_order way w) ns × joined op ps P qs Q ns
+      there w over accepted =
+          let is_valid = valid w over accepted in
+          let numerals = numerals_valid ss (in_order way w) is_valid in (
+            ranks ss (in_order way w),
+            spelling_from_numerals ss (in_order way w) (ranks ss (in_order way w)) numerals,
+            (parts_tell w (ranks ss (in_order way w)) over numerals).0 (sym (says w over is_valid) ∙ accepted),
+          )
+
+      back : (w : List ℕ) → IsWord (letters_in ss) w → (ns : List ℕ) × Spells ss (in_order way w) ns × joined op ps P qs Q ns → IsTrue (accepts_of c w)
+      back w over found =
+          let numerals = numerals_from_spelling ss (in_order way w) found.0 found.1 in
+          says w over (valid_numerals ss (in_order way w) found.0 numerals) ∙ (parts_tell w found.0 over numerals).1 found.2
