@@ -1,6 +1,8 @@
 //! Scripts in pieces, and calls of the outside that fail.
 
-use crate::rows::ROWS;
+use crate::command_rows::COMMANDS;
+use crate::rows::Row;
+use crate::set_rows::SETS;
 use crate::whole::{Left, Outside, SURE, run_script};
 use session_cli::Status;
 use std::alloc::{AllocError, Global};
@@ -61,15 +63,20 @@ fn expect_same_in_pieces(
     Ok(())
 }
 
-#[test]
-fn pieces_change_nothing(rt: HostRuntime) -> Result<(), Fail> {
-    for row in &ROWS {
-        expect_same_in_pieces(&rt, rt.alloc(), row.script, &ONES)?;
-        expect_same_in_pieces(&rt, rt.alloc(), row.script, &TWOS)?;
-        expect_same_in_pieces(&rt, rt.alloc(), row.script, &THREES)?;
-        expect_same_in_pieces(&rt, rt.alloc(), row.script, &SEVENS)?;
+fn expect_all_same_in_pieces(rt: &impl Abort, alloc: Global, rows: &[Row]) -> Result<(), Fail> {
+    for row in rows {
+        expect_same_in_pieces(rt, alloc, row.script, &ONES)?;
+        expect_same_in_pieces(rt, alloc, row.script, &TWOS)?;
+        expect_same_in_pieces(rt, alloc, row.script, &THREES)?;
+        expect_same_in_pieces(rt, alloc, row.script, &SEVENS)?;
     }
     Ok(())
+}
+
+#[test]
+fn pieces_change_nothing(rt: HostRuntime) -> Result<(), Fail> {
+    expect_all_same_in_pieces(&rt, rt.alloc(), &COMMANDS)?;
+    expect_all_same_in_pieces(&rt, rt.alloc(), &SETS)
 }
 
 /// Runs a script of which a source gives so many bytes, and fails at its second call.

@@ -10,6 +10,18 @@ mod whole;
 #[cfg(test)]
 mod rows;
 
+// the rows of commands: how scripts are cut, and heads
+#[cfg(test)]
+mod command_rows;
+
+// the rows of expressions over sets
+#[cfg(test)]
+mod set_rows;
+
+// the rows of expressions over base systems, and their limits
+#[cfg(test)]
+mod system_rows;
+
 // words of the command line
 #[cfg(test)]
 mod words;
