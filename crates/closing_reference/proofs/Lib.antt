@@ -1,0 +1,3 @@
+pub mod SpelledLemmas
+pub mod ReadingLemmas
+pub mod FlagLemmas
