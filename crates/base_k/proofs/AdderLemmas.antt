@@ -10,7 +10,7 @@ use Rattle.digit_tuple.specs.declared.direction.Direction.TheVariants.{Msd, Lsd}
 use Rattle.num_system.specs.Systems.{System, IsNumeral}
 use Rattle.num_system.specs.Spelling.{Spells, letters_in, first_track, other_tracks}
 use Rattle.num_system.specs.Relations.{IsSum, IsAdderOf}
-use Rattle.num_system.proofs.PaddingLemmas.{IsWord-in_order}
+use Rattle.digit_tuple.proofs.PaddingLemmas.{IsWord-in_order}
 use Rattle.base_k.specs.Positional.{base, value}
 use Rattle.base_k.specs.Carries.{next_carry}
 use Rattle.base_k.proofs.TruthLemmas.{iff_trans}

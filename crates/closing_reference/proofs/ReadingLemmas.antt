@@ -12,7 +12,7 @@ use Rattle.digit_tuple.specs.declared.direction.Direction.TheVariants.{Msd, Lsd}
 use Rattle.digit_tuple.proofs.PartLemmas.{get_or-parts}
 use Rattle.project_close.specs.Padding.{IsPadded}
 use Rattle.project_close.specs.Projection.{InProjection}
-use Rattle.project_close.proofs.PaddingWords.{zeros_in_front, without_zeros-zeros, without_zeros-twice, zeros_at_end, strip-zeros}
+use Rattle.digit_tuple.proofs.PaddingLemmas.{zeros_in_front, without_zeros-zeros, without_zeros-twice, zeros_at_end, strip-zeros}
 use Rattle.closing_reference.specs.Spelled.{IsSpelled, reading_of}
 
 -- words are read alike where letters are

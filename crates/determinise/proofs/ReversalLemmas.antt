@@ -12,6 +12,7 @@ use Rattle.digit_tuple.specs.Deterministic.{Automaton, IsTable, states_of, lette
 use Rattle.digit_tuple.specs.FirstWords.{IsNumberedByFirsts}
 use Rattle.digit_tuple.specs.Letters.{IsWord, product}
 use Rattle.digit_tuple.proofs.DfaLemmas.{row_at, target_by-in_range}
+use Rattle.digit_tuple.proofs.PaddingLemmas.{reverse-cons, IsWord-reverse}
 use Rattle.digit_tuple.proofs.PathLemmas.{Path-in_range}
 use Rattle.digit_tuple.proofs.WordLemmas.{IsWord-push, IsWord-append, run_of-append, run_of-push, accepts_from-append}
 use Rattle.digit_tuple.specs.Keys.{key_run, key_accepts, LeadAlike}
@@ -22,13 +23,6 @@ use Rattle.determinise.specs.Reversed.{IsReversal, AreAccepting, SameReversedRes
 use Rattle.determinise.specs.Subsets.{set_after, has_accepting, IsStateSet}
 use Rattle.determinise.proofs.MemberLemmas.{Contains-none, list_any-contains, contains_from_list_any}
 use Rattle.determinise.proofs.SubsetLemmas.{set_of, key_run-members, key_run-set, same_set}
-
-pub reverse-cons : (a : ℕ) (w : List ℕ) → reverse (a ∷ w) ≡ reverse w ++ a ∷ []
-reverse-cons a w = reverse-append (a ∷ []) w
-
-pub IsWord-reverse : (letters : ℕ) (w : List ℕ) → IsWord letters w → IsWord letters (reverse w)
-IsWord-reverse letters [] over = tt
-IsWord-reverse letters (a ∷ w) over = subst (IsWord letters) (sym (reverse-cons a w)) (IsWord-push letters (reverse w) a (IsWord-reverse letters w over.1) over.0)
 
 pub same_bool : (a b : Bool) → (a ≡ true → b ≡ true) → (b ≡ true → a ≡ true) → a ≡ b
 same_bool true b forth back = sym (forth refl)

@@ -11,8 +11,10 @@ pub mod SystemLemmas
 pub mod TableLemmas
 pub mod PathLemmas
 pub mod DfaLemmas
+pub mod AcceptedLemmas
 pub mod ShortlexLemmas
 pub mod WordLemmas
+pub mod PaddingLemmas
 pub mod WidthLemmas
 pub mod BuilderLemmas
 pub mod NumberingLemmas

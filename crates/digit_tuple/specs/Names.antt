@@ -1,5 +1,5 @@
 -- Names of tracks, the places of some of them, and names in byte order.
-use Rattle.std.specs.Prelude.{◌≡◌, ◌≢◌, ℕ, suc, ◌⊎◌, List, [], ◌∷◌, map, if◌then◌else◌}
+use Rattle.std.specs.Prelude.{◌≡◌, ◌≢◌, ℕ, suc, ◌⊎◌, List, [], ◌∷◌, map, filter, not, if◌then◌else◌}
 use Rattle.std.specs.List.{All, AllPairs, Contains}
 use Rattle.std.specs.Str.{bytes_eq}
 use Rattle.std.specs.Ordering.{nat_cmp}
@@ -19,6 +19,10 @@ place_of (n ∷ names) name = if bytes_eq n name then 0 else suc (place_of names
 -- the place of each of the names
 abbrev pub places_of : List (List ℕ) → List (List ℕ) → List ℕ
 places_of names some = map (place_of names) some
+
+-- the names but this one, in their order
+abbrev pub names_without : List (List ℕ) → List ℕ → List (List ℕ)
+names_without names name = filter (λ n. not (bytes_eq n name)) names
 
 -- the one name is before the other, by the first byte that differs
 abbrev pub IsBytesBefore : List ℕ → List ℕ → Type 0

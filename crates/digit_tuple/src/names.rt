@@ -2,7 +2,7 @@
 
 ghost use Rattle.std.specs.Prelude.{◌≡◌, ◌↔◌, ◌≤◌, ◌<◌, ◌^◌, ◌++◌, ◌∷◌, ℕ, length, take, drop, IsSome, IfSome, IsTrue, IfOk, OnOk, MatchOption};
 ghost use Rattle.std.specs.List.{All, Contains};
-ghost use Rattle.digit_tuple.specs.Names.{AreDistinct, AreJoint, place_of, places_of, with_name, with_names, joint_names as joint_names_of};
+ghost use Rattle.digit_tuple.specs.Names.{AreDistinct, AreJoint, place_of, places_of, with_name, with_names, joint_names as joint_names_of, names_without as names_without_of};
 
 use crate::faults::OutOfMemory;
 use crate::name::Name;
@@ -32,6 +32,19 @@ pub fn are_distinct(names: &[Name]) -> bool
         }
     }
     true
+}
+
+/// The names but this one, in their order.
+pub fn names_without(alloc: Global, names: &[Name], name: &Name) -> Result<Vec<Name>, OutOfMemory>
+    ensures { IfOk result (λ rest. rest.items ≡ names_without_of names.now name.now) }
+{
+    let mut rest = Vec::new(alloc);
+    for other in names {
+        if other.as_bytes() != name.as_bytes() {
+            rest.push(other.copy(alloc)?)?;
+        }
+    }
+    Ok(rest)
 }
 
 /// The names of both lists in byte order, each once. So stand the tracks of a product.

@@ -18,3 +18,7 @@ IsDead d q = (w : List ℕ) → IsWord (letters_of d) w → accepts_from d q w �
 -- the automaton's language has one residual after both words: what follows the one and is accepted follows the other
 abbrev pub SameAfter : Automaton → List ℕ → List ℕ → Type 0
 SameAfter d w v = (u : List ℕ) → IsWord (letters_of d) u → accepts_of d (w ++ u) ≡ accepts_of d (v ++ u)
+
+-- no word that begins so is accepted: the residual after the word is empty
+abbrev pub IsEmptyAfter : Automaton → List ℕ → Type 0
+IsEmptyAfter d w = (u : List ℕ) → IsWord (letters_of d) u → accepts_of d (w ++ u) ≡ false

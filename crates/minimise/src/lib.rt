@@ -16,6 +16,9 @@ mod signatures;
 /// Classes of states, refined until they are the residual languages.
 pub mod classes;
 
+/// States of automata with a sink.
+pub mod sink;
+
 /// The automaton whose states are classes, as a source of keys.
 mod quotient;
 

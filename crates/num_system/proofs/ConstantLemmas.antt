@@ -7,7 +7,7 @@ use Rattle.num_system.specs.Words.{rank}
 use Rattle.num_system.specs.Systems.{System, IsSystem, IsNumeral, IsRep}
 use Rattle.num_system.specs.Spelling.{first_track, Spells}
 use Rattle.num_system.specs.Relations.{HoldsOf}
-use Rattle.num_system.proofs.PaddingLemmas.{plain_is}
+use Rattle.num_system.proofs.PlainLemmas.{plain_is}
 use Rattle.num_system.proofs.RankLemmas.{strip_from_rank, valid-without_zeros, rank-without_zeros}
 
 -- the numerals of a number are the paddings of its word

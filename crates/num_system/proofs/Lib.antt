@@ -1,16 +1,14 @@
 pub mod CountLemmas
-pub mod PaddingLemmas
+pub mod PlainLemmas
 pub mod BelowLemmas
 pub mod RankLemmas
 pub mod SpellLemmas
 pub mod TrackLemmas
 pub mod ConstantLemmas
-pub mod AcceptedLemmas
 pub mod SealLemmas
 pub mod OrderLemmas
 pub mod PairLemmas
 pub mod ZeroLemmas
-pub mod InOrder
 pub mod PartSpelling
 pub mod ProductLinks
 pub mod ReadingLinks

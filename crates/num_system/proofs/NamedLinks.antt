@@ -27,7 +27,7 @@ use Rattle.num_system.specs.Systems.{System}
 use Rattle.num_system.specs.Spelling.{sizes_of, letters_in}
 use Rattle.num_system.specs.Relations.{HoldsOf}
 use Rattle.num_system.specs.Joined.{system_at, systems_at, joined, IsBound, AreLanguagesOf}
-use Rattle.num_system.proofs.InOrder.{in_order-map}
+use Rattle.digit_tuple.proofs.PaddingLemmas.{in_order-map}
 use Rattle.num_system.proofs.TrackLemmas.{track}
 use Rattle.num_system.proofs.PartSpelling.{AreValid}
 use Rattle.num_system.proofs.ProductLinks.{product_holds}

@@ -23,7 +23,7 @@ use Rattle.num_system.specs.Spelling.{Spells, first_track, other_tracks, letters
 use Rattle.num_system.specs.Relations.{IsLanguageOf, HoldsOf, IsPairOf, IsCompared}
 use Rattle.num_system.specs.Orders.{pair_letters, pair_track, comparison, OrderAlike}
 use Rattle.num_system.specs.PairKeys.{ordering_at, compared_more, at, first_pair, next_pair, is_compared_pair}
-use Rattle.num_system.proofs.PaddingLemmas.{length-in_order}
+use Rattle.digit_tuple.proofs.PaddingLemmas.{length-in_order, in_order-map}
 use Rattle.num_system.proofs.ConstantLemmas.{one_track}
 use Rattle.num_system.proofs.OrderLemmas.{ordering_at-index, comparison-ranks, wanted_is, joined, joined-nil, joined-step, joined-all}
 
@@ -39,18 +39,6 @@ seconds n w = map (λ a. a % n) w
 
 same_length : (n : ℕ) (w : List ℕ) → length (firsts n w) ≡ length (seconds n w)
 same_length n w = length-map w (λ a. a / n) ∙ sym (length-map w (λ a. a % n))
-
-map-reverse : (f : ℕ → ℕ) (w : List ℕ) → map f (reverse w) ≡ reverse (map f w)
-map-reverse f [] = refl
-map-reverse f (a ∷ w) =
-    ap (map f) (reverse-append (a ∷ []) w)
-    ∙ map-append f (reverse w) (a ∷ [])
-    ∙ ap (λ v. v ++ f a ∷ []) (map-reverse f w)
-    ∙ sym (reverse-append (f a ∷ []) (map f w))
-
-map-in_order : (way : Direction) (f : ℕ → ℕ) (w : List ℕ) → map f (in_order way w) ≡ in_order way (map f w)
-map-in_order Msd f w = refl
-map-in_order Lsd f w = map-reverse f w
 
 module _ (way : Direction) (d : Automaton) (n : ℕ) where
   -- the key that a word leads to from a key of states and a comparison
@@ -215,10 +203,10 @@ pairing_at way wanted d s e is language pairing = record { sizes = pairing.sizes
     accepted w over = pairing.accepts w (small w over) ∙ pair_accepts way d n wanted w
 
     first : (w : List ℕ) → first_track (s ∷ []) (in_order way w) ≡ first_of_pair w
-    first w = ap (λ m. map (λ a. a / m) (in_order way w)) (mul-one n) ∙ map-in_order way (λ a. a / n) w
+    first w = ap (λ m. map (λ a. a / m) (in_order way w)) (mul-one n) ∙ sym (in_order-map way (λ a. a / n) w)
 
     second : (w : List ℕ) → first_track [] (other_tracks (s ∷ []) (in_order way w)) ≡ second_of_pair w
-    second w = one_track (other_tracks (s ∷ []) (in_order way w)) ∙ ap (λ m. map (λ a. a % m) (in_order way w)) (mul-one n) ∙ map-in_order way (λ a. a % n) w
+    second w = one_track (other_tracks (s ∷ []) (in_order way w)) ∙ ap (λ m. map (λ a. a % m) (in_order way w)) (mul-one n) ∙ sym (in_order-map way (λ a. a % n) w)
 
     ranks : (w : List ℕ) → IsTrue (s.test (first_of_pair w)) → IsTrue (s.test (second_of_pair w)) → IsTrue (test w) ↔ IsCompared wanted (rank n s.test (first_of_pair w)) (rank n s.test (second_of_pair w))
     ranks w valid also =

@@ -16,7 +16,7 @@ use Rattle.num_system.specs.Spelling.{sizes_of, letters_in, Spells}
 use Rattle.num_system.specs.Relations.{HoldsOf}
 use Rattle.num_system.specs.Joined.{no_system, system_at, systems_at}
 use Rattle.num_system.proofs.TrackLemmas.{track, AreNumerals, numerals_from_spelling, spelling_from_numerals}
-use Rattle.num_system.proofs.InOrder.{in_order-map}
+use Rattle.digit_tuple.proofs.PaddingLemmas.{in_order-map}
 
 pub AreSystems-at : (ss : List System) (i : ℕ) → AreSystems ss → i < length ss → IsSystem (system_at ss i)
 AreSystems-at [] i are within = absurd (omega (arith, within))

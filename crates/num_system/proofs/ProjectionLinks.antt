@@ -13,8 +13,8 @@ use Rattle.num_system.specs.Systems.{System, AreSystems}
 use Rattle.num_system.specs.Spelling.{sizes_of, letters_in, Spells}
 use Rattle.num_system.specs.Relations.{HoldsOf}
 use Rattle.num_system.specs.Joined.{systems_at, completed}
-use Rattle.num_system.proofs.InOrder.{in_order-map}
-use Rattle.num_system.proofs.PaddingLemmas.{length-zeros, IsWord-zeros, IsWord-in_order, in_order-twice}
+use Rattle.digit_tuple.proofs.PaddingLemmas.{in_order-map}
+use Rattle.digit_tuple.proofs.PaddingLemmas.{length-zeros, IsWord-zeros_before, IsWord-in_order, in_order-twice}
 use Rattle.num_system.proofs.SpellLemmas.{letters_positive, spells-apart, spells-pad, spelling}
 use Rattle.num_system.proofs.TrackLemmas.{numerals_from_spelling, spelling_from_numerals}
 use Rattle.num_system.proofs.PartSpelling.{sizes_at, IsWord-at, AreSystems-picked, numerals_at}
@@ -80,13 +80,13 @@ module _ (way : Direction) (ss : List System) (are : AreSystems ss) (places : Li
       let m = length u in
       let k = length z in
       let those : AreSystems kept = AreSystems-picked ss places inside are in
-      let full : IsWord (letters_in ss) (zeros m ++ z) = IsWord-zeros (letters_in ss) m z (letters_positive ss are) found.1 in
+      let full : IsWord (letters_in ss) (zeros m ++ z) = IsWord-zeros_before (letters_in ss) m z (letters_positive ss are) found.1 in
       let spells_all : Spells ss (zeros m ++ z) ns = (spells-pad ss m z ns are).1 found.2 in
       let first : Spells kept (part_of (zeros m ++ z)) ms = subst (λ (xs : List ℕ). Spells kept (part_of (zeros m ++ z)) xs) all.2 (spells_part (zeros m ++ z) ns full spells_all) in
       let second : Spells kept (zeros k ++ u) ms = (spells-pad kept k u ms those).1 spelled in
       let long : length (part_of (zeros m ++ z)) ≡ length (zeros k ++ u) =
       omega (arith, length-part (sizes_of ss) places (zeros m ++ z), length-zeros m z, length-zeros k u) in
-      let over_u : IsWord (letters_in kept) (zeros k ++ u) = IsWord-zeros (letters_in kept) k u (letters_positive kept those) (IsWord-in_order way (letters_in kept) w over) in
+      let over_u : IsWord (letters_in kept) (zeros k ++ u) = IsWord-zeros_before (letters_in kept) k u (letters_positive kept those) (IsWord-in_order way (letters_in kept) w over) in
       let same : part_of (zeros m ++ z) ≡ zeros k ++ u =
       spells-apart kept (part_of (zeros m ++ z)) (zeros k ++ u) ms those (IsWord-at ss places inside (zeros m ++ z) full) over_u long first second in
       let x : List ℕ = in_order way (zeros m ++ z) in

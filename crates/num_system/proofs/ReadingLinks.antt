@@ -11,7 +11,7 @@ use Rattle.num_system.specs.Systems.{System}
 use Rattle.num_system.specs.Spelling.{sizes_of, letters_in, Spells}
 use Rattle.num_system.specs.Relations.{HoldsOf}
 use Rattle.num_system.specs.Joined.{system_at, systems_at}
-use Rattle.num_system.proofs.PaddingLemmas.{IsWord-in_order}
+use Rattle.digit_tuple.proofs.PaddingLemmas.{IsWord-in_order}
 use Rattle.num_system.proofs.TrackLemmas.{track, numerals_from_spelling, spelling_from_numerals}
 use Rattle.num_system.proofs.PartSpelling.{AreValid, ranks, numerals_valid, holds_at, valid_at}
 

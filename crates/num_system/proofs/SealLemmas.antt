@@ -10,9 +10,9 @@ use Rattle.num_system.specs.Systems.{System, IsSystem}
 use Rattle.num_system.specs.Spelling.{Spells, letters_in}
 use Rattle.num_system.specs.Relations.{IsLanguageOf, HoldsOf, IsAdderOf}
 use Rattle.num_system.specs.Sealed.{SystemValue, system_of, IsSealed}
-use Rattle.num_system.proofs.PaddingLemmas.{in_order-twice, IsWord-in_order}
+use Rattle.digit_tuple.proofs.PaddingLemmas.{in_order-twice, IsWord-in_order}
 use Rattle.num_system.proofs.RankLemmas.{same_tests}
-use Rattle.num_system.proofs.AcceptedLemmas.{accepted_over}
+use Rattle.digit_tuple.proofs.AcceptedLemmas.{accepted_over}
 
 -- the canonical automaton of the language
 pub language_kept : (way : Direction) (s : System) (d e : Automaton) → IsSystem s → IsLanguageOf way s d → e.sizes ≡ d.sizes → SameLanguage d e → IsCanonical e → IsLanguageOf way s e

@@ -7,7 +7,7 @@ use Rattle.digit_tuple.specs.Letters.{IsWord}
 use Rattle.digit_tuple.specs.Paddings.{zeros, without_zeros}
 use Rattle.num_system.specs.Systems.{System, IsSystem, AreSystems, IsNumeral}
 use Rattle.num_system.specs.Spelling.{letters_in, first_track, other_tracks, Spells, TuplesHaveSpellings, SpellingsArePaddings}
-use Rattle.num_system.proofs.PaddingLemmas.{length-zeros, zeros_apart, without_zeros-zeros, IsWord-zeros}
+use Rattle.digit_tuple.proofs.PaddingLemmas.{length-zeros, zeros_in_front, without_zeros-zeros, IsWord-zeros_before}
 use Rattle.num_system.proofs.RankLemmas.{two_digits, rank-zero, rank-pad, rank-apart, rank-find, valid-zeros}
 
 -- there is a letter
@@ -89,7 +89,7 @@ spells-pad ss (suc k) w ns are =
 -- a word without its leading zero letters spells the same
 pub spells-without_zeros : (ss : List System) (w ns : List ℕ) → AreSystems ss → Spells ss w ns ↔ Spells ss (without_zeros w) ns
 spells-without_zeros ss w ns are =
-    let parts = zeros_apart w in
+    let parts = zeros_in_front w in
     let both = spells-pad ss (parts.0) (without_zeros w) ns are in
     (λ h. both.0 (subst (λ u. Spells ss u ns) parts.1 h), λ h. subst (λ u. Spells ss u ns) (sym parts.1) (both.1 h))
 
@@ -104,7 +104,7 @@ spellings ss w v ns are first second spelled = (there, back)
         let one : length (zeros n ++ w) ≡ n + m = length-zeros n w in
         let two : length (zeros m ++ v) ≡ m + n = length-zeros m v in
         let equal : zeros m ++ v ≡ zeros n ++ w =
-        spells-apart ss (zeros m ++ v) (zeros n ++ w) ns are (IsWord-zeros (letters_in ss) m v some second) (IsWord-zeros (letters_in ss) n w some first) (omega (arith, one, two))
+        spells-apart ss (zeros m ++ v) (zeros n ++ w) ns are (IsWord-zeros_before (letters_in ss) m v some second) (IsWord-zeros_before (letters_in ss) n w some first) (omega (arith, one, two))
         ((spells-pad ss m v ns are).1 also) ((spells-pad ss n w ns are).1 spelled) in
         sym (without_zeros-zeros m v) ∙ ap without_zeros equal ∙ without_zeros-zeros n w
 
@@ -154,7 +154,7 @@ spelling (s ∷ ss) (n ∷ ns) are count =
     let some : 0 < p = letters_positive ss are.1 in
     let valid : IsTrue (s.test x) = (valid-zeros s.digits s.test (length others) first are.0).1 found.1 in
     let numeral : IsNumeral s x n = (valid, rank-pad s.digits s.test (length others) first ∙ found.2) in
-    let over : IsWord p w = IsWord-zeros p (length first) others some rest.1 in
+    let over : IsWord p w = IsWord-zeros_before p (length first) others some rest.1 in
     let spelled : Spells ss w ns = (spells-pad ss (length first) others ns are.1).1 rest.2 in (
       join p x w,
       IsWord-join s.digits p x w (are.0.over x valid) over,

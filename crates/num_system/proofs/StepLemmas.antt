@@ -8,13 +8,13 @@ use Rattle.digit_tuple.specs.Names.{place_of}
 use Rattle.digit_tuple.specs.Deterministic.{Automaton, accepts_of}
 use Rattle.digit_tuple.proofs.NameLemmas.{place_of-contained}
 use Rattle.minimise.specs.Canonical.{IsCanonical}
-use Rattle.minimise.specs.Tracked.{NamedAutomaton}
+use Rattle.minimise.specs.Tracked.{NamedAutomaton, size_of}
 use Rattle.product_op.specs.declared.op.Op.{Op}
 use Rattle.product_op.specs.Connectives.{connective, among_valid}
-use Rattle.product_op.specs.Tracks.{size_of, joint_sizes, AgreeOnShared}
+use Rattle.product_op.specs.Tracks.{joint_sizes, AgreeOnShared}
 use Rattle.product_op.specs.Validity.{AreLanguages, language_at, is_valid}
 use Rattle.product_op.specs.Products.{joint_part, in_product, ProductAlike}
-use Rattle.project_close.specs.Projection.{staying_sizes}
+use Rattle.project_close.specs.StayingTracks.{staying_sizes}
 use Rattle.digit_tuple.specs.Parts.{picked}
 use Rattle.num_system.specs.Successor.{AreTracksOf, name_u, name_x, name_y}
 use Rattle.num_system.proofs.SuccessorLemmas.{under_names}

@@ -10,7 +10,7 @@ use Rattle.digit_tuple.specs.declared.direction.Direction.{Direction}
 use Rattle.minimise.specs.Tracked.{NamedAutomaton}
 use Rattle.product_op.specs.declared.op.Op.TheVariants.{And, AndNot}
 use Rattle.product_op.specs.Tracks.{joint_sizes}
-use Rattle.project_close.specs.Projection.{other_names}
+use Rattle.digit_tuple.specs.Names.{names_without}
 use Rattle.num_system.specs.Systems.{System, IsSystem}
 use Rattle.num_system.specs.Relations.{HoldsOf, IsLess, IsOrderOf}
 use Rattle.num_system.specs.Joined.{joined, completed}
@@ -152,7 +152,7 @@ module _ (way : Direction) (s : System) (system : IsSystem s) (less : Automaton)
       (subst (λ (c : NamedAutomaton). IsProjection way c name_u between) (under_names chain (name_u ∷ name_x ∷ name_y ∷ []) first.names) made)
 
   pub between_names : (chain between : NamedAutomaton) → IsChain less chain → IsProjection way chain name_u between → between.names ≡ name_x ∷ name_y ∷ []
-  between_names chain between first made = made.names ∙ ap (λ (ns : List (List ℕ)). other_names ns name_u) first.names
+  between_names chain between first made = made.names ∙ ap (λ (ns : List (List ℕ)). names_without ns name_u) first.names
 
   next_from : (between : Automaton) (next : NamedAutomaton) → HoldsOf way (two s) (HasInside (three s)) between
       → IsProduct AndNot (order_on less name_x name_y) (order_on between name_x name_y) next → IsSuccessorOf way s next.automaton

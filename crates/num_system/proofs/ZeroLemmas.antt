@@ -10,7 +10,7 @@ use Rattle.digit_tuple.specs.declared.direction.Direction.TheVariants.{Msd, Lsd}
 use Rattle.num_system.specs.Words.{rank}
 use Rattle.num_system.specs.Systems.{System, IsSystem, IsRep}
 use Rattle.num_system.specs.Relations.{IsZeroOf}
-use Rattle.num_system.proofs.PaddingLemmas.{zeros_apart}
+use Rattle.digit_tuple.proofs.PaddingLemmas.{zeros_in_front}
 use Rattle.num_system.proofs.ConstantLemmas.{constant_holds}
 
 -- the empty word is that of 0
@@ -36,7 +36,7 @@ only_zeros (suc k) = only_zeros k
 -- a word is zeros alone where nothing is left without its leading zeros
 zeros_of : (w : List ℕ) → without_zeros w ≡ [] → (k : ℕ) × (w ≡ zeros k)
 zeros_of w none =
-    let parts = zeros_apart w in
+    let parts = zeros_in_front w in
     (parts.0, parts.1 ∙ ap (λ v. zeros (parts.0) ++ v) none ∙ append-nil (zeros (parts.0)))
 
 turned : (w : List ℕ) → without_zeros w ≡ [] → without_zeros (reverse w) ≡ []

@@ -2,7 +2,7 @@
 use Rattle.std.specs.Prelude.{◌≡◌, ℕ, suc, ◌+◌, ◌≤◌, List, [], ◌∷◌, slice_index_or, IsTrue, ◌↔◌}
 use Rattle.digit_tuple.specs.Deterministic.{Automaton, accepts_of}
 use Rattle.digit_tuple.specs.Letters.{product, IsWord}
-use Rattle.digit_tuple.specs.Names.{joint_names}
+use Rattle.digit_tuple.specs.Names.{joint_names, names_without}
 use Rattle.digit_tuple.specs.Width.{HasApart, HasWidth}
 use Rattle.digit_tuple.specs.declared.direction.Direction.{Direction}
 use Rattle.minimise.specs.Canonical.{IsCanonical}
@@ -11,7 +11,8 @@ use Rattle.product_op.specs.declared.op.Op.{Op}
 use Rattle.product_op.specs.declared.op.Op.TheVariants.{And, AndNot}
 use Rattle.product_op.specs.Tracks.{joint_sizes}
 use Rattle.product_op.specs.Products.{in_product, ProductAlike}
-use Rattle.project_close.specs.Projection.{InProjection, ProjectionAlike, other_names, staying_places, staying_sizes}
+use Rattle.project_close.specs.Projection.{InProjection, ProjectionAlike}
+use Rattle.project_close.specs.StayingTracks.{staying_places, staying_sizes}
 use Rattle.num_system.specs.Systems.{System}
 use Rattle.num_system.specs.Relations.{HoldsOf}
 
@@ -45,7 +46,7 @@ pub record IsProduct (op : Op) (a b c : NamedAutomaton) : Type 0 where
 
 -- and of a projection
 pub record IsProjection (way : Direction) (a : NamedAutomaton) (track : List ℕ) (c : NamedAutomaton) : Type 0 where
-  pub names : c.names ≡ other_names a.names track
+  pub names : c.names ≡ names_without a.names track
   pub sizes : c.automaton.sizes ≡ staying_sizes a track
   pub canonical : IsCanonical c.automaton
   pub language : (w : List ℕ) → IsWord (product (staying_sizes a track)) w → IsTrue (accepts_of c.automaton w) ↔ InProjection a.automaton (staying_places a track) way w

@@ -10,9 +10,6 @@ pub mod system;
 /// How a system is sealed.
 pub mod seal;
 
-/// States of automata with a sink.
-mod sink;
-
 /// Pairs of words that are read side by side.
 mod pairs;
 

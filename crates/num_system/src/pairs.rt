@@ -12,7 +12,6 @@ ghost use Rattle.num_system.specs.Relations.{IsLanguageOf, HoldsOf, IsPairOf, Is
 ghost use Rattle.num_system.specs.Orders.{OrderAlike, pair_sizes, pair_letters};
 ghost use Rattle.num_system.specs.PairKeys.{ordering_at, compared_more, first_pair, next_pair, is_compared_pair};
 
-use crate::sink::{first_state, is_accepting, next_state};
 use digit_tuple::alphabet::Alphabet;
 use digit_tuple::dfa::Dfa;
 use digit_tuple::direction::Direction;
@@ -20,6 +19,7 @@ use digit_tuple::exploration::explore;
 use digit_tuple::faults::{OpFault, OutOfMemory};
 use digit_tuple::source::{KeyStep, Source};
 use digit_tuple::stepped::Stepped;
+use minimise::sink::{first_state, is_accepting, next_state};
 use std::alloc::Global;
 use std::cmp::Ordering;
 

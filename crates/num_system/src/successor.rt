@@ -12,7 +12,7 @@ ghost use Rattle.product_op.specs.Validity.{AreLanguages};
 ghost use Rattle.product_op.specs.Products.{ProductAlike};
 ghost use Rattle.num_system.specs.Systems.{System, IsSystem};
 ghost use Rattle.num_system.specs.Relations.{IsOrderOf};
-ghost use Rattle.project_close.specs.Projection.{staying_sizes};
+ghost use Rattle.project_close.specs.StayingTracks.{staying_sizes};
 ghost use Rattle.num_system.specs.Successor.{IsSuccessorOf, IsProduct, IsProjection, IsChain, ChainAlike, BetweenAlike, NextAlike, AreTracksOf, AreWithin, Exceeds, chain_sizes, name_u, name_x, name_y, order_on as order_under};
 ghost use Rattle.product_op.specs.declared.op.Op.TheVariants.{And, AndNot};
 

@@ -13,9 +13,9 @@ use Rattle.std.proofs.lemmas.List.Elements.{Contains-get_or}
 use Rattle.digit_tuple.specs.Names.{AreDistinct, place_of, places_of}
 use Rattle.digit_tuple.specs.Parts.{picked}
 use Rattle.digit_tuple.proofs.NameLemmas.{place_of-contained, place_of-is}
-use Rattle.minimise.specs.Tracked.{NamedAutomaton}
+use Rattle.minimise.specs.Tracked.{NamedAutomaton, size_of}
 use Rattle.digit_tuple.specs.Names.{IsBytesBefore}
-use Rattle.product_op.specs.Tracks.{size_of, joint_size, AgreeOnShared}
+use Rattle.product_op.specs.Tracks.{joint_size, AgreeOnShared}
 
 placed_step : (n : List ℕ) (names : List (List ℕ)) (name : List ℕ) (b : Bool) → bytes_eq n name ≡ b → (if b then 0 else suc (place_of names name)) < length (n ∷ names)
     → (place_of names name < length names → Contains names name) → Contains (n ∷ names) name

@@ -1,13 +1,9 @@
 -- The tracks of two automata seen as one list: tracks of one name are one track.
-use Rattle.std.specs.Prelude.{◌≡◌, ℕ, max, List, map, slice_index_or}
+use Rattle.std.specs.Prelude.{◌≡◌, ℕ, max, List, map}
 use Rattle.std.specs.List.{Contains}
-use Rattle.digit_tuple.specs.Names.{place_of, places_of, joint_names}
+use Rattle.digit_tuple.specs.Names.{places_of, joint_names}
 use Rattle.digit_tuple.specs.Parts.{part}
-use Rattle.minimise.specs.Tracked.{NamedAutomaton}
-
--- the size of the track of this name, 0 where there is none
-abbrev pub size_of : NamedAutomaton → List ℕ → ℕ
-size_of tracked name = slice_index_or tracked.automaton.sizes (place_of tracked.names name) 0
+use Rattle.minimise.specs.Tracked.{NamedAutomaton, size_of}
 
 -- the size of the track of this name in the one or the other
 abbrev pub joint_size : NamedAutomaton → NamedAutomaton → List ℕ → ℕ

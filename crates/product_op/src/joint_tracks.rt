@@ -5,8 +5,8 @@ ghost use Rattle.std.specs.List.{Contains};
 ghost use Rattle.std.specs.Result.{IsErrOf};
 ghost use Rattle.digit_tuple.specs.Letters.{IsAlphabet, IsTooLarge};
 ghost use Rattle.digit_tuple.specs.Names.{joint_names as joint_names_of};
-ghost use Rattle.minimise.specs.Tracked.{IsTracked};
-ghost use Rattle.product_op.specs.Tracks.{AgreeOnShared, joint_size, joint_sizes, size_of};
+ghost use Rattle.minimise.specs.Tracked.{IsTracked, size_of};
+ghost use Rattle.product_op.specs.Tracks.{AgreeOnShared, joint_size, joint_sizes};
 
 use digit_tuple::alphabet::Alphabet;
 use digit_tuple::faults::{OpFault, OutOfMemory};

@@ -12,6 +12,7 @@ use crate::rule::Rule;
 use digit_tuple::dfa::Dfa;
 use digit_tuple::faults::OutOfMemory;
 use digit_tuple::source::{KeyStep, Source};
+use minimise::sink::{first_state, is_accepting, next_state};
 use std::alloc::Global;
 
 /// An automaton, and the part of each letter that it reads. The number past its states is its sink,
@@ -28,11 +29,7 @@ impl Reader<'_> {
         requires { IsTable (letters_of self.now.dfa.now) self.now.dfa.now.states }
         ensures { result ≡ first_of self.now.dfa.now }
     {
-        if !self.dfa.accepting(0) && self.dfa.edges(0).is_empty() {
-            self.dfa.states()
-        } else {
-            0
-        }
+        first_state(self.dfa)
     }
 
     /// Where a letter leads from a state or the sink.
@@ -40,19 +37,14 @@ impl Reader<'_> {
         requires { letter < length self.now.parts.items }
         ensures { result ≡ next_of self.now.dfa.now state (slice_index_or self.now.parts.items letter 0) }
     {
-        let states = self.dfa.states();
-        if state >= states {
-            return states;
-        }
-        let part = self.parts[letter as usize];
-        self.dfa.step(state, part).unwrap_or(states)
+        next_state(self.dfa, state, self.parts[letter as usize])
     }
 
     /// Whether a state accepts; the sink doesn't.
     fn accepts(&self, state: u32) -> bool
         ensures { result ≡ accepting_of self.now.dfa.now state }
     {
-        state < self.dfa.states() && self.dfa.accepting(state)
+        is_accepting(self.dfa, state)
     }
 }
 

@@ -9,12 +9,13 @@ use Rattle.std.proofs.lemmas.List.FromFn.{get_or-range_with_len, length-range_wi
 use Rattle.determinise.proofs.MemberLemmas.{Contains-from_filter}
 use Rattle.digit_tuple.specs.Deterministic.{Automaton, accepts_of}
 use Rattle.digit_tuple.specs.Letters.{product, code_of, IsWord}
-use Rattle.digit_tuple.specs.Names.{AreDistinct, place_of, places_of}
+use Rattle.digit_tuple.specs.Names.{AreDistinct, place_of, places_of, names_without}
 use Rattle.digit_tuple.specs.Parts.{digits_of, picked, letter_part, part}
 use Rattle.digit_tuple.proofs.NameLemmas.{place_of-contained, place_of-is, places_of-within}
 use Rattle.digit_tuple.proofs.PartLemmas.{digits_of-fit, code_of-digits_of, part-part, part-all, IsWord-part}
 use Rattle.minimise.specs.Tracked.{NamedAutomaton}
-use Rattle.project_close.specs.Restriction.{names_without, name_for, names_for, track_word, sizes_without, word_with, HasEqualTracks}
+use Rattle.project_close.specs.Restriction.{name_for, names_for, track_word, word_with, HasEqualTracks}
+use Rattle.project_close.specs.StayingTracks.{staying_sizes}
 use Rattle.project_close.proofs.SubstitutionLemmas.{picked_under}
 use Rattle.project_close.proofs.RestrictionLemmas.{HaveTwoTracks, name_for-other, passes, length-names_for, IsSubstitution-restriction, sizes_under-restriction}
 
@@ -118,8 +119,8 @@ module _ (a : NamedAutomaton) (kept dropped : List ℕ) (two : HaveTwoTracks a k
       ∙ ap (λ ps. part sizes ps x) (picked_places a.names rest under (IsSubstitution-restriction a kept dropped two).there)
       ∙ word_for x has.over has.equal
 
-  length-sizes_without : length (sizes_without a dropped) ≡ length rest
-  length-sizes_without = length-map (places_of a.names rest) (λ p. get_or sizes p 0) ∙ length-map rest (place_of a.names)
+  length-staying_sizes : length (staying_sizes a dropped) ≡ length rest
+  length-staying_sizes = length-map (places_of a.names rest) (λ p. get_or sizes p 0) ∙ length-map rest (place_of a.names)
 
   -- the place where a track is read
   read_at : (name : List ℕ) → Contains a.names name → get_or (places_of rest under) (place name) 0 ≡ place_of rest (name_for kept dropped name)
@@ -150,24 +151,24 @@ module _ (a : NamedAutomaton) (kept dropped : List ℕ) (two : HaveTwoTracks a k
           ∙ place_of-is rest name i (IsSubstitution-restriction a kept dropped two).distinct within refl
           ∙ sym (get_or-range_with_len 0 (length rest) i 0 within ∙ omega arith)
 
-  read_back : picked (places_of rest under) (sizes_without a dropped) ≡ sizes
+  read_back : picked (places_of rest under) (staying_sizes a dropped) ≡ sizes
   read_back = ap (picked (places_of rest under)) (sym (sizes_under-restriction a kept dropped two)) ∙ picked_under sizes under rest (IsSubstitution-restriction a kept dropped two)
 
-  module _ (w : List ℕ) (over : IsWord (product (sizes_without a dropped)) w) where
+  module _ (w : List ℕ) (over : IsWord (product (staying_sizes a dropped)) w) where
     -- what is read on some tracks
-    read_on : (qs : List ℕ) → All (λ q. q < length (places_of rest under)) qs → part sizes qs (word_with a kept dropped w) ≡ part (sizes_without a dropped) (picked qs (places_of rest under)) w
+    read_on : (qs : List ℕ) → All (λ q. q < length (places_of rest under)) qs → part sizes qs (word_with a kept dropped w) ≡ part (staying_sizes a dropped) (picked qs (places_of rest under)) w
     read_on qs inside =
-        subst (λ ss. part ss qs (word_with a kept dropped w) ≡ part (sizes_without a dropped) (picked qs (places_of rest under)) w) read_back
-        (part-part (sizes_without a dropped) (places_of rest under) (read_places (length (sizes_without a dropped)) (sym length-sizes_without)) qs w inside over)
+        subst (λ ss. part ss qs (word_with a kept dropped w) ≡ part (staying_sizes a dropped) (picked qs (places_of rest under)) w) read_back
+        (part-part (staying_sizes a dropped) (places_of rest under) (read_places (length (staying_sizes a dropped)) (sym length-staying_sizes)) qs w inside over)
 
     count : length (places_of rest under) ≡ length a.names
     count = length-map under (place_of rest) ∙ length-names_for a kept dropped two
 
-    one_track : (name : List ℕ) → Contains a.names name → track_word a name (word_with a kept dropped w) ≡ part (sizes_without a dropped) (place_of rest (name_for kept dropped name) ∷ []) w
+    one_track : (name : List ℕ) → Contains a.names name → track_word a name (word_with a kept dropped w) ≡ part (staying_sizes a dropped) (place_of rest (name_for kept dropped name) ∷ []) w
     one_track name there =
         let spot = place_of-contained a.names name there in
         read_on (place name ∷ []) (All-cons (λ q. q < length (places_of rest under)) (place name) [] (omega (arith, spot.0, count)) (All-nil (λ q. q < length (places_of rest under))))
-        ∙ ap (λ p. part (sizes_without a dropped) (p ∷ []) w) (read_at name there)
+        ∙ ap (λ p. part (staying_sizes a dropped) (p ∷ []) w) (read_at name there)
 
     one_name : name_for kept dropped kept ≡ name_for kept dropped dropped
     one_name = name_for-other kept dropped kept (passes kept dropped two.distinct) ∙ ap (λ b. if b then kept else dropped) (sym ((bytes_eq-Decides dropped dropped).1 refl))
@@ -175,17 +176,17 @@ module _ (a : NamedAutomaton) (kept dropped : List ℕ) (two : HaveTwoTracks a k
     pub HasEqualTracks-with : HasEqualTracks a kept dropped w (word_with a kept dropped w)
     HasEqualTracks-with = record {
       over = subst (λ ss. IsWord (product ss) (word_with a kept dropped w)) read_back
-          (IsWord-part (sizes_without a dropped) (places_of rest under) (read_places (length (sizes_without a dropped)) (sym length-sizes_without)) w over);
-      equal = one_track kept two.is_kept ∙ ap (λ n. part (sizes_without a dropped) (place_of rest n ∷ []) w) one_name ∙ sym (one_track dropped two.is_dropped);
+          (IsWord-part (staying_sizes a dropped) (places_of rest under) (read_places (length (staying_sizes a dropped)) (sym length-staying_sizes)) w over);
+      equal = one_track kept two.is_kept ∙ ap (λ n. part (staying_sizes a dropped) (place_of rest n ∷ []) w) one_name ∙ sym (one_track dropped two.is_dropped);
       without = read_on (places_of a.names rest) (subst (λ n. All (λ p. p < n) (places_of a.names rest)) (sym two.tracked.count ∙ sym count) kept_places)
-          ∙ ap (λ ps. part (sizes_without a dropped) ps w) picked_rest
-          ∙ ap (λ n. part (sizes_without a dropped) (range_with_len 0 n) w) (sym length-sizes_without)
-          ∙ part-all (sizes_without a dropped) w over;
+          ∙ ap (λ ps. part (staying_sizes a dropped) ps w) picked_rest
+          ∙ ap (λ n. part (staying_sizes a dropped) (range_with_len 0 n) w) (sym length-staying_sizes)
+          ∙ part-all (staying_sizes a dropped) w over;
     }
 
   -- an automaton that reads words with the dropped track again says what the other says of words with equal tracks
-  pub accepts-equal : (t : Automaton) → ((w : List ℕ) → IsWord (product (sizes_without a dropped)) w → accepts_of t w ≡ accepts_of a.automaton (word_with a kept dropped w))
+  pub accepts-equal : (t : Automaton) → ((w : List ℕ) → IsWord (product (staying_sizes a dropped)) w → accepts_of t w ≡ accepts_of a.automaton (word_with a kept dropped w))
       → (w x : List ℕ) → HasEqualTracks a kept dropped w x → accepts_of t w ≡ accepts_of a.automaton x
   accepts-equal t reads w x has =
-      reads w (subst (IsWord (product (sizes_without a dropped))) has.without (IsWord-part sizes (places_of a.names rest) kept_places x has.over))
+      reads w (subst (IsWord (product (staying_sizes a dropped))) has.without (IsWord-part sizes (places_of a.names rest) kept_places x has.over))
       ∙ ap (accepts_of a.automaton) (word_with-only w x has)

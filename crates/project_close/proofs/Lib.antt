@@ -4,7 +4,7 @@ pub mod ProjectionLemmas
 pub mod KeySizes
 pub mod SameBranches
 pub mod SinkLeads
-pub mod PaddingWords
+pub mod TrimmedWords
 pub mod PaddedPairLemmas
 pub mod PaddedSetLemmas
 pub mod ZeroSteps

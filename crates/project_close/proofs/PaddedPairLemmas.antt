@@ -19,8 +19,10 @@ use Rattle.minimise.proofs.LeadLemmas.{lead, SameAfter-lead, one_lead}
 use Rattle.project_close.specs.Padding.{IsPadded, LsdPaddedAlike}
 use Rattle.project_close.specs.PaddedPairs.{AreFinal, pair_after, twice}
 use Rattle.project_close.specs.ZeroClosure.{IsOverFlagged, IsReached, flag_at}
-use Rattle.project_close.proofs.PaddingWords.{with_front, trimmed, strip-trimmed, strip-zeros, zeros_at_end, IsWord-strip, reverse-zeros}
-use Rattle.project_close.proofs.SinkLeads.{accepts_of-lead, accepting_within, within_from_lead, run_from_lead, lead_from_run, lead-append, IsWord-accepted}
+use Rattle.digit_tuple.proofs.AcceptedLemmas.{accepted_over}
+use Rattle.digit_tuple.proofs.PaddingLemmas.{strip-zeros, zeros_at_end, IsWord-strip, reverse-zeros}
+use Rattle.project_close.proofs.TrimmedWords.{with_front, trimmed, strip-trimmed}
+use Rattle.project_close.proofs.SinkLeads.{accepts_of-lead, accepting_within, within_from_lead, run_from_lead, lead_from_run, lead-append}
 
 Contains-range : (n q : ℕ) → q < n → Contains (range_with_len 0 n) q
 Contains-range n q within = (q, omega (arith, length-range_with_len 0 n), get_or-range_with_len 0 n q q within ∙ omega arith)
@@ -86,7 +88,7 @@ module _ (d : Automaton) (canonical : IsCanonical d) where
         forth found =
             let v = strip Lsd w ++ zeros found.0 in
             let is : accepts_of d v ≡ true = accepts_of-lead d v ∙ ap (accepting_of d) (lead-append d (strip Lsd w) (zeros found.0) (first_of d)) ∙ found.1 in
-            (v, IsWord-accepted d canonical.table v 0 is, strip-zeros w found.0, is)
+            (v, accepted_over d v canonical.table is, strip-zeros w found.0, is)
 
         back : IsPadded Lsd d w → (k : ℕ) × (accepting_of d (lead d (lead d (first_of d) (strip Lsd w)) (zeros k)) ≡ true)
         back padded =

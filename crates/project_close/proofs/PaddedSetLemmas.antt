@@ -21,17 +21,18 @@ use Rattle.determinise.proofs.MemberLemmas.{Contains-none, list_any-contains, co
 use Rattle.determinise.proofs.SubsetLemmas.{set_of, key_run-members, same_set}
 use Rattle.minimise.specs.Canonical.{IsCanonical}
 use Rattle.minimise.specs.Classes.{first_of}
-use Rattle.minimise.specs.Residuals.{SameAfter}
+use Rattle.minimise.specs.Residuals.{IsEmptyAfter, SameAfter}
 use Rattle.minimise.proofs.CanonicalLemmas.{run_within}
 use Rattle.minimise.proofs.LeadLemmas.{lead, IsPlace, first_place, lead_place, accepts_from-lead, accepts_of-first, SameAfter-lead, one_lead}
 use Rattle.minimise.proofs.SinkLemmas.{sink_refuses}
-use Rattle.project_close.specs.Padding.{IsPadded, IsRefusedAfter, HasResidualsOf, MsdPaddedAlike}
+use Rattle.project_close.specs.Padding.{IsPadded, HasResidualsOf, MsdPaddedAlike}
 use Rattle.project_close.specs.PaddedPairs.{first_within}
 use Rattle.project_close.specs.PaddedSets.{AreFirst, IsStateList, padded_after, padded_accepts}
 use Rattle.project_close.specs.SameBranching.{branch_as, branching_as}
 use Rattle.project_close.specs.ZeroClosure.{AreAfterZeros}
-use Rattle.project_close.proofs.PaddingWords.{IsWord-zeros, IsWord-without_zeros, zeros_in_front, without_zeros-zeros, without_zeros-twice}
-use Rattle.project_close.proofs.SinkLeads.{lead-sink, lead-append, lead_within, accepts_of-lead, accepting_within, run_from_lead, lead_from_run, lead_from_path, path_from_run, branch_is, IsWord-accepted, IsBranchTable-as}
+use Rattle.digit_tuple.proofs.AcceptedLemmas.{accepted_over}
+use Rattle.digit_tuple.proofs.PaddingLemmas.{IsWord-zeros, IsWord-without_zeros, zeros_in_front, without_zeros-zeros, without_zeros-twice}
+use Rattle.project_close.proofs.SinkLeads.{lead-sink, lead-append, lead_within, accepts_of-lead, accepting_within, run_from_lead, lead_from_run, lead_from_path, path_from_run, branch_is, IsBranchTable-as}
 
 -- a set of states is not empty
 not_empty : (n : Branching) (o : Option (List ℕ)) → o ≡ Some [] → MatchOption o ⊤ (IsStateSet n) → ⊥
@@ -182,7 +183,7 @@ module _ (d : Automaton) (canonical : IsCanonical d) where
         forth : (k : ℕ) × (accepts_of d (zeros k ++ without_zeros w) ≡ true) → IsPadded Msd d w
         forth found = (
           zeros found.0 ++ without_zeros w,
-          IsWord-accepted d canonical.table (zeros found.0 ++ without_zeros w) 0 found.1,
+          accepted_over d (zeros found.0 ++ without_zeros w) canonical.table found.1,
           without_zeros-zeros found.0 (without_zeros w) ∙ without_zeros-twice w,
           found.1,
         )
@@ -213,7 +214,7 @@ module _ (d : Automaton) (canonical : IsCanonical d) where
         let same = one_lead d canonical (zeros k ++ w) (zeros other.0 ++ v) (IsWord-append (letters_of d) (zeros k) w (zeros_over k) over) (IsWord-append (letters_of d) (zeros other.0) v (zeros_over other.0) there) other.1 in
         (set_after-word v q).1 (found.0, (other.0, sym same ∙ found.1.1))
       where
-        live : (q : ℕ) → q < states_of d → (k : ℕ) → lead d (first_of d) (zeros k ++ w) ≡ q → IsPlace d (lead d (first_of d) (zeros k ++ w)) → ¬ IsRefusedAfter d (zeros k ++ w)
+        live : (q : ℕ) → q < states_of d → (k : ℕ) → lead d (first_of d) (zeros k ++ w) ≡ q → IsPlace d (lead d (first_of d) (zeros k ++ w)) → ¬ IsEmptyAfter d (zeros k ++ w)
         live q within k is (inl sink) refused = omega (arith, within, is, sink)
         live q within k is (inr alive) refused = alive.1 (λ u inside. sym (accepts_from-lead d (zeros k ++ w) u (first_of d)) ∙ accepts_of-first d ((zeros k ++ w) ++ u) ∙ refused u inside)
 

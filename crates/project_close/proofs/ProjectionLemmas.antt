@@ -13,7 +13,7 @@ use Rattle.digit_tuple.specs.Automaton.{Branching, IsBranchTable, Path}
 use Rattle.digit_tuple.specs.Deterministic.{Automaton, accepting_of, accepts_from, accepts_of, edges_of, letters_of, run_of, states_of, target_by}
 use Rattle.digit_tuple.specs.Keys.{LeadAlike, key_accepts, key_run}
 use Rattle.digit_tuple.specs.Letters.{IsWord, product}
-use Rattle.digit_tuple.specs.Names.{AreDistinct}
+use Rattle.digit_tuple.specs.Names.{AreDistinct, names_without}
 use Rattle.digit_tuple.specs.Paddings.{zeros}
 use Rattle.digit_tuple.specs.Parts.{part, parts_of_letters, picked}
 use Rattle.digit_tuple.specs.declared.edges.Edge.{Edge}
@@ -32,12 +32,13 @@ use Rattle.determinise.proofs.ReversalLemmas.{accepts_from-run}
 use Rattle.determinise.proofs.SubsetLemmas.{key_run-members, key_run-set, same_set, set_of}
 use Rattle.minimise.specs.Canonical.{IsCanonical}
 use Rattle.minimise.specs.Classes.{first_of}
-use Rattle.minimise.specs.Residuals.{IsDead, SameAfter}
+use Rattle.minimise.specs.Residuals.{IsEmptyAfter, IsDead, SameAfter}
 use Rattle.minimise.specs.Tracked.{IsTracked, NamedAutomaton}
 use Rattle.minimise.proofs.CanonicalLemmas.{live_after, one_state, run_within}
 use Rattle.minimise.proofs.LeadLemmas.{IsPlace, first_place}
 use Rattle.project_close.specs.Image.{AreFirst, IsEnd, IsImage, ReadsProjection}
-use Rattle.project_close.specs.Projection.{HaveResiduals, InProjection, IsEmptyAfter, ProjectionAlike, Spells, other_names, staying_places}
+use Rattle.project_close.specs.Projection.{HaveResiduals, InProjection, ProjectionAlike, HasPart}
+use Rattle.project_close.specs.StayingTracks.{staying_places}
 use Rattle.project_close.specs.ZeroClosure.{flag_at}
 use Rattle.project_close.proofs.ImageLemmas.{path_of_word, word_of_path}
 
@@ -89,7 +90,7 @@ part_split sizes places (b ∷ x) (a ∷ u) v is =
 
 module _ (d : Automaton) (places : List ℕ) where
   -- a word with a part that is read first, and then one with the part w, spell w
-  pub spells_append : (direction : Direction) (w x y : List ℕ) → Spells direction d places [] x → part d.sizes places y ≡ w → Spells direction d places w (x ++ y)
+  pub spells_append : (direction : Direction) (w x y : List ℕ) → HasPart direction d places [] x → part d.sizes places y ≡ w → HasPart direction d places w (x ++ y)
   spells_append Msd w x y begins is = (begins.0, part-append d.sizes places x y ∙ ap (λ v. v ++ part d.sizes places y) (begins.1 ∙ append-nil (zeros begins.0)) ∙ ap (λ v. zeros begins.0 ++ v) is)
   spells_append Lsd w x y begins is = part-append d.sizes places x y ∙ ap (λ v. v ++ part d.sizes places y) begins ∙ is
 
@@ -98,10 +99,10 @@ module _ (d : Automaton) (places : List ℕ) where
     pub front : List ℕ
     pub back : List ℕ
     pub is : x ≡ front ++ back
-    pub begins : Spells direction d places [] front
+    pub begins : HasPart direction d places [] front
     pub part_is : part d.sizes places back ≡ w
 
-  pub spells_split : (direction : Direction) (w x : List ℕ) → Spells direction d places w x → IsBegun direction w x
+  pub spells_split : (direction : Direction) (w x : List ℕ) → HasPart direction d places w x → IsBegun direction w x
   spells_split Msd w x spells =
       let parted = part_split d.sizes places x (zeros spells.0) w spells.1 in
       record { front = parted.front; back = parted.back; is = parted.is; begins = (spells.0, parted.front_part ∙ sym (append-nil (zeros spells.0))); part_is = parted.back_part }
@@ -136,7 +137,7 @@ module _ (d : Automaton) where
 
 -- a word that spells w leads to the state
 abbrev pub LeadsTo : Automaton → List ℕ → Direction → List ℕ → ℕ → Type 0
-LeadsTo d places direction w q = (x : List ℕ) × IsWord (letters_of d) x × Spells direction d places w x × (run_of d 0 x ≡ Some q)
+LeadsTo d places direction w q = (x : List ℕ) × IsWord (letters_of d) x × HasPart direction d places w x × (run_of d 0 x ≡ Some q)
 
 module _ (d : Automaton) (places : List ℕ) where
   -- w is in the projection where a word that spells it leads to a state at which a word may end
@@ -178,7 +179,7 @@ module _ (d : Automaton) (canonical : IsCanonical d) (live : ¬ IsDead d 0) (pla
       same_after : (y : List ℕ) (q : ℕ) → run_of d 0 x ≡ Some q → run_of d 0 y ≡ Some q → SameAfter d x y
       same_after y q one two u more = after_run d x u q one ∙ sym (after_run d y u q two)
 
-      by : (o : Option ℕ) → run_of d 0 x ≡ o → (y : List ℕ) × IsWord (letters_of d) y × Spells direction d places v y × SameAfter d x y
+      by : (o : Option ℕ) → run_of d 0 x ≡ o → (y : List ℕ) × IsWord (letters_of d) y × HasPart direction d places v y × SameAfter d x y
       by None is = absurd (some (λ u more. after_none d x u is))
       by (Some q) is =
           let leads = over q (x, inside, spells, is) in
@@ -195,7 +196,7 @@ module _ (d : Automaton) (canonical : IsCanonical d) (live : ¬ IsDead d 0) (pla
       some : ¬ IsEmptyAfter d leads.0
       some empty = alive (λ u more. sym (after_run d leads.0 u q leads.3) ∙ empty u more)
 
-      by : (y : List ℕ) → IsWord (letters_of d) y → Spells direction d places v y → SameAfter d leads.0 y → (o : Option ℕ) → run_of d 0 y ≡ o → LeadsTo d places direction v q
+      by : (y : List ℕ) → IsWord (letters_of d) y → HasPart direction d places v y → SameAfter d leads.0 y → (o : Option ℕ) → run_of d 0 y ≡ o → LeadsTo d places direction v q
       by y over spells same None is = absurd (alive (λ u more. sym (after_run d leads.0 u q leads.3) ∙ same u more ∙ after_none d y u is))
       by y over spells same (Some r) is =
           let one : q ≡ r = one_state d canonical q r (run_within d leads.0 0 q canonical.table canonical.table.initial leads.3) (run_within d y 0 r canonical.table canonical.table.initial is)
@@ -336,13 +337,13 @@ module _ (d : Automaton) (dead : IsDead d 0) (places : List ℕ) (direction : Di
   ProjectionAlike-dead w v = record { forth = no_residuals w v; back = no_residuals v w }
 
 -- the names but one are among the names, and no two are the same where no two names are
-pub other_names-there : (names : List (List ℕ)) (track : List ℕ) → All (Contains names) (other_names names track)
-other_names-there names track = All-filter (λ n. not (bytes_eq n track)) (Contains names) names (All-contains_itself names)
+pub names_without-there : (names : List (List ℕ)) (track : List ℕ) → All (Contains names) (names_without names track)
+names_without-there names track = All-filter (λ n. not (bytes_eq n track)) (Contains names) names (All-contains_itself names)
 
-pub other_names-distinct : (names : List (List ℕ)) (track : List ℕ) → AreDistinct names → AreDistinct (other_names names track)
-other_names-distinct names track distinct = AllPairs-filter (λ n m. n ≢ m) (λ n. not (bytes_eq n track)) names distinct
+pub names_without-distinct : (names : List (List ℕ)) (track : List ℕ) → AreDistinct names → AreDistinct (names_without names track)
+names_without-distinct names track distinct = AllPairs-filter (λ n m. n ≢ m) (λ n. not (bytes_eq n track)) names distinct
 
 module _ (a : NamedAutomaton) (is : IsTracked a) (track : List ℕ) where
   -- the tracks that stay have places, one for each name
   pub staying_places-within : All (λ place. place < length a.automaton.sizes) (staying_places a track)
-  staying_places-within = subst (λ n. All (λ place. place < n) (staying_places a track)) is.count (places_of-within a.names (other_names a.names track) (other_names-there a.names track))
+  staying_places-within = subst (λ n. All (λ place. place < n) (staying_places a track)) is.count (places_of-within a.names (names_without a.names track) (names_without-there a.names track))

@@ -9,12 +9,13 @@ use Rattle.std.proofs.lemmas.List.Kept.{AllPairs-filter}
 use Rattle.determinise.proofs.MemberLemmas.{Contains-filter, Contains-from_filter, Contains-map}
 use Rattle.digit_tuple.specs.Deterministic.{Automaton, accepts_of}
 use Rattle.digit_tuple.specs.Letters.{product, IsWord}
-use Rattle.digit_tuple.specs.Names.{place_of, places_of}
+use Rattle.digit_tuple.specs.Names.{place_of, places_of, names_without}
 use Rattle.digit_tuple.specs.Parts.{part}
 use Rattle.digit_tuple.proofs.NameLemmas.{place_of-contained, place_of-is}
-use Rattle.minimise.specs.Tracked.{NamedAutomaton, IsTracked}
+use Rattle.minimise.specs.Tracked.{NamedAutomaton, IsTracked, size_of}
 use Rattle.project_close.specs.Substitution.{IsSubstitution, sizes_under, word_under}
-use Rattle.project_close.specs.Restriction.{names_without, name_for, names_for, track_size, sizes_without, word_with}
+use Rattle.project_close.specs.Restriction.{name_for, names_for, word_with}
+use Rattle.project_close.specs.StayingTracks.{staying_sizes}
 use Rattle.project_close.proofs.SubstitutionLemmas.{size_under, sizes_under-map}
 
 -- a name is another, or passes the test
@@ -39,7 +40,7 @@ pub record HaveTwoTracks (a : NamedAutomaton) (kept dropped : List ℕ) : Type 0
   pub is_kept : Contains a.names kept
   pub is_dropped : Contains a.names dropped
   pub distinct : kept ≢ dropped
-  pub sizes : track_size a kept ≡ track_size a dropped
+  pub sizes : size_of a kept ≡ size_of a dropped
 
 -- the place of a track of this name
 pub record IsTrackAt (a : NamedAutomaton) (name : List ℕ) (place : ℕ) : Type 0 where
@@ -79,21 +80,21 @@ module _ (a : NamedAutomaton) (kept dropped : List ℕ) (two : HaveTwoTracks a k
       by false is = Contains-filter (λ n. not (bytes_eq n dropped)) a.names name there (ap not is)
 
   -- its track has the same size
-  size_for : (name : List ℕ) → track_size a (name_for kept dropped name) ≡ track_size a name
+  size_for : (name : List ℕ) → size_of a (name_for kept dropped name) ≡ size_of a name
   size_for name = by (bytes_eq name dropped) refl
     where
-      by : (b : Bool) → bytes_eq name dropped ≡ b → track_size a (if b then kept else name) ≡ track_size a name
-      by true is = two.sizes ∙ ap (track_size a) (sym ((bytes_eq-Decides name dropped).0 is))
+      by : (b : Bool) → bytes_eq name dropped ≡ b → size_of a (if b then kept else name) ≡ size_of a name
+      by true is = two.sizes ∙ ap (size_of a) (sym ((bytes_eq-Decides name dropped).0 is))
       by false is = refl
 
   pub length-names_for : length under ≡ length a.names
   length-names_for = length-map a.names (name_for kept dropped)
 
-  size_is : (i : ℕ) → i < length a.names → get_or a.automaton.sizes i 0 ≡ track_size a (get_or under i [])
+  size_is : (i : ℕ) → i < length a.names → get_or a.automaton.sizes i 0 ≡ size_of a (get_or under i [])
   size_is i within =
       ap (λ k. get_or a.automaton.sizes k 0) (sym (place_of-is a.names (get_or a.names i []) i two.tracked.distinct within refl))
       ∙ sym (size_for (get_or a.names i []))
-      ∙ ap (track_size a) (sym (get_or-map (name_for kept dropped) a.names i [] [] within))
+      ∙ ap (size_of a) (sym (get_or-map (name_for kept dropped) a.names i [] [] within))
 
   -- the names that stay are names that stand for others
   stays : All (Contains under) rest
@@ -105,26 +106,26 @@ module _ (a : NamedAutomaton) (kept dropped : List ℕ) (two : HaveTwoTracks a k
   IsSubstitution-restriction = record {
     count = length-names_for ∙ two.tracked.count;
     agree = λ i j within inside same.
-        size_is i (omega (arith, within, length-names_for)) ∙ ap (track_size a) same ∙ sym (size_is j (omega (arith, inside, length-names_for)));
+        size_is i (omega (arith, within, length-names_for)) ∙ ap (size_of a) same ∙ sym (size_is j (omega (arith, inside, length-names_for)));
     distinct = AllPairs-filter (λ n m. n ≢ m) (λ n. not (bytes_eq n dropped)) a.names two.tracked.distinct;
     there = All-map (Contains rest) (name_for kept dropped) a.names (λ i d within. stands (get_or a.names i d) (Contains-get_or a.names i d within));
     no_others = stays;
   }
 
-  size_same : (name : List ℕ) → Contains under name → size_under a.automaton.sizes under name ≡ track_size a name
+  size_same : (name : List ℕ) → Contains under name → size_under a.automaton.sizes under name ≡ size_of a name
   size_same name there =
       let spot = place_of-contained under name there in
-      size_is (place_of under name) (omega (arith, spot.0, length-names_for)) ∙ ap (track_size a) spot.1
+      size_is (place_of under name) (omega (arith, spot.0, length-names_for)) ∙ ap (size_of a) spot.1
 
   -- the tracks that stay have their sizes
-  pub sizes_under-restriction : sizes_under a.automaton.sizes under rest ≡ sizes_without a dropped
+  pub sizes_under-restriction : sizes_under a.automaton.sizes under rest ≡ staying_sizes a dropped
   sizes_under-restriction =
       sizes_under-map a.automaton.sizes under rest
-      ∙ ext_get_or 0 (map (size_under a.automaton.sizes under) rest) (map (track_size a) rest) (length-map rest (size_under a.automaton.sizes under) ∙ sym (length-map rest (track_size a)))
+      ∙ ext_get_or 0 (map (size_under a.automaton.sizes under) rest) (map (size_of a) rest) (length-map rest (size_under a.automaton.sizes under) ∙ sym (length-map rest (size_of a)))
       (λ i inside. let within : i < length rest = omega (arith, inside, length-map rest (size_under a.automaton.sizes under)) in
       get_or-map (size_under a.automaton.sizes under) rest i [] 0 within
       ∙ size_same (get_or rest i []) (stays i [] within)
-      ∙ sym (get_or-map (track_size a) rest i [] 0 within))
+      ∙ sym (get_or-map (size_of a) rest i [] 0 within))
       ∙ sym (sizes_under-map a.automaton.sizes a.names rest)
 
 -- the automaton is a's, and the names are those that stand for a's, and those that stay
@@ -149,12 +150,12 @@ module _ (a : NamedAutomaton) (kept dropped : List ℕ) (d : Automaton) (us rs :
   pub IsSubstitution-read : IsSubstitution d.sizes us rs
   IsSubstitution-read = back (λ e ns ms. IsSubstitution e.sizes ns ms) (IsSubstitution-restriction a kept dropped is.two)
 
-  pub sizes-read : sizes_under d.sizes us rs ≡ sizes_without a dropped
-  sizes-read = back (λ e ns ms. sizes_under e.sizes ns ms ≡ sizes_without a dropped) (sizes_under-restriction a kept dropped is.two)
+  pub sizes-read : sizes_under d.sizes us rs ≡ staying_sizes a dropped
+  sizes-read = back (λ e ns ms. sizes_under e.sizes ns ms ≡ staying_sizes a dropped) (sizes_under-restriction a kept dropped is.two)
 
   -- an automaton that reads words under these names reads the words with the dropped track again
   pub language-read : (t : Automaton) → ((w : List ℕ) → IsWord (product (sizes_under d.sizes us rs)) w → accepts_of t w ≡ accepts_of d (word_under d.sizes us rs w))
-      → (w : List ℕ) → IsWord (product (sizes_without a dropped)) w → accepts_of t w ≡ accepts_of a.automaton (word_with a kept dropped w)
+      → (w : List ℕ) → IsWord (product (staying_sizes a dropped)) w → accepts_of t w ≡ accepts_of a.automaton (word_with a kept dropped w)
   language-read t reads =
       subst (λ ss. (w : List ℕ) → IsWord (product ss) w → accepts_of t w ≡ accepts_of a.automaton (part ss (places_of (names_without a.names dropped) (names_for a.names kept dropped)) w))
       (sizes_under-restriction a kept dropped is.two)

@@ -92,20 +92,6 @@ module _ (d : Automaton) where
     lead_within [] q within = within
     lead_within (a ∷ w) q within = lead_within w (next_of d q a) (next_within d table q a)
 
-    -- a letter by which an edge leads is one of the alphabet
-    pub letter_within : (q a p : ℕ) → step_of d q a ≡ Some p → a < letters_of d
-    letter_within q a p is =
-        (All-contains (λ (e : Edge). (e.letter < letters_of d) × (e.target < states_of d)) (edges_of d q) (edge_to a p) (row_of d table q).in_range (contains_from_target_by (edges_of d q) a p is)).0
-
-    -- what is accepted is a word over the alphabet
-    pub IsWord-accepted : (w : List ℕ) (q : ℕ) → accepts_from d q w ≡ true → IsWord (letters_of d) w
-    IsWord-accepted [] q is = tt
-    IsWord-accepted (a ∷ w) q is = by (step_of d q a) refl is (λ p. IsWord-accepted w p)
-      where
-        by : (o : Option ℕ) → step_of d q a ≡ o → option_map_or (λ p. accepts_from d p w) o false ≡ true → ((p : ℕ) → accepts_from d p w ≡ true → IsWord (letters_of d) w) → IsWord (letters_of d) (a ∷ w)
-        by None leads accepted rest = absurd (true≢false (sym accepted))
-        by (Some p) leads accepted rest = (letter_within q a p leads, rest p accepted)
-
     pub step_from_leads : (p a q : ℕ) → Leads (branching_as d) p a q → step_of d p a ≡ Some q
     step_from_leads p a q leads = target_by-contains (edges_of d p) a q (row_of d table p).ascending (subst (λ (b : Branch). Contains b.edges (edge_to a q)) (branch_is p) leads)
 

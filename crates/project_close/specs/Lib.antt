@@ -1,4 +1,5 @@
 -- Definitions that the contracts cite, in reading order.
+pub mod StayingTracks
 pub mod ZeroClosure
 pub mod Image
 pub mod Projection

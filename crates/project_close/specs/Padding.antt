@@ -5,7 +5,7 @@ use Rattle.digit_tuple.specs.declared.direction.Direction.TheVariants.{Msd, Lsd}
 use Rattle.digit_tuple.specs.Deterministic.{Automaton, letters_of, accepts_of}
 use Rattle.digit_tuple.specs.Letters.{IsWord}
 use Rattle.digit_tuple.specs.Paddings.{zeros, without_zeros, strip}
-use Rattle.minimise.specs.Residuals.{SameAfter}
+use Rattle.minimise.specs.Residuals.{IsEmptyAfter, SameAfter}
 
 -- some word is accepted that is the same but for the zeros at the end of the most significant letters
 abbrev pub IsPadded : Direction → Automaton → List ℕ → Type 0
@@ -15,13 +15,9 @@ IsPadded direction d w = (v : List ℕ) × IsWord (letters_of d) v × (strip dir
 abbrev pub AreZeros : List ℕ → Type 0
 AreZeros w = without_zeros w ≡ []
 
--- no word that begins so is accepted: the residual after the word is empty
-abbrev pub IsRefusedAfter : Automaton → List ℕ → Type 0
-IsRefusedAfter d w = (u : List ℕ) → IsWord (letters_of d) u → accepts_of d (w ++ u) ≡ false
-
 -- each non-empty residual after zeros and w is one after zeros and v
 abbrev pub HasResidualsOf : Automaton → List ℕ → List ℕ → Type 0
-HasResidualsOf d w v = (k : ℕ) → ¬ IsRefusedAfter d (zeros k ++ w) → (l : ℕ) × SameAfter d (zeros k ++ w) (zeros l ++ v)
+HasResidualsOf d w v = (k : ℕ) → ¬ IsEmptyAfter d (zeros k ++ w) → (l : ℕ) × SameAfter d (zeros k ++ w) (zeros l ++ v)
 
 -- both or neither of the words are all zeros, and the same set of non-empty residuals is that after zeros and the
 -- one without its leading zeros, and after zeros and the other without its own

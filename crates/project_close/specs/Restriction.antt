@@ -1,16 +1,13 @@
 -- Automata on the words of which two tracks are equal, one of which is dropped.
-use Rattle.std.specs.Prelude.{◌≡◌, ◌≢◌, ℕ, List, [], ◌∷◌, map, not, slice_index_or, if◌then◌else◌}
-use Rattle.std.specs.List.{filter, Contains}
+use Rattle.std.specs.Prelude.{◌≡◌, ◌≢◌, ℕ, List, [], ◌∷◌, map, if◌then◌else◌}
+use Rattle.std.specs.List.{Contains}
 use Rattle.std.specs.Str.{bytes_eq}
 use Rattle.digit_tuple.specs.Deterministic.{letters_of}
 use Rattle.digit_tuple.specs.Letters.{IsWord}
-use Rattle.digit_tuple.specs.Names.{place_of, places_of}
-use Rattle.digit_tuple.specs.Parts.{picked, part}
-use Rattle.minimise.specs.Tracked.{NamedAutomaton}
-
--- the names but for one
-abbrev pub names_without : List (List ℕ) → List ℕ → List (List ℕ)
-names_without names dropped = filter (λ name. not (bytes_eq name dropped)) names
+use Rattle.digit_tuple.specs.Names.{place_of, places_of, names_without}
+use Rattle.digit_tuple.specs.Parts.{part}
+use Rattle.minimise.specs.Tracked.{NamedAutomaton, size_of}
+use Rattle.project_close.specs.StayingTracks.{staying_places, staying_sizes}
 
 -- the name that stands for a name: the kept one for the dropped one
 abbrev pub name_for : List ℕ → List ℕ → List ℕ → List ℕ
@@ -20,28 +17,20 @@ name_for kept dropped name = if bytes_eq name dropped then kept else name
 abbrev pub names_for : List (List ℕ) → List ℕ → List ℕ → List (List ℕ)
 names_for names kept dropped = map (name_for kept dropped) names
 
--- the size of the track of this name
-abbrev pub track_size : NamedAutomaton → List ℕ → ℕ
-track_size a name = slice_index_or a.automaton.sizes (place_of a.names name) 0
-
 -- the names are those of two tracks, which have one size
 pub record AreTwoTracks (a : NamedAutomaton) (kept dropped : List ℕ) : Type 0 where
   pub first : Contains a.names kept
   pub second : Contains a.names dropped
   pub distinct : kept ≢ dropped
-  pub sizes : track_size a kept ≡ track_size a dropped
+  pub sizes : size_of a kept ≡ size_of a dropped
 
 -- the word on the track of this name
 abbrev pub track_word : NamedAutomaton → List ℕ → List ℕ → List ℕ
 track_word a name w = part a.automaton.sizes (place_of a.names name ∷ []) w
 
--- the sizes of the tracks but for the dropped one
-abbrev pub sizes_without : NamedAutomaton → List ℕ → List ℕ
-sizes_without a dropped = picked (places_of a.names (names_without a.names dropped)) a.automaton.sizes
-
 -- the word without the dropped track
 abbrev pub word_without : NamedAutomaton → List ℕ → List ℕ → List ℕ
-word_without a dropped w = part a.automaton.sizes (places_of a.names (names_without a.names dropped)) w
+word_without a dropped w = part a.automaton.sizes (staying_places a dropped) w
 
 -- a word over all tracks of which two are equal, and that is w without the dropped one
 pub record HasEqualTracks (a : NamedAutomaton) (kept dropped w x : List ℕ) : Type 0 where
@@ -51,4 +40,4 @@ pub record HasEqualTracks (a : NamedAutomaton) (kept dropped w x : List ℕ) : T
 
 -- the word over the other tracks with the dropped one again, which has the digits of the kept one
 abbrev pub word_with : NamedAutomaton → List ℕ → List ℕ → List ℕ → List ℕ
-word_with a kept dropped w = part (sizes_without a dropped) (places_of (names_without a.names dropped) (names_for a.names kept dropped)) w
+word_with a kept dropped w = part (staying_sizes a dropped) (places_of (names_without a.names dropped) (names_for a.names kept dropped)) w

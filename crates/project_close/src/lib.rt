@@ -11,9 +11,6 @@ pub mod image;
 /// Projections of automata to all tracks but one.
 pub mod projection;
 
-/// Where letters lead, with the sink.
-mod sink;
-
 /// Deterministic automata seen as nondeterministic ones.
 mod same_branching;
 

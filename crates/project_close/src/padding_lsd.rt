@@ -14,13 +14,13 @@ ghost use Rattle.project_close.specs.PaddedPairs.{AreFinalFlags, IsPair, twice, 
 ghost use Rattle.project_close.specs.ZeroClosure.{flag_at};
 
 use crate::canonical_exploration::explore_canonical;
-use crate::sink::{first, next};
 use crate::zero_closure::reached;
 use determinise::reversed::reversed;
 use digit_tuple::dfa::Dfa;
 use digit_tuple::faults::{OpFault, OutOfMemory};
 use digit_tuple::source::{KeyStep, Source};
 use digit_tuple::stepped::Stepped;
+use minimise::sink::{first_state, next_state};
 use std::alloc::Global;
 
 /// The pairs of states that words lead to without their trailing zeros and with them, and for each
@@ -50,7 +50,7 @@ impl Source for PaddedPairs<'_> {
     ghost after_is_key = { λ s key letter source is_pair small. pair_after_is_pair s.dfa.now source.0.table key letter is_pair };
 
     fn first_key(&self, alloc: Global) -> Result<Vec<u32>, OutOfMemory> {
-        let state = first(self.dfa);
+        let state = first_state(self.dfa);
         pair(alloc, state, state)
     }
 
@@ -81,7 +81,7 @@ fn pair_by(alloc: Global, d: &Dfa, key: &[u32], letter: u32) -> Result<Vec<u32>,
     requires { IsPair d.now key.now }
     ensures { IfOk result (λ next. next.items ≡ pair_after d.now key.now letter) }
 {
-    let whole = next(d, key[1], letter);
+    let whole = next_state(d, key[1], letter);
     let stripped = if letter == 0 { key[0] } else { whole };
     pair(alloc, stripped, whole)
 }

@@ -19,7 +19,6 @@ ghost use Rattle.project_close.specs.SameBranching.{branching_as};
 
 use crate::canonical_exploration::explore_canonical;
 use crate::same_branching::same_branching;
-use crate::sink::first;
 use crate::zero_closure::zero_closure;
 use determinise::subsets::Subsets;
 use digit_tuple::dfa::Dfa;
@@ -27,6 +26,7 @@ use digit_tuple::faults::{OpFault, OutOfMemory};
 use digit_tuple::nfa::Nfa;
 use digit_tuple::source::{KeyStep, Source};
 use digit_tuple::stepped::Stepped;
+use minimise::sink::first_state;
 use std::alloc::Global;
 
 /// The sets of states that words without their leading zeros lead to, from the states of a first set,
@@ -140,7 +140,7 @@ fn first_set(alloc: Global, a: &Dfa, nfa: &Nfa) -> Result<Vec<u32>, OutOfMemory>
     requires same { nfa.now ≡ branching_as a.now }
     ensures { IfOk result (λ set. AreFirst a.now set.items) }
 {
-    if first(a) == a.states() {
+    if first_state(a) == a.states() {
         return Ok(Vec::new(alloc));
     }
     zero_closure(alloc, nfa)

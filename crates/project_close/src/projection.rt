@@ -6,12 +6,14 @@ ghost use Rattle.std.specs.Result.{IsErrOf};
 ghost use Rattle.determinise.specs.Reversed.{bare_automaton};
 ghost use Rattle.digit_tuple.specs.Deterministic.{accepts_of, letters_of};
 ghost use Rattle.digit_tuple.specs.Letters.{product, IsAlphabet, IsTooLarge, IsWord};
+ghost use Rattle.digit_tuple.specs.Names.{names_without as names_without_of};
 ghost use Rattle.digit_tuple.specs.Parts.{picked};
 ghost use Rattle.digit_tuple.specs.Width.{HasApart, HasWidth};
 ghost use Rattle.minimise.specs.Canonical.{IsCanonical};
 ghost use Rattle.minimise.specs.Residuals.{IsDead};
 ghost use Rattle.minimise.specs.Tracked.{IsTracked};
-ghost use Rattle.project_close.specs.Projection.{InProjection, ProjectionAlike, other_names as other_names_of, staying_places, staying_sizes};
+ghost use Rattle.project_close.specs.Projection.{InProjection, ProjectionAlike};
+ghost use Rattle.project_close.specs.StayingTracks.{staying_places, staying_sizes};
 
 use crate::image::reading_on;
 use determinise::subsets::Subsets;
@@ -22,7 +24,7 @@ use digit_tuple::direction::Direction;
 use digit_tuple::exploration::explore;
 use digit_tuple::faults::{OpFault, OutOfMemory};
 use digit_tuple::name::Name;
-use digit_tuple::names::places_in;
+use digit_tuple::names::{names_without, places_in};
 use digit_tuple::stepped::Stepped;
 use minimise::tracked::Tracked;
 use std::alloc::Global;
@@ -52,7 +54,7 @@ pub fn project(
     limit: u32,
 ) -> Result<Stepped<Tracked>, OpFault>
     requires there { Contains a.now.names track.now }
-    ensures names { IfOk result (λ stepped. stepped.result.names ≡ other_names_of a.now.names track.now) }
+    ensures names { IfOk result (λ stepped. stepped.result.names ≡ names_without_of a.now.names track.now) }
     ensures sizes { IfOk result (λ stepped. stepped.result.automaton.sizes ≡ staying_sizes a.now track.now) }
     ensures canonical { IfOk result (λ stepped. IsCanonical stepped.result.automaton) }
     ensures language { IfOk result (λ stepped. (w : List ℕ) → IsWord (product (staying_sizes a.now track.now)) w
@@ -89,7 +91,7 @@ struct StayingTracks {
 
 // The tracks that stay when one is dropped. `Letters` comes exactly where they have too many letters.
 fn staying_tracks(alloc: Global, a: &Tracked, track: &Name) -> Result<StayingTracks, OpFault>
-    ensures names { IfOk result (λ staying. staying.names.items ≡ other_names_of a.now.names track.now) }
+    ensures names { IfOk result (λ staying. staying.names.items ≡ names_without_of a.now.names track.now) }
     ensures places { IfOk result (λ staying. staying.places.items ≡ staying_places a.now track.now) }
     ensures sizes { IfOk result (λ staying. staying.alphabet ≡ staying_sizes a.now track.now) }
     ensures fits { OnOk result (IsAlphabet (staying_sizes a.now track.now)) }
@@ -99,7 +101,7 @@ fn staying_tracks(alloc: Global, a: &Tracked, track: &Name) -> Result<StayingTra
 {
     let all = a.names();
     let sizes = a.dfa().alphabet().sizes();
-    let names = other_names(alloc, all, track)?;
+    let names = names_without(alloc, all, track)?;
     let places = places_in(alloc, all, &names)?;
     let some = sizes_at(alloc, sizes, &places)?;
     let alphabet = Alphabet::new(alloc, &some)?;
@@ -108,19 +110,6 @@ fn staying_tracks(alloc: Global, a: &Tracked, track: &Name) -> Result<StayingTra
         places,
         alphabet,
     })
-}
-
-// The names but this one.
-fn other_names(alloc: Global, names: &[Name], track: &Name) -> Result<Vec<Name>, OutOfMemory>
-    ensures { IfOk result (λ others. others.items ≡ other_names_of names.now track.now) }
-{
-    let mut others = Vec::new(alloc);
-    for name in names {
-        if name.as_bytes() != track.as_bytes() {
-            others.push(name.copy(alloc)?)?;
-        }
-    }
-    Ok(others)
 }
 
 // The sizes at these places.

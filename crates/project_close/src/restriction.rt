@@ -3,13 +3,15 @@
 ghost use Rattle.std.specs.Prelude.{◌≡◌, ◌↔◌, ℕ, List, IfOk, OnOk, IsTrue};
 ghost use Rattle.digit_tuple.specs.Deterministic.{accepts_of};
 ghost use Rattle.digit_tuple.specs.Letters.{product, IsWord};
+ghost use Rattle.digit_tuple.specs.Names.{names_without as names_without_of};
 ghost use Rattle.minimise.specs.Canonical.{IsCanonical};
-ghost use Rattle.project_close.specs.Restriction.{names_without as names_without_of, name_for as name_for_of, names_for as names_for_of, sizes_without, word_with, AreTwoTracks, HasEqualTracks};
+ghost use Rattle.project_close.specs.Restriction.{name_for as name_for_of, names_for as names_for_of, word_with, AreTwoTracks, HasEqualTracks};
+ghost use Rattle.project_close.specs.StayingTracks.{staying_sizes};
 
 use crate::substitution::substitute;
 use digit_tuple::faults::OutOfMemory;
 use digit_tuple::name::Name;
-use digit_tuple::names::find_name;
+use digit_tuple::names::{find_name, names_without};
 use minimise::tracked::Tracked;
 use std::alloc::Global;
 
@@ -26,13 +28,13 @@ pub fn restrict(
 ) -> Result<Tracked, OutOfMemory>
     requires { AreTwoTracks a.now kept.now dropped.now }
     ensures names { IfOk result (λ restricted. restricted.names ≡ names_without_of a.now.names dropped.now) }
-    ensures sizes { IfOk result (λ restricted. restricted.automaton.sizes ≡ sizes_without a.now dropped.now) }
+    ensures sizes { IfOk result (λ restricted. restricted.automaton.sizes ≡ staying_sizes a.now dropped.now) }
     ensures canonical { IfOk result (λ restricted. IsCanonical restricted.automaton) }
-    ensures language { IfOk result (λ restricted. (w : List ℕ) → IsWord (product (sizes_without a.now dropped.now)) w
+    ensures language { IfOk result (λ restricted. (w : List ℕ) → IsWord (product (staying_sizes a.now dropped.now)) w
         → accepts_of restricted.automaton w ≡ accepts_of a.now.automaton (word_with a.now kept.now dropped.now w)) }
     ensures equal_tracks { IfOk result (λ restricted. (w x : List ℕ) → HasEqualTracks a.now kept.now dropped.now w x
         → accepts_of restricted.automaton w ≡ accepts_of a.now.automaton x) }
-    ensures each_word { OnOk result ((w : List ℕ) → IsWord (product (sizes_without a.now dropped.now)) w
+    ensures each_word { OnOk result ((w : List ℕ) → IsWord (product (staying_sizes a.now dropped.now)) w
         → HasEqualTracks a.now kept.now dropped.now w (word_with a.now kept.now dropped.now w)) }
 {
     let names = a.names();
@@ -51,19 +53,6 @@ pub fn are_two_tracks(a: &Tracked, kept: &Name, dropped: &Name) -> bool
         (Some(first), Some(second)) => first != second && sizes[first] == sizes[second],
         _ => false,
     }
-}
-
-// The names but for one.
-fn names_without(alloc: Global, names: &[Name], dropped: &Name) -> Result<Vec<Name>, OutOfMemory>
-    ensures { IfOk result (λ rest. rest.items ≡ names_without_of names.now dropped.now) }
-{
-    let mut rest = Vec::new(alloc);
-    for name in names {
-        if name.as_bytes() != dropped.as_bytes() {
-            rest.push(name.copy(alloc)?)?;
-        }
-    }
-    Ok(rest)
 }
 
 // The names with the kept one in the place of the dropped one.

@@ -8,7 +8,8 @@ ghost use Rattle.digit_tuple.specs.Letters.{product, IsAlphabet, IsWord};
 ghost use Rattle.digit_tuple.specs.Names.{place_of, places_of};
 ghost use Rattle.digit_tuple.specs.Parts.{picked};
 ghost use Rattle.product_op.specs.Connectives.{connective, among_valid};
-ghost use Rattle.product_op.specs.Tracks.{AgreeOnShared, joint_size, joint_sizes, part_on, size_of};
+ghost use Rattle.product_op.specs.Tracks.{AgreeOnShared, joint_size, joint_sizes, part_on};
+ghost use Rattle.minimise.specs.Tracked.{size_of};
 ghost use Rattle.product_op.specs.Validity.{AreLanguages, is_valid};
 ghost use Rattle.product_op.specs.Products.{in_product, in_complement, in_valid_part};
 

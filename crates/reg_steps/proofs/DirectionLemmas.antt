@@ -1,15 +1,11 @@
 -- Parts of words and words without zeros, in either direction.
-use Rattle.std.proofs.Common.{◌≡◌, ℕ, List, [], ◌∷◌, ◌++◌, map, reverse, refl, sym, ap, ◌∙◌}
-use Rattle.std.proofs.lemmas.List.{reverse-append, map-append, reverse-reverse}
+use Rattle.std.proofs.Common.{◌≡◌, ℕ, List, reverse, refl, sym, ap, ◌∙◌}
+use Rattle.std.proofs.lemmas.List.{reverse-reverse}
 use Rattle.digit_tuple.specs.Parts.{letter_part, part}
 use Rattle.digit_tuple.specs.Paddings.{without_zeros, in_order, strip}
 use Rattle.digit_tuple.specs.declared.direction.Direction.{Direction}
 use Rattle.digit_tuple.specs.declared.direction.Direction.TheVariants.{Msd, Lsd}
-
-map-reverse : (f : ℕ → ℕ) (w : List ℕ) → map f (reverse w) ≡ reverse (map f w)
-map-reverse f [] = refl
-map-reverse f (a ∷ w) =
-    ap (map f) (reverse-append (a ∷ []) w) ∙ map-append f (reverse w) (a ∷ []) ∙ ap (λ v. v ++ f a ∷ []) (map-reverse f w) ∙ sym (reverse-append (f a ∷ []) (map f w))
+use Rattle.digit_tuple.proofs.PaddingLemmas.{map-reverse}
 
 -- the part of a word in a direction
 pub part-in_order : (direction : Direction) (sizes places w : List ℕ) → part sizes places (in_order direction w) ≡ in_order direction (part sizes places w)

@@ -15,7 +15,7 @@ use Rattle.project_close.specs.Padding.{IsPadded}
 use Rattle.num_system.specs.Systems.{System, AreSystems}
 use Rattle.num_system.specs.Spelling as spelling
 use Rattle.num_system.specs.Spelling.{Spells, letters_in}
-use Rattle.num_system.proofs.PaddingLemmas.{IsWord-in_order}
+use Rattle.digit_tuple.proofs.PaddingLemmas.{IsWord-in_order}
 use Rattle.num_system.proofs.SpellLemmas.{spellings}
 use Rattle.regex_build.specs.Expression.{Expression}
 use Rattle.reg_steps.specs.RelationSteps.{AreRelationSteps}

@@ -2,15 +2,15 @@ use Rattle.std.proofs.Common.{◌≡◌, ◌<◌, ℕ, List, length, sym, ap, �
 use Rattle.std.specs.List.{All, Contains}
 use Rattle.digit_tuple.specs.Deterministic.{Automaton}
 use Rattle.digit_tuple.specs.Names.{places_of}
-use Rattle.project_close.specs.Projection.{staying_places}
-use Rattle.project_close.proofs.ProjectionLemmas.{other_names-there, staying_places-within}
+use Rattle.project_close.specs.StayingTracks.{staying_places}
+use Rattle.project_close.proofs.ProjectionLemmas.{names_without-there, staying_places-within}
 use Rattle.closing_reference.proofs.tests.projects_alike.Goals as goal
 
 pub places_in-requires-clause-there : goal.places_in-requires-clause-there
 places_in-requires-clause-there g c =
     let names = c.args.a.now.names in
     subst (λ (ns : List (List ℕ)). All (Contains ns) c.names-3.result.now) (sym c.names-2.ensures.value)
-    (subst (λ (ns : List (List ℕ)). All (Contains names) ns) (sym (c.names-3.ensures.value ∙ c.in_ok-stepped.ensures.names)) (other_names-there names c.args.track.now))
+    (subst (λ (ns : List (List ℕ)). All (Contains names) ns) (sym (c.names-3.ensures.value ∙ c.in_ok-stepped.ensures.names)) (names_without-there names c.args.track.now))
 
 pub accepts_the_projection-requires-clause-places : goal.accepts_the_projection-requires-clause-places
 accepts_the_projection-requires-clause-places g c =

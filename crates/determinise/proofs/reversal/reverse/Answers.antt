@@ -10,7 +10,8 @@ use Rattle.digit_tuple.proofs.WordLemmas.{IsWord-append}
 use Rattle.digit_tuple.specs.Keys.{LeadAlike}
 use Rattle.determinise.specs.Reversed.{AreAccepting, SameReversedResidual}
 use Rattle.determinise.specs.Subsets.{set_after}
-use Rattle.determinise.proofs.ReversalLemmas.{IsWord-reverse, key_accepts-reversed, SameReversedResidual-lead, LeadAlike-residual, IsStateSet-accepting, accepts_of-none, nil_of_length, bare_refuses, HasApart-one, HasWidth-one}
+use Rattle.digit_tuple.proofs.PaddingLemmas.{IsWord-reverse}
+use Rattle.determinise.proofs.ReversalLemmas.{key_accepts-reversed, SameReversedResidual-lead, LeadAlike-residual, IsStateSet-accepting, accepts_of-none, nil_of_length, bare_refuses, HasApart-one, HasWidth-one}
 use Rattle.determinise.proofs.reversal.reverse.Goals as goal
 
 pub explore-requires : goal.explore-requires

@@ -1,6 +1,6 @@
 use Rattle.std.proofs.Common.{◌≡◌, ℕ, ◌<◌, List, get_or}
 use Rattle.std.specs.List.{Contains}
-use Rattle.product_op.specs.Tracks.{size_of}
+use Rattle.minimise.specs.Tracked.{size_of}
 use Rattle.product_op.proofs.joint_tracks.agree_on_shared.Given as goal
 
 abbrev pub invariant-loop-name : goal.invariant-loop-name

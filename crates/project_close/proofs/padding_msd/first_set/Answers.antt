@@ -9,10 +9,10 @@ use Rattle.project_close.proofs.PaddedSetLemmas.{AreFirst-closure, AreFirst-none
 use Rattle.project_close.proofs.SinkLeads.{first_cases}
 use Rattle.project_close.proofs.padding_msd.first_set.Goals as goal
 
-pub returns-then-first-states : goal.returns-then-first-states
-returns-then-first-states c =
+pub returns-then-first_state-states : goal.returns-then-first_state-states
+returns-then-first_state-states c =
     let d = c.args.a.now in
-    let sink : first_of d ≡ states_of d = omega (arith, c.first.ensures, c.states.ensures.value, c.if-first-states.true) in
+    let sink : first_of d ≡ states_of d = omega (arith, c.first_state.ensures, c.states.ensures.value, c.if-first_state-states.true) in
     subst (λ (set : List ℕ). AreFirst d set) (sym c.new.ensures.items) (AreFirst-none d c.requires.canonical sink)
 
 pub returns : goal.returns
@@ -23,5 +23,5 @@ returns c =
     c.zero_closure.ensures
   where
     by : (first_of c.args.a.now ≡ states_of c.args.a.now) ⊎ (first_of c.args.a.now ≡ 0) → first_of c.args.a.now ≡ 0
-    by (inl sink) = absurd (c.if-first-states.false (c.first.ensures ∙ sink ∙ sym c.states.ensures.value))
+    by (inl sink) = absurd (c.if-first_state-states.false (c.first_state.ensures ∙ sink ∙ sym c.states.ensures.value))
     by (inr is) = is

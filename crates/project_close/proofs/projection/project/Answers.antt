@@ -3,8 +3,9 @@ use Rattle.std.specs.List.{All}
 use Rattle.digit_tuple.specs.Deterministic.{Automaton, accepts_of}
 use Rattle.digit_tuple.specs.Letters.{IsWord, product}
 use Rattle.digit_tuple.specs.Names.{AreDistinct}
-use Rattle.project_close.specs.Projection.{InProjection, staying_places, staying_sizes}
-use Rattle.project_close.proofs.ProjectionLemmas.{other_names-distinct, staying_places-within}
+use Rattle.project_close.specs.Projection.{InProjection}
+use Rattle.project_close.specs.StayingTracks.{staying_places, staying_sizes}
+use Rattle.project_close.proofs.ProjectionLemmas.{names_without-distinct, staying_places-within}
 use Rattle.project_close.proofs.projection.project.Goals as goal
 
 pub projected-requires-clause-places : goal.projected-requires-clause-places
@@ -16,7 +17,7 @@ projected-requires-clause-places c =
 
 pub new-requires-clause-distinct : goal.new-requires-clause-distinct
 new-requires-clause-distinct c =
-    subst AreDistinct (sym (c.deref-2.ensures.value ∙ c.in_ok-names.ensures.names)) (other_names-distinct c.args.a.now.names c.args.track.now c.dfa.ensures.tracked.distinct)
+    subst AreDistinct (sym (c.deref-2.ensures.value ∙ c.in_ok-names.ensures.names)) (names_without-distinct c.args.a.now.names c.args.track.now c.dfa.ensures.tracked.distinct)
 
 pub returns-clause-language : goal.returns-clause-language
 returns-clause-language c w over =

@@ -1,6 +1,7 @@
 use Rattle.std.proofs.Common.{◌∙◌, ap}
 use Rattle.std.proofs.lemmas.Result.{IfOk-weaker}
-use Rattle.project_close.specs.Restriction.{names_for, names_without}
+use Rattle.project_close.specs.Restriction.{names_for}
+use Rattle.digit_tuple.specs.Names.{names_without}
 use Rattle.project_close.proofs.RestrictionLemmas.{IsRead, IsSubstitution-read, sizes-read, language-read}
 use Rattle.project_close.proofs.EqualTracks.{HasEqualTracks-with, accepts-equal}
 use Rattle.project_close.proofs.restriction.restrict.Goals as goal
