@@ -16,3 +16,4 @@ pub mod NamedLinks
 pub mod ProjectionLinks
 pub mod SuccessorLemmas
 pub mod StepLemmas
+pub mod SealingLemmas

@@ -1,9 +1,9 @@
 -- Two words that are read side by side: where they lead, and what that tells of the numbers.
-use Rattle.std.proofs.Common.{◌≡◌, ℕ, ◌*◌, ◌/◌, ◌%◌, ◌<◌, Bool, ◌&&◌, slice_index, Result, Ok, Err, IfOk, List, [], ◌∷◌, ◌++◌, map, reverse, get_or, length, Option, Some, refl, ap, sym, ◌∙◌, subst, arith, ◌↔◌, IsTrue, Ordering, Equal, nat_cmp, ◌==◌, div-one, mul-one}
+use Rattle.std.proofs.Common.{◌≡◌, ℕ, ◌*◌, ◌/◌, ◌%◌, ◌<◌, Bool, ◌&&◌, slice_index, Result, Ok, Err, IfOk, List, [], ◌∷◌, ◌++◌, map, get_or, length, Option, Some, refl, ap, sym, ◌∙◌, subst, arith, ◌↔◌, IsTrue, Ordering, Equal, nat_cmp, ◌==◌, div-one, mul-one}
 use Rattle.std.specs.Ordering.{ordering_index}
 use Rattle.std.specs.Cmp.Lexicographic.{slice_cmp}
 use Rattle.std.proofs.lemmas.Bool.{and_parts, and_from}
-use Rattle.std.proofs.lemmas.List.{length-map, map-append, reverse-append}
+use Rattle.std.proofs.lemmas.List.{length-map}
 use Rattle.std.proofs.lemmas.Nat.{div_below, mod_below}
 use Rattle.digit_tuple.specs.Letters.{IsWord, product}
 use Rattle.digit_tuple.specs.Paddings.{in_order}
@@ -11,7 +11,6 @@ use Rattle.digit_tuple.specs.Parts.{part, letter_part}
 use Rattle.digit_tuple.specs.Deterministic.{Automaton, letters_of, accepting_of, accepts_of}
 use Rattle.digit_tuple.specs.Keys.{key_run, key_accepts, LeadAlike}
 use Rattle.digit_tuple.specs.declared.direction.Direction.{Direction}
-use Rattle.digit_tuple.specs.declared.direction.Direction.TheVariants.{Msd, Lsd}
 use Rattle.digit_tuple.proofs.LetterLemmas.{positive_right}
 use Rattle.minimise.specs.Residuals.{SameAfter}
 use Rattle.minimise.specs.Canonical.{IsCanonical}

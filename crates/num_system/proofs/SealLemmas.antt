@@ -9,7 +9,8 @@ use Rattle.minimise.specs.Canonical.{IsCanonical}
 use Rattle.num_system.specs.Systems.{System, IsSystem}
 use Rattle.num_system.specs.Spelling.{Spells, letters_in}
 use Rattle.num_system.specs.Relations.{IsLanguageOf, HoldsOf, IsAdderOf}
-use Rattle.num_system.specs.Sealed.{SystemValue, system_of, IsSealed}
+use Rattle.num_system.specs.Sealed.{SystemValue, system_of, AreRelationsOf, IsSealed}
+use Rattle.num_system.specs.Sealing.{IsLeastLanguage}
 use Rattle.digit_tuple.proofs.PaddingLemmas.{in_order-twice, IsWord-in_order}
 use Rattle.num_system.proofs.RankLemmas.{same_tests}
 use Rattle.digit_tuple.proofs.AcceptedLemmas.{accepted_over}
@@ -51,16 +52,19 @@ same_system s v digits language =
     let test : (w : List ℕ) → accepts_of v.language (in_order v.way w) ≡ s.test w = λ w. language.accepts (in_order v.way w) ∙ ap s.test (in_order-twice v.way w) in
     λ i. record { digits = digits i; test = λ w. test w i }
 
+-- the automata of a system in a direction are sealed
 pub sealed_from : (s : System) (way : Direction) (v : SystemValue) → v.way ≡ way → v.digits ≡ s.digits → IsSystem s
-    → IsLanguageOf way s v.language → IsCanonical v.language → IsAdderOf way s v.adder → IsCanonical v.adder → IsSealed v
-sealed_from s way v ways digits laws language language_canonical adder adder_canonical =
-    let here : IsLanguageOf v.way s v.language = subst (λ (m : Direction). IsLanguageOf m s v.language) (sym ways) language in
-    let there : IsAdderOf v.way s v.adder = subst (λ (m : Direction). IsAdderOf m s v.adder) (sym ways) adder in
-    let same : s ≡ system_of v = sym (same_system s v digits here) in
+    → IsLeastLanguage way s v.language → IsAdderOf way s v.adder → IsCanonical v.adder → AreRelationsOf way s v.equal v.less v.successor v.zero → IsSealed v
+sealed_from s way v ways digits laws language adder canonical relations =
+    let here : IsLeastLanguage v.way s v.language = subst (λ (m : Direction). IsLeastLanguage m s v.language) (sym ways) language in
+    let sum : IsAdderOf v.way s v.adder = subst (λ (m : Direction). IsAdderOf m s v.adder) (sym ways) adder in
+    let others : AreRelationsOf v.way s v.equal v.less v.successor v.zero = subst (λ (m : Direction). AreRelationsOf m s v.equal v.less v.successor v.zero) (sym ways) relations in
+    let same : s ≡ system_of v = sym (same_system s v digits here.accepts) in
     record {
       laws = subst IsSystem same laws;
-      language = subst (λ (m : System). IsLanguageOf v.way m v.language) same here;
-      language_canonical = language_canonical;
-      adder = subst (λ (m : System). IsAdderOf v.way m v.adder) same there;
-      adder_canonical = adder_canonical;
+      language = subst (λ (m : System). IsLanguageOf v.way m v.language) same here.accepts;
+      language_canonical = here.canonical;
+      adder = subst (λ (m : System). IsAdderOf v.way m v.adder) same sum;
+      adder_canonical = canonical;
+      relations = subst (λ (m : System). AreRelationsOf v.way m v.equal v.less v.successor v.zero) same others;
     }

@@ -7,3 +7,4 @@ pub mod Orders
 pub mod PairKeys
 pub mod Joined
 pub mod Successor
+pub mod Sealing

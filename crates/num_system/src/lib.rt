@@ -4,12 +4,6 @@
 /// What a numeration system gives, and its laws.
 pub mod num_system;
 
-/// Sealed systems.
-pub mod system;
-
-/// How a system is sealed.
-pub mod seal;
-
 /// Pairs of words that are read side by side.
 mod pairs;
 
@@ -21,6 +15,15 @@ pub mod zero;
 
 /// The successor of a system's numbers.
 pub mod successor;
+
+/// The relations of a system's numbers that its language alone tells.
+mod relations;
+
+/// Sealed systems.
+pub mod system;
+
+/// How a system is sealed.
+pub mod seal;
 
 /// Laws of the definitions.
 pub mod laws;

@@ -3,9 +3,11 @@
 ghost use Rattle.std.specs.Prelude.{◌≡◌};
 ghost use Rattle.minimise.specs.Canonical.{IsCanonical};
 ghost use Rattle.num_system.specs.Systems.{IsSystem};
-ghost use Rattle.num_system.specs.Relations.{IsLanguageOf, IsAdderOf};
-ghost use Rattle.num_system.specs.Sealed.{SystemValue, system_of, IsSealed};
+ghost use Rattle.num_system.specs.Relations.{IsLanguageOf, IsAdderOf, IsEqualityOf, IsOrderOf, IsZeroOf};
+ghost use Rattle.num_system.specs.Successor.{IsSuccessorOf};
+ghost use Rattle.num_system.specs.Sealed.{SystemValue, system_of, sealed_of, IsSealed};
 
+use crate::relations::Relations;
 use digit_tuple::dfa::Dfa;
 use digit_tuple::direction::Direction;
 use std::marker::Model;
@@ -18,16 +20,17 @@ pub struct System {
     first_digit: Direction,
     valid: Rc<Dfa>,
     sum: Dfa,
+    relations: Relations,
 }
 
 impl Model for System {
-    ghost use Rattle.num_system.specs.Sealed.{SystemValue, IsSealed};
+    ghost use Rattle.num_system.specs.Sealed.{SystemValue, sealed_of, IsSealed};
 
     ghost Value = { SystemValue };
 
-    ghost view = { λ s. record { digits = s.digit_count; way = s.first_digit; language = s.valid.value; adder = s.sum } };
+    ghost view = { λ s. sealed_of s.digit_count s.first_digit s.valid.value s.sum s.relations };
 
-    ghost invariant = { λ s. IsSealed (record { digits = s.digit_count; way = s.first_digit; language = s.valid.value; adder = s.sum }) };
+    ghost invariant = { λ s. IsSealed (sealed_of s.digit_count s.first_digit s.valid.value s.sum s.relations) };
 }
 
 impl System {
@@ -37,15 +40,17 @@ impl System {
         direction: Direction,
         language: Rc<Dfa>,
         adder: Dfa,
+        relations: Relations,
     ) -> System
-        requires { IsSealed (record { digits = digits; way = direction; language = language.value; adder = adder }) }
-        ensures { result ≡ record { digits = digits; way = direction; language = language.value; adder = adder } }
+        requires { IsSealed (sealed_of digits direction language.value adder relations) }
+        ensures { result ≡ sealed_of digits direction language.value adder relations }
     {
         System {
             digit_count: digits,
             first_digit: direction,
             valid: language,
             sum: adder,
+            relations,
         }
     }
 
@@ -83,5 +88,45 @@ impl System {
         ensures laws { IsSystem (system_of self.now) }
     {
         &self.sum
+    }
+
+    /// The canonical automaton of the pairs of equal numbers.
+    pub fn equal(&self) -> &Dfa
+        ensures value { result.now ≡ self.now.equal }
+        ensures equality { IsEqualityOf self.now.way (system_of self.now) result.now }
+        ensures canonical { IsCanonical result.now }
+        ensures laws { IsSystem (system_of self.now) }
+    {
+        &self.relations.equal
+    }
+
+    /// The canonical automaton of the pairs of numbers of which the first is less.
+    pub fn less(&self) -> &Dfa
+        ensures value { result.now ≡ self.now.less }
+        ensures order { IsOrderOf self.now.way (system_of self.now) result.now }
+        ensures canonical { IsCanonical result.now }
+        ensures laws { IsSystem (system_of self.now) }
+    {
+        &self.relations.less
+    }
+
+    /// The canonical automaton of the pairs of numbers of which the second is one more than the first.
+    pub fn successor(&self) -> &Dfa
+        ensures value { result.now ≡ self.now.successor }
+        ensures successor { IsSuccessorOf self.now.way (system_of self.now) result.now }
+        ensures canonical { IsCanonical result.now }
+        ensures laws { IsSystem (system_of self.now) }
+    {
+        &self.relations.successor
+    }
+
+    /// The canonical automaton of the number 0.
+    pub fn zero(&self) -> &Dfa
+        ensures value { result.now ≡ self.now.zero }
+        ensures zero { IsZeroOf self.now.way (system_of self.now) result.now }
+        ensures canonical { IsCanonical result.now }
+        ensures laws { IsSystem (system_of self.now) }
+    {
+        &self.relations.zero
     }
 }
