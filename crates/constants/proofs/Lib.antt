@@ -1,0 +1,12 @@
+pub mod SumLemmas
+pub mod CappedLemmas
+pub mod CountSteps
+pub mod RowLemmas
+pub mod FrontLemmas
+pub mod PlaceLemmas
+pub mod ConstantWords
+pub mod AddedStates
+pub mod WordPathLemmas
+pub mod PathRuns
+pub mod ConstantKinds
+pub mod ConstantLinks

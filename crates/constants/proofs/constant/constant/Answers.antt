@@ -1,0 +1,49 @@
+use Rattle.std.proofs.Common.{◌≡◌, ℕ, ◌+◌, ◌-◌, ◌<◌, List, [], ◌∷◌, length, sym, ap, ◌∙◌, subst, arith, rules, ◌↔◌, IsTrue}
+use Rattle.digit_tuple.specs.Deterministic.{Automaton, accepts_of}
+use Rattle.digit_tuple.specs.Paddings.{in_order, without_zeros}
+use Rattle.digit_tuple.specs.Width.{HasWidth}
+use Rattle.digit_tuple.specs.declared.direction.Direction.{Direction}
+use Rattle.num_system.specs.Systems.{IsRep}
+use Rattle.num_system.specs.Sealed.{system_of}
+use Rattle.constants.specs.Constants.{ConstantAlike}
+use Rattle.constants.specs.WordPaths.{IsPaddingPath}
+use Rattle.constants.proofs.ConstantKinds.{constant_apart, constant_width}
+use Rattle.constants.proofs.ConstantLinks.{constant_is, two_apart}
+use Rattle.constants.proofs.constant.constant.Goals as goal
+
+pub returns-then-limit-lt2-clause-states : goal.returns-then-limit-lt2-clause-states
+returns-then-limit-lt2-clause-states c refused =
+    two_apart c.args.system.now.way (system_of c.args.system.now) c.args.number c.args.limit c.language-language.ensures.laws c.if-limit-lt2.true
+
+pub returns-in_err-word-clause-states : goal.returns-in_err-word-clause-states
+returns-in_err-word-clause-states c refused =
+    let e = c.from_residual.ensures in
+    let k = c.in_err-word.ensures.states in
+    let s = system_of c.args.system.now in
+    let long : (word : List ℕ) × IsRep c.args.system.now.digits s.test c.args.number word × (c.args.limit - 2 < length word) = search rules in
+    constant_apart c.args.system.now.way s c.args.number long.0 c.language-language.ensures.laws long.1 (c.args.limit + 1) (omega (arith, long.2))
+
+pub returns-clause-constant : goal.returns-clause-constant
+returns-clause-constant c =
+    let way = c.args.system.now.way in
+    let s = system_of c.args.system.now in
+    let d = c.in_ok-paddings.paddings in
+    let word = c.in_ok-word.word.items in
+    let paddings : (w : List ℕ) → IsTrue (accepts_of d w) ↔ (without_zeros (in_order way w) ≡ word) =
+    subst (λ v. (w : List ℕ) → IsTrue (accepts_of d w) ↔ (without_zeros (in_order way w) ≡ v)) c.deref-2.ensures.value
+    (subst (λ (m : Direction). (w : List ℕ) → IsTrue (accepts_of d w) ↔ (without_zeros (in_order m w) ≡ c.deref-2.result.now)) c.direction.ensures.value c.in_ok-paddings.ensures.paddings) in
+    let sizes : d.sizes ≡ s.digits ∷ [] =
+    c.in_ok-paddings.ensures.sizes ∙ c.in_ok-alphabet.ensures ∙ c.alphabet.ensures.sizes ∙ ap (λ (a : Automaton). a.sizes) c.deref.ensures ∙ c.language-language.ensures.language.sizes in
+    constant_is way s c.args.number word d c.in_ok-canonical.field-0 c.language-language.ensures.laws c.in_ok-word.ensures.word sizes paddings c.in_ok-canonical.ensures.sizes c.in_ok-canonical.ensures.language
+
+pub returns-clause-width : goal.returns-clause-width
+returns-clause-width c =
+    let way = c.args.system.now.way in
+    let s = system_of c.args.system.now in
+    let d = c.in_ok-paddings.paddings in
+    let word = c.in_ok-word.word.items in
+    let path : IsPaddingPath way word d =
+    subst (λ v. IsPaddingPath way v d) c.deref-2.ensures.value (subst (λ (m : Direction). IsPaddingPath m c.deref-2.result.now d) c.direction.ensures.value c.in_ok-paddings.ensures.path) in
+    let long : length word ≡ c.len.result = ap length (sym c.deref-2.ensures.value) ∙ c.deref-2.ensures.len ∙ sym c.len.ensures in
+    subst (λ n. HasWidth (ConstantAlike way s c.args.number) c.args.system.now.digits (n + 2)) long
+    (constant_width way s c.args.number word c.language-language.ensures.laws c.in_ok-word.ensures.word d path)

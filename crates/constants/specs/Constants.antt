@@ -1,0 +1,16 @@
+-- The automaton of one number, and the kinds of words that it tells apart.
+use Rattle.std.specs.Prelude.{◌≡◌, ℕ, List, [], ◌∷◌, ◌++◌, ◌↔◌}
+use Rattle.digit_tuple.specs.Letters.{IsWord}
+use Rattle.digit_tuple.specs.Paddings.{in_order}
+use Rattle.digit_tuple.specs.Deterministic.{Automaton}
+use Rattle.digit_tuple.specs.declared.direction.Direction.{Direction}
+use Rattle.num_system.specs.Systems.{System, IsNumeral}
+use Rattle.num_system.specs.Relations.{HoldsOf}
+
+-- the automaton accepts the spellings of the number alone
+abbrev pub IsConstantOf : Direction → System → ℕ → Automaton → Type 0
+IsConstantOf way s n d = HoldsOf way (s ∷ []) (λ ns. ns ≡ n ∷ []) d
+
+-- what follows the one word and makes it a numeral of the number follows the other
+abbrev pub ConstantAlike : Direction → System → ℕ → List ℕ → List ℕ → Type 0
+ConstantAlike way s n w v = (u : List ℕ) → IsWord s.digits u → IsNumeral s (in_order way (w ++ u)) n ↔ IsNumeral s (in_order way (v ++ u)) n

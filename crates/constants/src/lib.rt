@@ -1,0 +1,21 @@
+//! Single numbers of a numeration system: their words, and the automata of their spellings.
+#![tactic(auto)]
+
+/// How many words of a length there are at each state of an automaton.
+mod word_counts;
+
+/// What the most significant digits of a word lead to.
+mod front;
+
+/// The word that stands for a number.
+pub mod representation;
+
+/// Automata of the paddings of one word.
+mod word_automaton;
+
+/// The automaton of one number.
+pub mod constant;
+#[cfg(test)]
+mod constant_tests;
+#[cfg(test)]
+mod tests;

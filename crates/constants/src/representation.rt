@@ -1,0 +1,141 @@
+//! The word that stands for a number, found by counting.
+//!
+//! A language of a system has as many words of a length, leading zeros among them, as it has words
+//! without leading zero up to that length. So the word of a number is as long as the least length of
+//! which there are more words, and stands at the number's place among those of that length.
+
+ghost use Rattle.std.specs.Prelude.{◌≡◌, ℕ, suc, ◌<◌, ◌≤◌, List, [], length, IfOk};
+ghost use Rattle.std.specs.Result.{IsErrOf};
+ghost use Rattle.digit_tuple.specs.Deterministic.{IsTable, letters_of, states_of};
+ghost use Rattle.digit_tuple.specs.declared.direction.Direction.{Direction};
+ghost use Rattle.num_system.specs.Sealed.{system_of};
+ghost use Rattle.num_system.specs.Systems.{IsRep};
+ghost use Rattle.constants.specs.Continuations.{read, continuations};
+ghost use Rattle.constants.specs.WordCounts.{AreCounts, AreRows};
+ghost use Rattle.constants.specs.Fronts.{IsFront, Fits};
+ghost use Rattle.constants.specs.Choices.{IsChoice};
+ghost use Rattle.constants.specs.Places.{IsAtPlace};
+
+use crate::front::Front;
+use crate::word_counts::{first_row, next_row};
+use digit_tuple::dfa::Dfa;
+use digit_tuple::direction::Direction;
+use digit_tuple::faults::{OpFault, OutOfMemory};
+use num_system::system::System;
+use std::alloc::Global;
+
+/// The word that stands for a number: the one of the system's language without leading zero before
+/// which so many stand, shorter words first; its most significant digit first, in either direction
+/// of the system. `States` comes exactly where that word is longer than `longest`, `Letters` never.
+/// Time grows with the word's length times the states and the digits of the language, memory with its
+/// length times the states.
+pub fn representation(
+    alloc: Global,
+    system: &System,
+    number: u64,
+    longest: u32,
+) -> Result<Vec<u32>, OpFault>
+    ensures word { IfOk result (λ word. IsRep system.now.digits (system_of system.now).test number word.items) }
+    ensures within { IfOk result (λ word. length word.items ≤ longest) }
+    ensures states { IsErrOf result OpFault.States → (word : List ℕ) × IsRep system.now.digits (system_of system.now).test number word × (longest < length word) }
+    ensures no_letters { ¬ IsErrOf result OpFault.Letters }
+{
+    let language = system.language();
+    let direction = system.direction();
+    let rows = rows_past(alloc, language, direction, number, longest)?;
+    Ok(word_at(alloc, language, direction, rows, number)?)
+}
+
+// The counts for each length below the least of which there are more words than the number.
+fn rows_past(
+    alloc: Global,
+    language: &Dfa,
+    direction: Direction,
+    number: u64,
+    longest: u32,
+) -> Result<Vec<Vec<u128>>, OpFault>
+    ensures counts { IfOk result (λ rows. AreRows direction language.now rows.items) }
+    ensures past { IfOk result (λ rows. number < continuations (letters_of language.now) (read direction language.now) [] (length rows.items)) }
+    ensures least { IfOk result (λ rows. (n : ℕ) → n < length rows.items → continuations (letters_of language.now) (read direction language.now) [] n ≤ number) }
+    ensures within { IfOk result (λ rows. length rows.items ≤ longest) }
+    ensures states { IsErrOf result OpFault.States → (n : ℕ) → n ≤ longest → continuations (letters_of language.now) (read direction language.now) [] n ≤ number }
+    ensures no_letters { ¬ IsErrOf result OpFault.Letters }
+{
+    let front = Front::first(alloc, language, direction)?;
+    let mut rows = Vec::new(alloc);
+    let mut row = first_row(alloc, language, direction)?;
+    while front.count(&row) <= u128::from(number) {
+        if rows.len() >= longest as usize {
+            return Err(OpFault::States);
+        }
+        let next = next_row(alloc, language, direction, &row)?;
+        rows.push(row)?;
+        row = next;
+    }
+    Ok(rows)
+}
+
+// The word of a length before which so many of that length stand, by the counts for lesser lengths.
+fn word_at(
+    alloc: Global,
+    language: &Dfa,
+    direction: Direction,
+    rows: Vec<Vec<u128>>,
+    number: u64,
+) -> Result<Vec<u32>, OutOfMemory>
+    requires counts { AreRows direction language.now rows.items }
+    requires past { number < continuations (letters_of language.now) (read direction language.now) [] (length rows.items) }
+    ensures { IfOk result (λ word. IsAtPlace (letters_of language.now) (read direction language.now) (length rows.items) number word.items) }
+{
+    let mut front = Front::first(alloc, language, direction)?;
+    let mut word = Vec::new(alloc);
+    let mut rest = number;
+    let mut lesser = rows;
+    while let Some(row) = lesser.pop() {
+        let choice = choose(alloc, language, &front, &row, rest)?;
+        word.push(choice.digit)?;
+        front = choice.front;
+        rest = choice.rest;
+    }
+    Ok(word)
+}
+
+// A digit that was chosen, the front with it, and what is left of the number.
+#[derive(Drop)]
+struct Choice {
+    digit: u32,
+    front: Front,
+    rest: u64,
+}
+
+// The digit by which the word goes on before which so many stand of those that begin as it does.
+fn choose(
+    alloc: Global,
+    language: &Dfa,
+    front: &Front,
+    row: &[u128],
+    number: u64,
+) -> Result<Choice, OutOfMemory>
+    requires fits { Fits (states_of language.now) front.now }
+    requires long { length row.now ≡ states_of language.now }
+    requires some { (way : Direction) × (w : List ℕ) × (n : ℕ) × IsFront way language.now w front.now × AreCounts way language.now n row.now
+        × (number < continuations (letters_of language.now) (read way language.now) w (suc n)) }
+    ensures choice { IfOk result (λ choice. (way : Direction) (w : List ℕ) (n : ℕ) → IsFront way language.now w front.now → AreCounts way language.now n row.now
+        → IsChoice way language.now w n number choice) }
+    ensures fits { IfOk result (λ choice. Fits (states_of language.now) choice.front) }
+{
+    let mut rest = number;
+    for digit in 0..language.alphabet().letters() {
+        let next = front.after(alloc, language, digit)?;
+        let count = next.count(row);
+        if u128::from(rest) < count {
+            return Ok(Choice {
+                digit,
+                front: next,
+                rest,
+            });
+        }
+        rest -= count as u64;
+    }
+    unreachable!()
+}

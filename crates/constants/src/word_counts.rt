@@ -1,0 +1,107 @@
+//! How many words of a length there are at each state of an automaton: those that lead from it to
+//! acceptance where the most significant digit stands first, else those that lead to it.
+
+ghost use Rattle.std.specs.Prelude.{◌≡◌, ℕ, suc, ◌+◌, ◌<◌, length, cond, nat_eq, slice_index_or, IfOk};
+ghost use Rattle.std.specs.List.{All, sum_by};
+ghost use Rattle.digit_tuple.specs.Deterministic.{IsTable, letters_of, states_of};
+ghost use Rattle.digit_tuple.specs.declared.direction.Direction.TheVariants.{Msd, Lsd};
+ghost use Rattle.constants.specs.WordCounts.{capped, words_at, AreCounts};
+
+use digit_tuple::dfa::Dfa;
+use digit_tuple::direction::Direction;
+use digit_tuple::edges::Edge;
+use digit_tuple::faults::OutOfMemory;
+use std::alloc::Global;
+
+/// The counts of the states for words of no digit.
+pub fn first_row(
+    alloc: Global,
+    language: &Dfa,
+    direction: Direction,
+) -> Result<Vec<u128>, OutOfMemory>
+    ensures counts { IfOk result (λ row. AreCounts direction language.now 0 row.items) }
+    ensures table { IsTable (letters_of language.now) language.now.states }
+{
+    let mut row = Vec::new(alloc);
+    for state in 0..language.states() {
+        row.push(empty_words(language, direction, state))?;
+    }
+    Ok(row)
+}
+
+/// The counts of the states for words of one digit more. A count that would pass the greatest number
+/// of 128 bits is that number.
+pub fn next_row(
+    alloc: Global,
+    language: &Dfa,
+    direction: Direction,
+    row: &[u128],
+) -> Result<Vec<u128>, OutOfMemory>
+    requires { length row.now ≡ states_of language.now }
+    ensures { IfOk result (λ next. (n : ℕ) → AreCounts direction language.now n row.now → AreCounts direction language.now (suc n) next.items) }
+{
+    match direction {
+        Direction::Msd => counts_from(alloc, language, row),
+        Direction::Lsd => counts_into(alloc, language, row),
+    }
+}
+
+// How many words of no digit there are at the state.
+fn empty_words(language: &Dfa, direction: Direction, state: u32) -> u128
+    requires { state < states_of language.now }
+    ensures { result ≡ words_at direction language.now 0 state }
+{
+    let counted = match direction {
+        Direction::Msd => language.accepting(state),
+        Direction::Lsd => state == 0,
+    };
+    u128::from(counted)
+}
+
+// The counts for words of one digit more in front, that lead to acceptance.
+fn counts_from(alloc: Global, language: &Dfa, row: &[u128]) -> Result<Vec<u128>, OutOfMemory>
+    requires { length row.now ≡ states_of language.now }
+    ensures { IfOk result (λ next. (n : ℕ) → AreCounts Msd language.now n row.now → AreCounts Msd language.now (suc n) next.items) }
+{
+    let mut next = Vec::new(alloc);
+    for state in 0..language.states() {
+        next.push(sum_along(language.edges(state), row))?;
+    }
+    Ok(next)
+}
+
+// The sum of the counts where the edges lead.
+fn sum_along(edges: &[Edge], row: &[u128]) -> u128
+    requires { All (λ edge. edge.target < length row.now) edges.now }
+    ensures { result ≡ capped (sum_by (λ edge. slice_index_or row.now edge.target 0) edges.now) }
+{
+    let mut sum: u128 = 0;
+    for edge in edges {
+        sum = sum.saturating_add(row[edge.target as usize]);
+    }
+    sum
+}
+
+// The counts for words of one digit more at their end, that lead to a state.
+fn counts_into(alloc: Global, language: &Dfa, row: &[u128]) -> Result<Vec<u128>, OutOfMemory>
+    requires { length row.now ≡ states_of language.now }
+    ensures { IfOk result (λ next. (n : ℕ) → AreCounts Lsd language.now n row.now → AreCounts Lsd language.now (suc n) next.items) }
+{
+    let mut next: Vec<u128> = vec![in alloc; 0; row.len()]?;
+    for state in 0..language.states() {
+        add_along(&mut next, language.edges(state), row[state as usize]);
+    }
+    Ok(next)
+}
+
+// Adds the count where each edge leads.
+fn add_along(next: &mut [u128], edges: &[Edge], count: u128)
+    requires { All (λ edge. edge.target < length next.old) edges.now }
+    ensures { (state before : ℕ) → state < length next.old → slice_index_or next.old state 0 ≡ capped before
+        → slice_index_or next.new state 0 ≡ capped (before + sum_by (λ edge. cond (nat_eq edge.target state) count 0) edges.now) }
+{
+    for edge in edges {
+        let target = edge.target as usize;
+        next[target] = next[target].saturating_add(count);
+    }
+}
