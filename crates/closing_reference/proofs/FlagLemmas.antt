@@ -1,5 +1,5 @@
 -- How many flags are not set.
-use Rattle.std.proofs.Common.{◌≡◌, ℕ, zero, suc, ◌<◌, Bool, true, false, List, [], ◌∷◌, length, set, get_or, true≢false, arith, refl}
+use Rattle.std.proofs.Common.{◌≡◌, ℕ, zero, suc, ◌<◌, Bool, true, false, List, [], ◌∷◌, length, set, get_or, true≢false, arith}
 
 -- how many are not set
 abbrev pub unset : List Bool → ℕ

@@ -1,3 +1,5 @@
 pub mod SpelledLemmas
 pub mod ReadingLemmas
 pub mod FlagLemmas
+pub mod EqualReadings
+pub mod RenamingReadings

@@ -1,11 +1,11 @@
 -- What is spelled where letters are read as their parts, and where they are read as themselves.
-use Rattle.std.proofs.Common.{◌≡◌, ℕ, ◌<◌, List, [], ◌∷◌, map, ◌↔◌, get_or, refl, sym, ap, ◌∙◌, subst, arith}
+use Rattle.std.proofs.Common.{◌≡◌, ℕ, ◌<◌, List, [], ◌∷◌, map, ◌↔◌, get_or, refl, sym, ap, ◌∙◌, arith}
 use Rattle.std.specs.List.{range_with_len}
 use Rattle.std.proofs.lemmas.List.{map-id}
 use Rattle.std.proofs.lemmas.List.FromFn.{get_or-range_with_len}
-use Rattle.digit_tuple.specs.Deterministic.{Automaton, letters_of, accepts_of}
-use Rattle.digit_tuple.specs.Letters.{IsWord}
-use Rattle.digit_tuple.specs.Paddings.{zeros, padded, strip, without_zeros}
+use Rattle.digit_tuple.specs.Deterministic.{Automaton, letters_of}
+use Rattle.digit_tuple.specs.Letters.{product, IsWord}
+use Rattle.digit_tuple.specs.Paddings.{padded, strip, without_zeros}
 use Rattle.digit_tuple.specs.Parts.{letter_part, part, parts_of_letters}
 use Rattle.digit_tuple.specs.declared.direction.Direction.{Direction}
 use Rattle.digit_tuple.specs.declared.direction.Direction.TheVariants.{Msd, Lsd}
@@ -20,16 +20,18 @@ map-same : (f g : ℕ → ℕ) (n : ℕ) (x : List ℕ) → ((a : ℕ) → a < n
 map-same f g n [] same over = refl
 map-same f g n (a ∷ x) same over = λ i. same a over.0 i ∷ map-same f g n x same over.1 i
 
+-- words are read as their parts where letters are
+pub read_parts : (sizes places readings x : List ℕ) → readings ≡ parts_of_letters sizes places → IsWord (product sizes) x → map (reading_of readings) x ≡ part sizes places x
+read_parts sizes places readings x are over =
+    map-same (reading_of readings) (letter_part sizes places) (product sizes) x (λ a less. ap (λ (rs : List ℕ). get_or rs a 0) are ∙ get_or-parts sizes places a 0 less) over
+
 -- letters are read as their parts
 pub IsSpelled-parts : (d : Automaton) (places readings : List ℕ) (direction : Direction) (w : List ℕ) → readings ≡ parts_of_letters d.sizes places
     → IsSpelled d readings direction w ↔ InProjection d places direction w
 IsSpelled-parts d places readings direction w are = (
-  (λ is. (is.0, (is.1.0, is.1.1, sym (same is.1.0 is.1.1) ∙ is.1.2, is.1.3))),
-  (λ there. (there.0, (there.1.0, there.1.1, same there.1.0 there.1.1 ∙ there.1.2, there.1.3))),
+  (λ is. (is.0, (is.1.0, is.1.1, sym (read_parts d.sizes places readings is.1.0 are is.1.1) ∙ is.1.2, is.1.3))),
+  (λ there. (there.0, (there.1.0, there.1.1, read_parts d.sizes places readings there.1.0 are there.1.1 ∙ there.1.2, there.1.3))),
 )
-  where
-    same : (x : List ℕ) → IsWord (letters_of d) x → map (reading_of readings) x ≡ part d.sizes places x
-    same x over = map-same (reading_of readings) (letter_part d.sizes places) (letters_of d) x (λ a less. ap (λ (rs : List ℕ). get_or rs a 0) are ∙ get_or-parts d.sizes places a 0 less) over
 
 -- without the zeros at the end of the most significant letters, and with some zeros more there
 strip-padded : (direction : Direction) (k : ℕ) (w : List ℕ) → strip direction (padded direction k (strip direction w)) ≡ strip direction w

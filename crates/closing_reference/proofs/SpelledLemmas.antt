@@ -1,26 +1,25 @@
 -- Sets of states from which words are spelled.
-use Rattle.std.proofs.Common.{◌≡◌, ◌≢◌, ℕ, zero, suc, ◌<◌, ◌≤◌, ◌-◌, Bool, true, false, List, [], ◌∷◌, ◌++◌, length, map, set, take, drop, get_or, Option, Some, None, ◌⊎◌, inl, inr, refl, sym, ap, ◌∙◌, subst, true≢false, arith, ◌↔◌, ◌+◌}
+use Rattle.std.proofs.Common.{◌≡◌, ◌≢◌, ℕ, zero, suc, ◌<◌, ◌≤◌, ◌-◌, Bool, true, false, List, [], ◌∷◌, ◌++◌, length, set, take, drop, get_or, Option, Some, None, ◌⊎◌, inl, inr, refl, sym, ap, ◌∙◌, subst, true≢false, arith, ◌↔◌, ◌+◌}
 use Rattle.std.specs.Prelude.{IsTrue}
 use Rattle.std.specs.Option.{option_map_or}
 use Rattle.std.proofs.lemmas.Bool.{cases_lt, cases_eq}
 use Rattle.std.proofs.lemmas.List.{append-nil, get_or_append_left, get_or_push, take_all, get_or_past, get_or-set_same, get_or-set_other, length-set}
-use Rattle.digit_tuple.specs.Deterministic.{Automaton, State, no_state, letters_of, states_of, state_of, step_of, target_by, accepts_from, accepting_of}
-use Rattle.digit_tuple.specs.Letters.{IsWord}
+use Rattle.digit_tuple.specs.Deterministic.{Automaton, State, no_state, states_of, state_of, step_of, target_by, accepts_from, accepting_of}
 use Rattle.digit_tuple.specs.Paddings.{zeros}
-use Rattle.closing_reference.specs.Spelled.{reading_of, IsSpelledFrom, AreSpelling, AreAccepting, AreBefore, SomeLeads, IsNewBefore, IsClosed, is_in, leads_into}
+use Rattle.closing_reference.specs.Spelled.{IsSpelledFrom, AreSpelling, AreAccepting, AreBefore, SomeLeads, IsNewBefore, IsClosed, is_in}
 
 -- the head and the rest of a list
-heads : {a b : ℕ} {v w : List ℕ} → a ∷ v ≡ b ∷ w → a ≡ b
+pub heads : {a b : ℕ} {v w : List ℕ} → a ∷ v ≡ b ∷ w → a ≡ b
 heads same = ap (λ (xs : List ℕ). get_or xs 0 0) same
 
 abbrev rest_of : List ℕ → List ℕ
 rest_of [] = []
 rest_of (a ∷ w) = w
 
-rests : {a b : ℕ} {v w : List ℕ} → a ∷ v ≡ b ∷ w → v ≡ w
+pub rests : {a b : ℕ} {v w : List ℕ} → a ∷ v ≡ b ∷ w → v ≡ w
 rests same = ap rest_of same
 
-abbrev has_letters : List ℕ → Bool
+abbrev pub has_letters : List ℕ → Bool
 has_letters [] = false
 has_letters (a ∷ w) = true
 

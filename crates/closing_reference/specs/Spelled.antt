@@ -1,10 +1,10 @@
 -- Words that an automaton accepts, where each letter is read as some number, such as its part on some tracks. Words that are read
 -- alike are not told apart. The reading of each letter stands at its place in a list.
-use Rattle.std.specs.Prelude.{◌≡◌, ℕ, ◌<◌, Bool, true, false, List, ◌∷◌, ◌++◌, length, map, ◌↔◌, slice_index_or, IsTrue}
+use Rattle.std.specs.Prelude.{◌≡◌, ℕ, ◌<◌, Bool, false, List, length, map, ◌↔◌, slice_index_or, IsTrue}
 use Rattle.std.specs.Option.{option_map_or}
 use Rattle.digit_tuple.specs.Deterministic.{Automaton, letters_of, states_of, step_of, accepting_of, accepts_from}
 use Rattle.digit_tuple.specs.Letters.{IsWord}
-use Rattle.digit_tuple.specs.Paddings.{zeros, padded}
+use Rattle.digit_tuple.specs.Paddings.{padded}
 use Rattle.digit_tuple.specs.declared.direction.Direction.{Direction}
 
 -- how the letter is read

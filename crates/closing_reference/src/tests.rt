@@ -7,13 +7,11 @@ ghost use Rattle.minimise.specs.Canonical.{IsCanonical};
 
 use crate::paddings::is_padded;
 use crate::projections::is_in_projection;
-use digit_tuple::alphabet::Alphabet;
+use crate::small_automata::{add_words, automaton, relation};
 use digit_tuple::dfa::Dfa;
-use digit_tuple::dfa_builder::DfaBuilder;
 use digit_tuple::direction::Direction;
-use digit_tuple::faults::OutOfMemory;
 use digit_tuple::name::Name;
-use digit_tuple::names::{are_distinct, find_name, places_in};
+use digit_tuple::names::{find_name, places_in};
 use minimise::canonical::canonical;
 use minimise::tracked::Tracked;
 use project_close::padding::pad;
@@ -21,62 +19,6 @@ use project_close::projection::project;
 use std::alloc::Global;
 use std::process::Abort;
 use std::test::Fail;
-
-// An automaton over so many tracks of two digits. Each letter leads from two of its three states, and
-// where to depends on the twist.
-fn automaton(alloc: Global, tracks: usize, twist: u32) -> Result<Dfa, Fail>
-    requires { twist < 100 }
-{
-    let sizes = vec![in alloc; 2; tracks]?;
-    let alphabet = Alphabet::new(alloc, &sizes)?;
-    let letters = alphabet.letters();
-    let mut builder = DfaBuilder::new(alloc, alphabet)?;
-    builder.add_state(twist % 2 == 0)?;
-    builder.add_state(false)?;
-    builder.add_state(true)?;
-    for letter in 0..letters {
-        builder.set(letter % 3, letter, (letter + twist) % 3)?;
-        builder.set((letter + 1) % 3, letter, (letter / 2 + twist) % 3)?;
-    }
-    Ok(builder.finish()?)
-}
-
-// The same, canonical, with names for the tracks.
-fn relation(alloc: Global, tracks: usize, twist: u32) -> Result<Tracked, Fail>
-    requires { twist < 100 }
-{
-    let d = automaton(alloc, tracks, twist)?;
-    let mut names = Vec::new(alloc);
-    for name in ["x", "y", "z"] {
-        if names.len() < tracks {
-            names.push(Name::new(alloc, name)?)?;
-        }
-    }
-    if names.len() == d.alphabet().sizes().len() && are_distinct(&names) {
-        Ok(Tracked::new(alloc, &d, &names)?)
-    } else {
-        Err(Fail::from("a name for each track"))
-    }
-}
-
-// Adds a word, and all that go on from it by up to so many letters.
-fn add_words(
-    alloc: Global,
-    words: &mut Vec<Vec<u32>>,
-    word: &[u32],
-    letters: u32,
-    more: usize,
-) -> Result<(), OutOfMemory> {
-    words.push(Vec::from_slice(alloc, word)?)?;
-    if more > 0 {
-        for letter in 0..letters {
-            let mut longer = Vec::from_slice(alloc, word)?;
-            longer.push(letter)?;
-            add_words(alloc, words, &longer, letters, more - 1)?;
-        }
-    }
-    Ok(())
-}
 
 // Asserts that the automaton accepts just the words of up to three letters that are in the projection
 // of the other to the tracks at these places.
@@ -136,8 +78,9 @@ fn pads_alike(rt: &impl Abort, alloc: Global, d: &Dfa, direction: Direction) -> 
 #[test]
 fn projections_are_those_of_the_slow_program(rt: HostRuntime) -> Result<(), Fail> {
     for tracks in 1..4 {
+        let sizes = vec![in rt.alloc(); 2; tracks]?;
         for twist in 0..6 {
-            let a = relation(rt.alloc(), tracks, twist)?;
+            let a = relation(rt.alloc(), &sizes, twist)?;
             for track in a.names() {
                 for direction in [Direction::Msd, Direction::Lsd] {
                     projects_alike(&rt, rt.alloc(), &a, track, direction)?;
@@ -151,8 +94,9 @@ fn projections_are_those_of_the_slow_program(rt: HostRuntime) -> Result<(), Fail
 #[test]
 fn paddings_are_those_of_the_slow_program(rt: HostRuntime) -> Result<(), Fail> {
     for tracks in 1..4 {
+        let sizes = vec![in rt.alloc(); 2; tracks]?;
         for twist in 0..6 {
-            let d = canonical(rt.alloc(), &automaton(rt.alloc(), tracks, twist)?)?;
+            let d = canonical(rt.alloc(), &automaton(rt.alloc(), &sizes, twist)?)?;
             for direction in [Direction::Msd, Direction::Lsd] {
                 pads_alike(&rt, rt.alloc(), &d, direction)?;
             }

@@ -1,6 +1,6 @@
-use Rattle.std.proofs.Common.{◌≡◌, List, Bool, get_or, refl, subst}
+use Rattle.std.proofs.Common.{List, Bool, get_or, refl, subst}
 use Rattle.std.proofs.lemmas.Result.{IfOk-weaker}
-use Rattle.closing_reference.specs.Spelled.{AreBefore, AreSpelling}
+use Rattle.closing_reference.specs.Spelled.{AreBefore}
 use Rattle.closing_reference.proofs.SpelledLemmas.{AreSpelling-none, AreSpelling-first}
 use Rattle.closing_reference.proofs.state_sets.+before_word.Goals as goal
 

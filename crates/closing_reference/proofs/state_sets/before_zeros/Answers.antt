@@ -1,7 +1,7 @@
-use Rattle.std.proofs.Common.{◌<◌, List, Bool, length, sym, subst, arith}
+use Rattle.std.proofs.Common.{◌<◌, List, Bool, sym, subst, arith}
 use Rattle.closing_reference.specs.Spelled.{IsClosed, IsNewBefore}
 use Rattle.closing_reference.proofs.FlagLemmas.{unset-set}
-use Rattle.closing_reference.proofs.SpelledLemmas.{IsZeroSearch, IsZeroSearch-begin, IsZeroSearch-more, AreSpelling-zeros}
+use Rattle.closing_reference.proofs.SpelledLemmas.{IsZeroSearch-begin, IsZeroSearch-more, AreSpelling-zeros}
 use Rattle.closing_reference.proofs.state_sets.before_zeros.Goals as goal
 
 pub loop-state-init : goal.loop-state-init

@@ -1,4 +1,4 @@
-use Rattle.std.proofs.Common.{◌≡◌, ◌∙◌, ℕ, ◌+◌, [], ◌∷◌, length, ap, arith}
+use Rattle.std.proofs.Common.{◌∙◌, ℕ, ◌+◌, [], ◌∷◌, length, ap}
 use Rattle.std.proofs.lemmas.List.{length-append}
 use Rattle.closing_reference.specs.Spelled.{SomeLeads}
 use Rattle.closing_reference.proofs.SpelledLemmas.{flags_push}

@@ -1,6 +1,6 @@
 use Rattle.std.proofs.Common.{◌≡◌}
 use Rattle.digit_tuple.specs.Deterministic.{states_of, letters_of}
-use Rattle.closing_reference.proofs.tests.automaton.Given as goal
+use Rattle.closing_reference.proofs.small_automata.automaton.Given as goal
 
 abbrev pub invariant-loop-letter : goal.invariant-loop-letter
 invariant-loop-letter l = record {
