@@ -15,6 +15,7 @@ pub mod Shortlex
 pub mod FirstWords
 pub mod Kinds
 pub mod Steps
+pub mod StepResults
 pub mod Keys
 pub mod KeySteps
 pub mod Explored

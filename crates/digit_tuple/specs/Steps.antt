@@ -7,6 +7,6 @@ pub record StepLog : Type 0 where
   pub limit : ℕ
   pub lines : List StepLine
 
--- the steps with one more behind them
+-- the steps with one more after them
 abbrev pub with_line : StepLog → StepLine → StepLog
 with_line log line = record { limit = log.limit; lines = log.lines ++ line ∷ [] }

@@ -61,6 +61,9 @@ pub mod kind;
 /// The steps that were done under a limit.
 pub mod steps;
 
+/// Why a step gives no automaton.
+pub mod step_fault;
+
 /// Laws of the definitions.
 pub mod laws;
 #[cfg(test)]

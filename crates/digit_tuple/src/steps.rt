@@ -1,6 +1,6 @@
 //! The steps that were done under a limit.
 
-ghost use Rattle.std.specs.Prelude.{◌≡◌, ◌<◌, ◌++◌, ◌∷◌, [], length, Some, OnOk, OnErr, slice_get};
+ghost use Rattle.std.specs.Prelude.{◌≡◌, ◌+◌, ◌<◌, ◌++◌, ◌∷◌, [], length, Some, OnOk, OnErr, slice_get};
 ghost use Rattle.digit_tuple.specs.Steps.{StepLog, with_line};
 
 use crate::faults::OutOfMemory;
@@ -56,7 +56,14 @@ impl Steps {
         self.done_lines.len() as u64
     }
 
-    /// Adds a step behind the others. Out of memory leaves them as they were.
+    /// The number of the next step. Steps are numbered from 1.
+    pub fn next_number(&self) -> u64
+        ensures { result ≡ length self.now.lines + 1 }
+    {
+        self.done_lines.len() as u64 + 1
+    }
+
+    /// Adds a step after the others. Out of memory leaves them as they were.
     pub fn done(&mut self, kind: Kind, width: u32, size: u32) -> Result<(), OutOfMemory>
         ensures ok { OnOk result (self.new ≡ with_line self.old (record { kind = kind; width = width; size = size })) }
         ensures err { OnErr result (self.new ≡ self.old) }
