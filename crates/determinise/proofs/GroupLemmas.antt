@@ -9,7 +9,7 @@ use Rattle.std.proofs.lemmas.List.Elements.{filter-append, All-push, Contains-ap
 use Rattle.std.proofs.lemmas.List.{get_or_default}
 use Rattle.std.proofs.lemmas.Bool.{cases_lt}
 use Rattle.digit_tuple.specs.Automaton.{IsBefore}
-use Rattle.determinise.proofs.MemberLemmas.{Contains-head}
+use Rattle.digit_tuple.proofs.MemberLemmas.{Contains-head}
 use Rattle.std.proofs.lemmas.List.Quantifiers.{all_pairs_push}
 use Rattle.digit_tuple.specs.declared.edges.Edge.{Edge}
 use Rattle.digit_tuple.specs.Keys.{Step, key_by, IsByEarlier}

@@ -19,9 +19,11 @@ use Rattle.digit_tuple.specs.Keys.{key_run, key_accepts, LeadAlike}
 use Rattle.digit_tuple.proofs.KeyLemmas.{key_accepts-run}
 use Rattle.std.proofs.lemmas.Bool.{cases_lt}
 use Rattle.digit_tuple.specs.Width.{HasApart, HasWidth}
-use Rattle.determinise.specs.Reversed.{IsReversal, AreAccepting, SameReversedResidual, bare_automaton}
+use Rattle.digit_tuple.specs.Reversed.{IsReversal}
+use Rattle.digit_tuple.specs.AcceptingStates.{AreAccepting}
+use Rattle.determinise.specs.Reversed.{SameReversedResidual, bare_automaton}
 use Rattle.determinise.specs.Subsets.{set_after, has_accepting, IsStateSet}
-use Rattle.determinise.proofs.MemberLemmas.{Contains-none, list_any-contains, contains_from_list_any}
+use Rattle.digit_tuple.proofs.MemberLemmas.{Contains-none, list_any-contains, contains_from_list_any}
 use Rattle.determinise.proofs.SubsetLemmas.{set_of, key_run-members, key_run-set, same_set}
 
 pub same_bool : (a b : Bool) → (a ≡ true → b ≡ true) → (b ≡ true → a ≡ true) → a ≡ b
@@ -158,37 +160,6 @@ accepts_of-none t table accepting w = accepts_from-run t 0 w ∙ by (run_of t 0 
     by : (o : Option ℕ) → ((r : ℕ) → o ≡ Some r → r < states_of t) → o ≡ o → option_map_or (accepting_of t) o false ≡ false
     by None within same = refl
     by (Some r) within same = none r (within r refl) (accepting_of t r) refl
-
--- the accepting states below a number, in order
-pub record AreAcceptingTo (t : Automaton) (set : List ℕ) (count : ℕ) : Type 0 where
-  pub ascending : AllPairs (λ p q. p < q) set
-  pub members : (q : ℕ) → Contains set q ↔ ((q < count) × (accepting_of t q ≡ true))
-
--- one more that accepts
-pub AreAcceptingTo-take : (t : Automaton) (set : List ℕ) (state : ℕ) → AreAcceptingTo t set state → accepting_of t state ≡ true → AreAcceptingTo t (set ++ state ∷ []) (state + 1)
-AreAcceptingTo-take t set state to accepts = record {
-  ascending = all_pairs_push (λ p q. p < q) set state to.ascending (λ k d within. ((to.members (get_or set k d)).0 (All-contains_itself set k d within)).0);
-  members = λ q. ((λ there. forth q (Contains-push_cases set state q there)), (λ both. back q (cases_lt q state) both.0 both.1));
-}
-  where
-    forth : (q : ℕ) → Contains set q ⊎ (state ≡ q) → (q < state + 1) × (accepting_of t q ≡ true)
-    forth q (inl before) = let both = (to.members q).0 before in (omega (arith, both.0), both.1)
-    forth q (inr is) = (omega arith, subst (λ n. accepting_of t n ≡ true) is accepts)
-
-    back : (q : ℕ) → (q < state) ⊎ (state ≤ q) → q < state + 1 → accepting_of t q ≡ true → Contains (set ++ state ∷ []) q
-    back q (inl less) within taken = Contains-append_left set (state ∷ []) q ((to.members q).1 (less, taken))
-    back q (inr more) within taken = let is : state ≡ q = omega arith in subst (Contains (set ++ state ∷ [])) is (Contains-push set state)
-
--- one more that does not
-pub AreAcceptingTo-skip : (t : Automaton) (set : List ℕ) (state : ℕ) → AreAcceptingTo t set state → accepting_of t state ≡ false → AreAcceptingTo t set (state + 1)
-AreAcceptingTo-skip t set state to refuses = record {
-  ascending = to.ascending;
-  members = λ q. ((λ there. let both = (to.members q).0 there in (omega (arith, both.0), both.1)), (λ both. back q (cases_lt q state) both.0 both.1));
-}
-  where
-    back : (q : ℕ) → (q < state) ⊎ (state ≤ q) → q < state + 1 → accepting_of t q ≡ true → Contains set q
-    back q (inl less) within taken = (to.members q).1 (less, taken)
-    back q (inr more) within taken = let is : q ≡ state = omega arith in absurd (true≢false (sym taken ∙ ap (accepting_of t) is ∙ refuses))
 
 -- accepting states are a set of the turned automaton's
 pub IsStateSet-accepting : (t : Automaton) (n : Branching) → IsReversal t n → (first : List ℕ) → AreAccepting t first → 0 < length first → IsStateSet n first

@@ -17,7 +17,7 @@ use Rattle.digit_tuple.proofs.KeyLemmas.{key_accepts-run, key_run-keeps}
 use Rattle.determinise.specs.Groups.{targets_by, AreGroups}
 use Rattle.determinise.specs.Subsets.{leads_to, targets_of, some_set, set_after, has_accepting, IsStateSet, Alike}
 use Rattle.determinise.specs.SubsetLaws.{AllPairs-range, start_is_state_set, after_is_state_set}
-use Rattle.determinise.proofs.MemberLemmas.{Contains-head, Contains-cases, Contains-none, Contains-filter, Contains-from_filter, Contains-map, Contains-from_map, list_any-contains, contains_from_list_any, same_ascending}
+use Rattle.digit_tuple.proofs.MemberLemmas.{Contains-head, Contains-cases, Contains-none, Contains-filter, Contains-from_filter, Contains-map, Contains-from_map, list_any-contains, contains_from_list_any, same_ascending}
 
 both_true : (x y : Bool) → (x && y) ≡ true → (x ≡ true) × (y ≡ true)
 both_true true y is = (refl, is)

@@ -1,56 +1,11 @@
--- Automata with their edges turned.
-use Rattle.std.specs.Prelude.{◌≡◌, ℕ, ◌<◌, true, false, List, [], ◌∷◌, ◌++◌, length, Some, ◌↔◌, ◌⊎◌, reverse, slice_index_or}
-use Rattle.std.specs.List.{AllPairs, Contains}
-use Rattle.digit_tuple.specs.Automaton as branching
-use Rattle.digit_tuple.specs.Automaton.{Branching, Branch, no_branch, Leads}
-use Rattle.digit_tuple.specs.declared.edges.Edge.{Edge}
-use Rattle.digit_tuple.specs.Deterministic.{Automaton, states_of, letters_of, step_of, accepting_of, accepts_of}
+-- Residuals of reversed languages.
+use Rattle.std.specs.Prelude.{◌≡◌, ℕ, false, List, [], ◌∷◌, ◌++◌, reverse}
+use Rattle.digit_tuple.specs.Deterministic.{Automaton, letters_of, accepts_of}
 use Rattle.digit_tuple.specs.Letters.{IsWord}
 
 -- the reversed language goes on alike after the two words
 abbrev pub SameReversedResidual : Automaton → List ℕ → List ℕ → Type 0
 SameReversedResidual d w v = (u : List ℕ) → IsWord (letters_of d) u → accepts_of d (reverse (w ++ u)) ≡ accepts_of d (reverse (v ++ u))
-
--- the edges of the one are those of the other, turned; only the initial state accepts
-pub record IsReversal (d : Automaton) (n : Branching) : Type 0 where
-  pub sizes : n.sizes ≡ d.sizes
-  pub states : branching.states_of n ≡ states_of d
-  pub leads : (q letter p : ℕ) → Leads n q letter p ↔ ((p < states_of d) × (step_of d p letter ≡ Some q))
-  pub accepting : (q : ℕ) → (branching.accepting_of n q ≡ true) ↔ (q ≡ 0)
-
--- the set has the accepting states, in order
-pub record AreAccepting (d : Automaton) (set : List ℕ) : Type 0 where
-  pub ascending : AllPairs (λ p q. p < q) set
-  pub members : (q : ℕ) → Contains set q ↔ ((q < states_of d) × (accepting_of d q ≡ true))
-
--- the state at a place of a table
-abbrev pub branch_at : List Branch → ℕ → Branch
-branch_at rows place = slice_index_or rows place no_branch
-
--- so many states without edges, of which the first accepts
-pub record AreBare (rows : List Branch) (count : ℕ) : Type 0 where
-  pub count_is : length rows ≡ count
-  pub edges : (q : ℕ) → (branch_at rows q).edges ≡ []
-  pub accepting : (q : ℕ) → ((branch_at rows q).accepting ≡ true) ↔ ((q ≡ 0) × (q < count))
-
--- the state with one more edge
-abbrev pub with_edge : Branch → Edge → Branch
-with_edge branch edge = record { accepting = branch.accepting; edges = branch.edges ++ edge ∷ [] }
-
--- the edge by the letter to the target
-abbrev pub edge_to : ℕ → ℕ → Edge
-edge_to letter target = record { letter = letter; target = target }
-
--- the rows have got the edges of the state, turned
-pub record AreFed (old new : List Branch) (edges : List Edge) (state : ℕ) : Type 0 where
-  pub count : length new ≡ length old
-  pub accepting : (q : ℕ) → (branch_at new q).accepting ≡ (branch_at old q).accepting
-  pub edges_are : (q : ℕ) (edge : Edge) → Contains (branch_at new q).edges edge ↔ (Contains (branch_at old q).edges edge ⊎ ((edge.target ≡ state) × Contains edges (edge_to edge.letter q)))
-
--- the states have the same edges, and both accept or neither does
-pub record SameBranch (b c : Branch) : Type 0 where
-  pub accepting : c.accepting ≡ b.accepting
-  pub edges : (edge : Edge) → Contains c.edges edge ↔ Contains b.edges edge
 
 -- the automaton of one state that accepts nothing
 abbrev pub bare_automaton : List ℕ → Automaton

@@ -12,9 +12,6 @@ pub mod subset_construction;
 /// Automata without the states that no word leads to.
 pub mod trimmed;
 
-/// Automata with their edges turned.
-pub mod reversed;
-
 /// The reversal of a deterministic automaton.
 pub mod reversal;
 #[cfg(test)]

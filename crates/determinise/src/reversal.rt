@@ -6,16 +6,18 @@ ghost use Rattle.digit_tuple.specs.Deterministic.{IsTable, accepts_of, states_of
 ghost use Rattle.digit_tuple.specs.FirstWords.{IsNumberedByFirsts};
 ghost use Rattle.digit_tuple.specs.Letters.{product, IsWord};
 ghost use Rattle.digit_tuple.specs.Width.{HasApart, HasWidth};
-ghost use Rattle.determinise.specs.Reversed.{AreAccepting, SameReversedResidual, bare_automaton};
+ghost use Rattle.digit_tuple.specs.AcceptingStates.{AreAccepting};
+ghost use Rattle.determinise.specs.Reversed.{SameReversedResidual, bare_automaton};
 
-use crate::reversed::reversed;
 use crate::subsets::Subsets;
 use crate::trimmed::trimmed;
+use digit_tuple::accepting_states::accepting_states;
 use digit_tuple::alphabet::Alphabet;
 use digit_tuple::dfa::Dfa;
 use digit_tuple::dfa_builder::DfaBuilder;
 use digit_tuple::exploration::explore;
-use digit_tuple::faults::{OpFault, OutOfMemory};
+use digit_tuple::faults::OpFault;
+use digit_tuple::reversed::reversed;
 use digit_tuple::stepped::Stepped;
 use std::alloc::Global;
 
@@ -46,19 +48,6 @@ pub fn reverse(alloc: Global, d: &Dfa, limit: u32) -> Result<Stepped<Dfa>, OpFau
         first: &first,
     };
     explore(alloc, &subsets, alphabet, limit)
-}
-
-// The states that accept, in order.
-fn accepting_states(alloc: Global, d: &Dfa) -> Result<Vec<u32>, OutOfMemory>
-    ensures { IfOk result (λ set. AreAccepting d.now set.items) }
-{
-    let mut set = Vec::new(alloc);
-    for state in 0..d.states() {
-        if d.accepting(state) {
-            set.push(state)?;
-        }
-    }
-    Ok(set)
 }
 
 // The automaton that accepts nothing.

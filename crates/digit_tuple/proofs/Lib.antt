@@ -8,6 +8,7 @@ pub mod NameLemmas
 pub mod JointNames
 pub mod RangeLemmas
 pub mod SystemLemmas
+pub mod MemberLemmas
 pub mod TableLemmas
 pub mod PathLemmas
 pub mod DfaLemmas
@@ -20,6 +21,10 @@ pub mod BuilderLemmas
 pub mod NumberingLemmas
 pub mod KeyStepLemmas
 pub mod KeyLemmas
+pub mod EdgeLemmas
+pub mod StateLemmas
+pub mod ReversedLemmas
+pub mod AcceptingStateLemmas
 pub mod RowLemmas
 pub mod FrontierLemmas
 pub mod ExploredLemmas

@@ -10,6 +10,8 @@ pub mod Automaton
 pub mod Rows
 pub mod Deterministic
 pub mod DfaRows
+pub mod Reversed
+pub mod AcceptingStates
 pub mod Width
 pub mod Shortlex
 pub mod FirstWords

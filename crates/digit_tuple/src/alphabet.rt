@@ -56,6 +56,17 @@ impl Alphabet {
         })
     }
 
+    /// The letters of tracks of these sizes, of which there are not too many.
+    pub fn fitting(alloc: Global, sizes: &[u32]) -> Result<Self, OutOfMemory>
+        requires { IsAlphabet sizes.now }
+        ensures { IfOk result (λ alphabet. alphabet ≡ sizes.now) }
+    {
+        Ok(Alphabet {
+            digit_counts: Vec::from_slice(alloc, sizes)?,
+            letter_count: capped_product(sizes),
+        })
+    }
+
     /// The letters of a header's tracks. `Letters` comes exactly where there are more than 16
     /// tracks or more than 65,536 letters, and `States` never.
     pub fn of_header(alloc: Global, header: &Header) -> Result<Self, OpFault>

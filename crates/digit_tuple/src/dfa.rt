@@ -1,8 +1,8 @@
 //! Deterministic automata.
 
-ghost use Rattle.std.specs.Prelude.{◌≡◌, ℕ, ◌<◌, ◌≤◌, length, IfOk, IfSome};
+ghost use Rattle.std.specs.Prelude.{◌≡◌, ℕ, ◌<◌, ◌≤◌, ◌↔◌, [], length, IfOk, IfSome, IsTrue, OnOk};
 ghost use Rattle.std.specs.List.{AllPairs, AllWithin};
-ghost use Rattle.digit_tuple.specs.Deterministic.{Automaton, State, IsTable, IsRow, IsByEarlier, target_by, step_of, accepting_of, accepts_of, edges_of, states_of, letters_of};
+ghost use Rattle.digit_tuple.specs.Deterministic.{Automaton, State, IsTable, IsRow, IsByEarlier, target_by, step_of, accepting_of, accepts_of, edges_of, state_of, states_of, letters_of};
 ghost use Rattle.digit_tuple.specs.Letters.{product};
 ghost use Rattle.digit_tuple.specs.DfaRows.{states_in};
 
@@ -91,6 +91,36 @@ impl Dfa {
         &self.rows[state as usize].edges
     }
 
+    /// Writes the edges of a state, by letter, in place of what the row held.
+    pub fn edges_into(&self, state: u32, row: &mut Vec<Edge>) -> Result<(), OutOfMemory>
+        requires { state < states_of self.now }
+        ensures edges { OnOk result (row.new.items ≡ edges_of self.now state) }
+        ensures row { OnOk result (IsRow (letters_of self.now) (states_of self.now) row.new.items) }
+        ensures table { IsTable (letters_of self.now) self.now.states }
+    {
+        let edges = self.edges(state);
+        row.clear();
+        row.extend_from_slice(edges)?;
+        Ok(())
+    }
+
+    /// Whether no letter leads on from a state.
+    pub fn is_bare(&self, state: u32) -> bool
+        requires { state < states_of self.now }
+        ensures { IsTrue result ↔ (edges_of self.now state ≡ []) }
+    {
+        self.edges(state).is_empty()
+    }
+
+    /// Whether the state is the same in both automata.
+    pub fn is_same_state(&self, other: &Dfa, state: u32) -> bool
+        requires first { state < states_of self.now }
+        requires second { state < states_of other.now }
+        ensures { IsTrue result ↔ (state_of self.now state ≡ state_of other.now state) }
+    {
+        self.accepting(state) == other.accepting(state) && self.edges(state) == other.edges(state)
+    }
+
     /// Where a letter leads from a state, unless it leads nowhere.
     pub fn step(&self, state: u32, letter: u32) -> Option<u32>
         requires { state < states_of self.now }
@@ -114,6 +144,28 @@ impl Dfa {
         }
         self.accepting(state)
     }
+
+    /// The same automaton, in memory of its own.
+    pub fn copy(&self, alloc: Global) -> Result<Self, OutOfMemory>
+        ensures { IfOk result (λ dfa. dfa ≡ self.now) }
+    {
+        let rows = copied_states(alloc, &self.rows)?;
+        Dfa::from_states(alloc, self.tracks.copy(alloc)?, rows)
+    }
+}
+
+// The same states, in memory of their own.
+fn copied_states(alloc: Global, states: &[DfaState]) -> Result<Vec<DfaState>, OutOfMemory>
+    ensures { IfOk result (λ rows. states_in rows.items ≡ states_in states.now) }
+{
+    let mut rows = Vec::with_capacity(alloc, states.len())?;
+    for state in states {
+        rows.push(DfaState {
+            accepting: state.accepting,
+            edges: Vec::from_slice(alloc, &state.edges)?,
+        })?;
+    }
+    Ok(rows)
 }
 
 // Where the edge by the letter leads.

@@ -43,6 +43,12 @@ pub mod dfa;
 /// Deterministic automata built state by state.
 pub mod dfa_builder;
 
+/// The accepting states of an automaton.
+pub mod accepting_states;
+
+/// Automata with their edges turned.
+pub mod reversed;
+
 /// Results of one step of a construction.
 pub mod stepped;
 

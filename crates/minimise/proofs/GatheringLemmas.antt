@@ -8,10 +8,10 @@ use Rattle.digit_tuple.specs.Keys.{Step}
 use Rattle.digit_tuple.specs.KeySteps.{step_in, steps_in}
 use Rattle.digit_tuple.specs.declared.source.KeyStep.{KeyStep}
 use Rattle.digit_tuple.proofs.FrontierLemmas.{key_by-at}
-use Rattle.determinise.specs.Reversed.{edge_to}
+use Rattle.digit_tuple.specs.Reversed.{edge_to}
 use Rattle.determinise.specs.Subsets.{some_set}
 use Rattle.determinise.specs.Groups.{targets_by, AreGroups}
-use Rattle.determinise.proofs.MemberLemmas.{Contains-filter, Contains-from_filter, Contains-map, Contains-from_map}
+use Rattle.digit_tuple.proofs.MemberLemmas.{Contains-filter, Contains-from_filter, Contains-map, Contains-from_map}
 use Rattle.minimise.specs.Gathering.{IsGathered}
 
 pub edge_to-is : (e : Edge) (letter target : ℕ) → e.letter ≡ letter → e.target ≡ target → e ≡ edge_to letter target

@@ -11,8 +11,8 @@ use Rattle.digit_tuple.specs.Automaton as branching
 use Rattle.digit_tuple.specs.Automaton.{Branching, Leads}
 use Rattle.digit_tuple.specs.Deterministic.{Automaton, IsTable, letters_of, states_of, accepting_of, edges_of, step_of, target_by}
 use Rattle.digit_tuple.specs.declared.source.KeyStep.{KeyStep}
-use Rattle.determinise.specs.Reversed.{IsReversal, edge_to}
-use Rattle.determinise.proofs.MemberLemmas.{Contains-none, Contains-head, Contains-tail, Contains-cases, Contains-filter, Contains-from_filter, Contains-map, Contains-from_map, Contains-flat_map, Contains-from_flat_map}
+use Rattle.digit_tuple.specs.Reversed.{IsReversal, edge_to}
+use Rattle.digit_tuple.proofs.MemberLemmas.{Contains-none, Contains-head, Contains-tail, Contains-cases, Contains-filter, Contains-from_filter, Contains-map, Contains-from_map, Contains-flat_map, Contains-from_flat_map}
 use Rattle.minimise.specs.Classes.{class_of, next_of}
 use Rattle.minimise.specs.Gathering.{IsGathered, edges_by_class}
 use Rattle.minimise.specs.Partition.{IsCoarse, IsUnion, AreAcceptingStates, states_with, IsGiven, IsOneOf, AreParted, list_at, lists_in}

@@ -2,7 +2,7 @@
 use Rattle.std.specs.Prelude.{ℕ, List, map, ◌↔◌}
 use Rattle.std.specs.List.{Contains}
 use Rattle.digit_tuple.specs.declared.edges.Edge.{Edge}
-use Rattle.determinise.specs.Reversed.{edge_to}
+use Rattle.digit_tuple.specs.Reversed.{edge_to}
 use Rattle.minimise.specs.Classes.{class_of}
 
 -- there is an edge by the letter, and the set has the targets of the edges by it

@@ -14,14 +14,14 @@
 ghost use Rattle.std.specs.Prelude.{◌≡◌, ◌+◌, ◌<◌, ◌≤◌, length, IfOk, OnOk};
 ghost use Rattle.std.specs.List.{All};
 ghost use Rattle.digit_tuple.specs.Deterministic.{IsTable, letters_of, states_of};
-ghost use Rattle.determinise.specs.Reversed.{IsReversal};
+ghost use Rattle.digit_tuple.specs.Reversed.{IsReversal};
 ghost use Rattle.minimise.specs.Partition.{IsCoarse, IsUnion, IsGiven, IsOneOf, IsPartition, AreAcceptingStates, states_with};
 
 use crate::gathering::{states_by_class, targets_by_letter};
-use determinise::reversed::reversed;
 use digit_tuple::dfa::Dfa;
 use digit_tuple::faults::OutOfMemory;
 use digit_tuple::nfa::Nfa;
+use digit_tuple::reversed::reversed;
 use std::alloc::Global;
 
 /// The class of each state, and last that of the sink, where missing edges lead. States from which

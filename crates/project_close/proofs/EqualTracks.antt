@@ -6,7 +6,7 @@ use Rattle.std.proofs.lemmas.Slice.Eq.{bytes_eq-Decides}
 use Rattle.std.proofs.lemmas.List.{ext_get_or, get_or-map, length-map}
 use Rattle.std.proofs.lemmas.List.Elements.{All-cons, All-nil, Contains-get_or, length_all_zip}
 use Rattle.std.proofs.lemmas.List.FromFn.{get_or-range_with_len, length-range_with_len}
-use Rattle.determinise.proofs.MemberLemmas.{Contains-from_filter}
+use Rattle.digit_tuple.proofs.MemberLemmas.{Contains-from_filter}
 use Rattle.digit_tuple.specs.Deterministic.{Automaton, accepts_of}
 use Rattle.digit_tuple.specs.Letters.{product, code_of, IsWord}
 use Rattle.digit_tuple.specs.Names.{AreDistinct, place_of, places_of, names_without}

@@ -4,7 +4,7 @@ use Rattle.std.specs.List.{All, AllPairs, Contains}
 use Rattle.std.proofs.lemmas.Bool.{cases_lt}
 use Rattle.std.proofs.lemmas.Nat.{mul-le}
 use Rattle.std.proofs.lemmas.List.Elements.{All-contains, All-head, All-tail, Contains-get_or}
-use Rattle.determinise.proofs.MemberLemmas.{Contains-head, Contains-tail, Contains-cases, Contains-map, Contains-from_map, AllPairs-head, AllPairs-tail}
+use Rattle.digit_tuple.proofs.MemberLemmas.{Contains-head, Contains-tail, Contains-cases, Contains-map, Contains-from_map, AllPairs-head, AllPairs-tail}
 use Rattle.digit_tuple.specs.Letters.{product}
 use Rattle.digit_tuple.proofs.LetterLemmas.{positive_right}
 

@@ -19,9 +19,9 @@ use Rattle.digit_tuple.proofs.DfaLemmas.{row_at}
 use Rattle.digit_tuple.proofs.PartLemmas.{get_or-parts, letter_part-below}
 use Rattle.digit_tuple.proofs.RangeLemmas.{All-range}
 use Rattle.digit_tuple.proofs.TableLemmas.{from_state}
-use Rattle.determinise.specs.Reversed.{IsReversal, branch_at, edge_to}
-use Rattle.determinise.proofs.MemberLemmas.{Contains-map, Contains-from_map}
-use Rattle.determinise.proofs.ReversedLemmas.{contains_from_target_by, target_by-contains}
+use Rattle.digit_tuple.specs.Reversed.{IsReversal, branch_at, edge_to}
+use Rattle.digit_tuple.proofs.MemberLemmas.{Contains-map, Contains-from_map}
+use Rattle.digit_tuple.proofs.ReversedLemmas.{contains_from_target_by, target_by-contains}
 use Rattle.minimise.proofs.SinkLemmas.{no_edges_past, not_accepting_past}
 use Rattle.project_close.specs.Image.{AreRelabelled, IsEnd, IsImage, part_at, relabelled_edge}
 use Rattle.project_close.specs.ZeroClosure.{AreFlagged, IsOverFlagged, IsReached, flag_at}

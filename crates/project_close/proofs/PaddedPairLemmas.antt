@@ -10,8 +10,8 @@ use Rattle.digit_tuple.specs.Letters.{IsWord}
 use Rattle.digit_tuple.specs.Paddings.{zeros, strip}
 use Rattle.digit_tuple.specs.declared.direction.Direction.TheVariants.{Lsd}
 use Rattle.digit_tuple.proofs.KeyLemmas.{key_accepts-run}
-use Rattle.determinise.specs.Reversed.{IsReversal}
-use Rattle.determinise.proofs.MemberLemmas.{Contains-filter, Contains-from_filter}
+use Rattle.digit_tuple.specs.Reversed.{IsReversal}
+use Rattle.digit_tuple.proofs.MemberLemmas.{Contains-filter, Contains-from_filter}
 use Rattle.determinise.proofs.ReversalLemmas as reversal
 use Rattle.minimise.specs.Canonical.{IsCanonical}
 use Rattle.minimise.specs.Classes.{next_of, first_of}

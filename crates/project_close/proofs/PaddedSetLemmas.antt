@@ -17,7 +17,7 @@ use Rattle.digit_tuple.proofs.KeyLemmas.{key_accepts-run, key_run-keeps}
 use Rattle.digit_tuple.proofs.WordLemmas.{IsWord-append}
 use Rattle.determinise.specs.Subsets.{IsStateSet, set_after, some_set, targets_of, has_accepting}
 use Rattle.determinise.specs.SubsetLaws.{after_is_state_set}
-use Rattle.determinise.proofs.MemberLemmas.{Contains-none, list_any-contains, contains_from_list_any}
+use Rattle.digit_tuple.proofs.MemberLemmas.{Contains-none, list_any-contains, contains_from_list_any}
 use Rattle.determinise.proofs.SubsetLemmas.{set_of, key_run-members, same_set}
 use Rattle.minimise.specs.Canonical.{IsCanonical}
 use Rattle.minimise.specs.Classes.{first_of}

@@ -27,7 +27,7 @@ use Rattle.digit_tuple.proofs.WidthLemmas.{HasApart-same, HasWidth-same}
 use Rattle.digit_tuple.proofs.WordLemmas.{IsWord-append, IsWord-front, IsWord-back, accepts_from-append, run_of-append}
 use Rattle.determinise.specs.Subsets.{IsStateSet, has_accepting, set_after}
 use Rattle.determinise.specs.SubsetLaws.{start_is_state_set}
-use Rattle.determinise.proofs.MemberLemmas.{Contains-cases, Contains-head, Contains-none, contains_from_list_any, list_any-contains}
+use Rattle.digit_tuple.proofs.MemberLemmas.{Contains-cases, Contains-head, Contains-none, contains_from_list_any, list_any-contains}
 use Rattle.determinise.proofs.ReversalLemmas.{accepts_from-run}
 use Rattle.determinise.proofs.SubsetLemmas.{key_run-members, key_run-set, same_set, set_of}
 use Rattle.minimise.specs.Canonical.{IsCanonical}

@@ -12,8 +12,8 @@ use Rattle.digit_tuple.specs.Automaton.{Branch, Branching, IsBefore, IsBranchTab
 use Rattle.digit_tuple.specs.Deterministic.{Automaton, IsTable, no_state, state_of, letters_of, states_of, accepting_of, edges_of, step_of, target_by, run_of, accepts_from, accepts_of}
 use Rattle.digit_tuple.specs.Letters.{IsWord}
 use Rattle.digit_tuple.proofs.DfaLemmas.{row_at}
-use Rattle.determinise.specs.Reversed.{edge_to}
-use Rattle.determinise.proofs.ReversedLemmas.{target_by-contains, contains_from_target_by}
+use Rattle.digit_tuple.specs.Reversed.{edge_to}
+use Rattle.digit_tuple.proofs.ReversedLemmas.{target_by-contains, contains_from_target_by}
 use Rattle.minimise.specs.Classes.{next_of, first_of}
 use Rattle.minimise.proofs.LeadLemmas.{lead, accepting_of-lead, accepts_of-first}
 use Rattle.minimise.proofs.SinkLemmas.{no_edges_past, not_accepting_past, row_of, next_within}

@@ -12,7 +12,7 @@ use Rattle.digit_tuple.specs.Automaton.{Branching, IsBranchTable, Leads, Path, e
 use Rattle.digit_tuple.specs.Paddings.{zeros}
 use Rattle.digit_tuple.specs.declared.edges.Edge.{Edge}
 use Rattle.digit_tuple.proofs.PathLemmas.{Path-push, Path-in_range}
-use Rattle.determinise.proofs.MemberLemmas.{Contains-head, Contains-cases, Contains-none}
+use Rattle.digit_tuple.proofs.MemberLemmas.{Contains-head, Contains-cases, Contains-none}
 use Rattle.project_close.specs.ZeroClosure.{AreAfterZeros, AreFlagged, AreFound, AreFoundToo, IsOverFlagged, IsReached, IsTargetOf, flag_at}
 
 -- more are found, and more again

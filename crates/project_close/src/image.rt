@@ -11,7 +11,6 @@ ghost use Rattle.project_close.specs.Image.{AreFirst, AreRelabelled, IsEnd, IsIm
 ghost use Rattle.project_close.specs.ZeroClosure.{flag_at};
 
 use crate::zero_closure::{flagged, reached, zero_closure};
-use determinise::reversed::reversed;
 use digit_tuple::alphabet::Alphabet;
 use digit_tuple::dfa::Dfa;
 use digit_tuple::direction::Direction;
@@ -19,6 +18,7 @@ use digit_tuple::edges::{Edge, NfaState};
 use digit_tuple::faults::OutOfMemory;
 use digit_tuple::letter_parts::letter_parts;
 use digit_tuple::nfa::Nfa;
+use digit_tuple::reversed::reversed;
 use std::alloc::Global;
 
 /// An automaton read on some of its tracks, and the states at which reading begins.

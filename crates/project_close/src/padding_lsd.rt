@@ -15,9 +15,9 @@ ghost use Rattle.project_close.specs.ZeroClosure.{flag_at};
 
 use crate::canonical_exploration::explore_canonical;
 use crate::zero_closure::reached;
-use determinise::reversed::reversed;
 use digit_tuple::dfa::Dfa;
 use digit_tuple::faults::{OpFault, OutOfMemory};
+use digit_tuple::reversed::reversed;
 use digit_tuple::source::{KeyStep, Source};
 use digit_tuple::stepped::Stepped;
 use minimise::sink::{first_state, next_state};

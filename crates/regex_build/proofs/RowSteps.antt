@@ -10,7 +10,7 @@ use Rattle.std.proofs.lemmas.List.Kept.{Contains-from_dedup}
 use Rattle.std.proofs.lemmas.List.Sorted.{Contains-permutation, IsPermutation-sym}
 use Rattle.digit_tuple.specs.declared.edges.Edge.{Edge}
 use Rattle.digit_tuple.specs.declared.edges.NfaState.{NfaState}
-use Rattle.determinise.proofs.EdgeLemmas.{Contains-dedup, edges_tell}
+use Rattle.digit_tuple.proofs.EdgeLemmas.{Contains-dedup, edges_tell}
 use Rattle.regex_build.specs.declared.codes.LetterRange.{LetterRange}
 use Rattle.regex_build.specs.declared.next_places.NextPlaces.{NextPlaces}
 use Rattle.regex_build.specs.Codes.{IsInRange}

@@ -8,7 +8,8 @@ use Rattle.digit_tuple.specs.Width.{HasApart, HasWidth}
 use Rattle.digit_tuple.proofs.WidthLemmas.{HasApart-same, HasWidth-same}
 use Rattle.digit_tuple.proofs.WordLemmas.{IsWord-append}
 use Rattle.digit_tuple.specs.Keys.{LeadAlike}
-use Rattle.determinise.specs.Reversed.{AreAccepting, SameReversedResidual}
+use Rattle.digit_tuple.specs.AcceptingStates.{AreAccepting}
+use Rattle.determinise.specs.Reversed.{SameReversedResidual}
 use Rattle.determinise.specs.Subsets.{set_after}
 use Rattle.digit_tuple.proofs.PaddingLemmas.{IsWord-reverse}
 use Rattle.determinise.proofs.ReversalLemmas.{key_accepts-reversed, SameReversedResidual-lead, LeadAlike-residual, IsStateSet-accepting, accepts_of-none, nil_of_length, bare_refuses, HasApart-one, HasWidth-one}

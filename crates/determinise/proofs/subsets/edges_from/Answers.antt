@@ -6,8 +6,8 @@ use Rattle.std.proofs.lemmas.List.Sorted.{Contains-permutation, IsPermutation-sy
 use Rattle.std.proofs.lemmas.List.{take_all}
 use Rattle.digit_tuple.specs.declared.edges.Edge.{Edge}
 use Rattle.digit_tuple.specs.Automaton.{IsBefore, edges_of}
-use Rattle.determinise.proofs.EdgeLemmas.{AllPairs-dedup, Contains-dedup, edges_tell}
-use Rattle.determinise.proofs.MemberLemmas.{Contains-flat_map, Contains-from_flat_map}
+use Rattle.digit_tuple.proofs.EdgeLemmas.{AllPairs-dedup, Contains-dedup, edges_tell}
+use Rattle.digit_tuple.proofs.MemberLemmas.{Contains-flat_map, Contains-from_flat_map}
 use Rattle.determinise.proofs.subsets.edges_from.Goals as goal
 
 abbrev same : Edge → Edge → Bool

@@ -8,7 +8,7 @@ use Rattle.digit_tuple.specs.declared.edges.Edge.{Edge}
 use Rattle.digit_tuple.specs.Automaton.{IsBefore}
 use Rattle.digit_tuple.specs.KeySteps.{steps_in}
 use Rattle.determinise.specs.Groups.{AreGroups}
-use Rattle.determinise.proofs.EdgeLemmas.{AllPairs-dedup, Contains-dedup, edges_tell}
+use Rattle.digit_tuple.proofs.EdgeLemmas.{AllPairs-dedup, Contains-dedup, edges_tell}
 use Rattle.minimise.specs.Gathering.{IsGathered}
 use Rattle.minimise.proofs.GatheringLemmas.{IsGathered-groups}
 use Rattle.minimise.proofs.gathering.gathered.Goals as goal

@@ -2,7 +2,7 @@ use Rattle.std.proofs.Common.{◌≡◌, ◌∷◌, ◌++◌, ℕ, List, IfOk, [
 use Rattle.std.specs.List.{All}
 use Rattle.std.proofs.lemmas.List.{take_all, map_more}
 use Rattle.digit_tuple.specs.declared.edges.Edge.{Edge}
-use Rattle.determinise.specs.Reversed.{edge_to}
+use Rattle.digit_tuple.specs.Reversed.{edge_to}
 use Rattle.minimise.specs.Classes.{class_of}
 use Rattle.minimise.specs.Gathering.{IsGathered, edges_by_class}
 use Rattle.minimise.proofs.gathering.states_by_class.Goals as goal

@@ -1,6 +1,6 @@
 use Rattle.std.proofs.Common.{◌≡◌, ◌+◌, List, ℕ, Vec, Global, sym, ap, ◌∙◌, subst, arith}
 use Rattle.digit_tuple.specs.Deterministic.{states_of}
-use Rattle.determinise.proofs.ReversalLemmas.{AreAcceptingTo, AreAcceptingTo-take, AreAcceptingTo-skip}
+use Rattle.digit_tuple.proofs.AcceptingStateLemmas.{AreAcceptingTo, AreAcceptingTo-take, AreAcceptingTo-skip}
 use Rattle.minimise.proofs.partition.accepting_states.Goals as goal
 use Rattle.minimise.proofs.partition.accepting_states.Goals.{then-accepting+in_ok-push, else-accepting}
 

@@ -6,7 +6,7 @@ use Rattle.std.proofs.lemmas.List.Sorted.{Contains-permutation, IsPermutation-sy
 use Rattle.std.proofs.lemmas.List.{take_all}
 use Rattle.digit_tuple.specs.declared.edges.Edge.{Edge}
 use Rattle.digit_tuple.specs.Automaton.{IsBefore}
-use Rattle.determinise.proofs.EdgeLemmas.{AllPairs-dedup, Contains-dedup, edges_tell}
+use Rattle.digit_tuple.proofs.EdgeLemmas.{AllPairs-dedup, Contains-dedup, edges_tell}
 use Rattle.project_close.specs.Image.{relabelled_edge}
 use Rattle.project_close.proofs.ImageLemmas.{relabelled_members}
 use Rattle.project_close.proofs.image.relabelled.Goals as goal

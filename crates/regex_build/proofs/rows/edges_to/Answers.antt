@@ -5,7 +5,7 @@ use Rattle.std.proofs.lemmas.List.{get_or_default}
 use Rattle.std.proofs.lemmas.List.Filters.{dedup_is}
 use Rattle.std.proofs.lemmas.List.Elements.{Contains-get_or}
 use Rattle.digit_tuple.specs.Automaton.{IsBefore}
-use Rattle.determinise.proofs.EdgeLemmas.{AllPairs-dedup, edges_tell}
+use Rattle.digit_tuple.proofs.EdgeLemmas.{AllPairs-dedup, edges_tell}
 use Rattle.regex_build.specs.declared.codes.LetterRange.{LetterRange}
 use Rattle.regex_build.proofs.RowSteps.{same, edge_to_none, edge_to_more, edge_to_all}
 use Rattle.regex_build.proofs.rows.edges_to.Goals as goal

@@ -1,8 +1,8 @@
 use Rattle.std.proofs.Common.{◌≡◌, ◌+◌, List, ℕ, Vec, Global, sym, ap, ◌∙◌, subst, arith}
 use Rattle.digit_tuple.specs.Deterministic.{states_of}
-use Rattle.determinise.proofs.ReversalLemmas.{AreAcceptingTo, AreAcceptingTo-take, AreAcceptingTo-skip}
-use Rattle.determinise.proofs.reversal.accepting_states.Goals as goal
-use Rattle.determinise.proofs.reversal.accepting_states.Goals.{then-accepting+in_ok-push, else-accepting}
+use Rattle.digit_tuple.proofs.AcceptingStateLemmas.{AreAcceptingTo, AreAcceptingTo-take, AreAcceptingTo-skip}
+use Rattle.digit_tuple.proofs.accepting_states.accepting_states.Goals as goal
+use Rattle.digit_tuple.proofs.accepting_states.accepting_states.Goals.{then-accepting+in_ok-push, else-accepting}
 
 pub loop-state-preserved : goal.loop-state-preserved
 loop-state-preserved c =

@@ -1,7 +1,7 @@
 use Rattle.std.proofs.Common.{◌≡◌, ℕ, ◌<◌, ◌↔◌, true}
 use Rattle.std.specs.List.{AllPairs, Contains}
 use Rattle.digit_tuple.specs.Deterministic.{accepting_of}
-use Rattle.determinise.proofs.reversal.accepting_states.Given as goal
+use Rattle.digit_tuple.proofs.accepting_states.accepting_states.Given as goal
 
 abbrev pub invariant-loop-state : goal.invariant-loop-state
 invariant-loop-state l = record {
