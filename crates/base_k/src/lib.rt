@@ -9,7 +9,3 @@ pub mod base_k;
 
 /// Laws of base k.
 pub mod laws;
-#[cfg(test)]
-mod sealed_tests;
-#[cfg(test)]
-mod tests;

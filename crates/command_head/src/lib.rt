@@ -22,6 +22,3 @@ pub mod laws;
 pub use fault::HeadFault;
 pub use head::{Alphabets, RegParts};
 pub use heading::{first_word, reg_parts};
-
-#[cfg(test)]
-mod tests;

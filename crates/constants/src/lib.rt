@@ -15,7 +15,3 @@ mod word_automaton;
 
 /// The automaton of one number.
 pub mod constant;
-#[cfg(test)]
-mod constant_tests;
-#[cfg(test)]
-mod tests;

@@ -14,5 +14,3 @@ pub mod trimmed;
 
 /// The reversal of a deterministic automaton.
 pub mod reversal;
-#[cfg(test)]
-mod tests;

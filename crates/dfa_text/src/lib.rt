@@ -32,8 +32,3 @@ pub use laws::{
 };
 pub use reading::read_listed;
 pub use relation_text::print_relation;
-
-#[cfg(test)]
-mod relation_tests;
-#[cfg(test)]
-mod tests;

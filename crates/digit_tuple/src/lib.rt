@@ -72,5 +72,3 @@ pub mod step_fault;
 
 /// Laws of the definitions.
 pub mod laws;
-#[cfg(test)]
-mod tests;

@@ -109,6 +109,3 @@ pub fn parse(alloc: Global, text: &[u8]) -> Result<Formula, ParseFault>
 pub fn one_tree()
     ensures { OneTree }
 {}
-
-#[cfg(test)]
-mod tests;

@@ -30,5 +30,3 @@ pub mod tracked;
 
 /// Whether automata are canonical, and whether canonical ones have one language.
 pub mod comparison;
-#[cfg(test)]
-mod tests;

@@ -27,5 +27,3 @@ pub mod seal;
 
 /// Laws of the definitions.
 pub mod laws;
-#[cfg(test)]
-mod tests;

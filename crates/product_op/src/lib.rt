@@ -26,6 +26,4 @@ pub mod languages;
 pub mod product;
 
 /// Parts of automata on valid words.
-#[cfg(test)]
-mod tests;
 pub mod validity;

@@ -36,10 +36,4 @@ mod substitution;
 pub mod renaming;
 
 /// Automata on the words of which two tracks are equal.
-#[cfg(test)]
-mod padding_tests;
-#[cfg(test)]
-mod projection_tests;
-#[cfg(test)]
-mod renaming_tests;
 pub mod restriction;

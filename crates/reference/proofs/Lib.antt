@@ -1,13 +1,4 @@
 pub mod Cuts
-pub mod WalkSteps
 pub mod WordSteps
-pub mod ScriptSteps
 pub mod TreeSteps
 pub mod Weights
-pub mod PartSteps
-pub mod ProductSteps
-pub mod TokenCuts
-pub mod TruthSteps
-pub mod SpelledNumbers
-pub mod Spelled
-pub mod TextTokens

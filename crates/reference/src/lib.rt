@@ -1,4 +1,5 @@
-//! Plain slow programs, each of which computes one definition on small inputs, to hold faster ones against.
+//! Plain slow programs, each of which computes one definition on small inputs. They show that the definition says
+//! what rows from outside say.
 #![tactic(auto)]
 
 /// Words of letters, and all of a length.
@@ -12,23 +13,3 @@ pub mod tree;
 
 /// Whether a word of tuples matches an expression.
 pub mod matching;
-
-/// Tokens of expressions.
-pub mod tokens;
-
-/// Whether tokens spell an expression.
-pub mod spelling;
-
-/// Whether a nondeterministic automaton accepts a word.
-pub mod walking;
-
-/// Parts of words on some of their tracks.
-pub mod parts;
-
-/// Whether words are in products, complements and valid parts.
-pub mod products;
-
-/// The items of a script.
-pub mod cutting;
-#[cfg(test)]
-mod tests;

@@ -51,10 +51,3 @@ pub mod build;
 
 pub use parsing::parse;
 pub use position_table::positions;
-
-#[cfg(test)]
-mod build_tests;
-#[cfg(test)]
-mod parsing_tests;
-#[cfg(test)]
-mod position_tests;

@@ -17,6 +17,3 @@ mod laws;
 
 pub use cut::{Cut, CutFault};
 pub use cutter::{Cutter, SCRIPT_LIMIT, TEXT_LIMIT};
-
-#[cfg(test)]
-mod tests;

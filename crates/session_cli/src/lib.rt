@@ -36,6 +36,3 @@ pub use laws::{one_outcome, one_run, store_faults_counted};
 pub use session::Session;
 pub use status::Status;
 pub use whole::run;
-
-#[cfg(test)]
-mod tests;

@@ -35,6 +35,3 @@ pub use source::{Failed, Source};
 pub use std_sink::StdSink;
 pub use std_source::StdSource;
 pub use store::{Found, Store, TEXT_LIMIT};
-
-#[cfg(test)]
-mod tests;

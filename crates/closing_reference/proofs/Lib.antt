@@ -1,5 +1,0 @@
-pub mod SpelledLemmas
-pub mod ReadingLemmas
-pub mod FlagLemmas
-pub mod EqualReadings
-pub mod RenamingReadings

@@ -1,5 +1,0 @@
-use Rattle.std.proofs.Common.{length}
-use Rattle.closing_reference.proofs.renamings.+is_over.Given as goal
-
-abbrev pub decreases-is_over : goal.decreases-is_over
-decreases-is_over l = length l.word.now

@@ -1,6 +1,0 @@
-pub mod Answering
-pub mod NumberSteps
-pub mod MentionSteps
-pub mod MemberSteps
-pub mod Cuts
-pub mod PartCuts

@@ -1,5 +1,0 @@
-use Rattle.std.proofs.Common.{length}
-use Rattle.head_reference.proofs.members.+is_below_each.Given as goal
-
-abbrev pub decreases-is_below_each : goal.decreases-is_below_each
-decreases-is_below_each l = length l.numbers.now
