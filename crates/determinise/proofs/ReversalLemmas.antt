@@ -1,11 +1,10 @@
 -- The reversal of a deterministic automaton.
-use Rattle.std.proofs.Common.{◌≡◌, ℕ, zero, suc, ◌+◌, ◌<◌, ◌≤◌, Bool, true, false, List, [], ◌∷◌, ◌++◌, reverse, length, get_or, Option, None, Some, ◌↔◌, ◌⊎◌, inl, inr, refl, sym, ap, ◌∙◌, subst, true≢false, append-nil, arith}
-use Rattle.std.specs.List.{All, AllPairs, Contains}
+use Rattle.std.proofs.Common.{◌≡◌, ℕ, zero, suc, ◌<◌, Bool, true, false, List, [], ◌∷◌, ◌++◌, reverse, length, get_or, Option, None, Some, ◌↔◌, refl, sym, ap, ◌∙◌, subst, true≢false, append-nil, arith}
+use Rattle.std.specs.List.{All, Contains}
 use Rattle.std.specs.Option.{option_and_then, option_map_or, IfSome}
 use Rattle.std.proofs.lemmas.Option.{same_Some}
 use Rattle.std.proofs.lemmas.List.{reverse-append, reverse-reverse}
-use Rattle.std.proofs.lemmas.List.Elements.{All-contains_itself, Contains-push_cases, Contains-append_left, Contains-push}
-use Rattle.std.proofs.lemmas.List.Quantifiers.{all_pairs_push}
+use Rattle.std.proofs.lemmas.List.Elements.{All-contains_itself}
 use Rattle.digit_tuple.specs.Automaton as branching
 use Rattle.digit_tuple.specs.Automaton.{Branching, IsBranchTable, Leads, Path}
 use Rattle.digit_tuple.specs.Deterministic.{Automaton, IsTable, states_of, letters_of, step_of, run_of, accepts_from, accepts_of, accepting_of}
@@ -14,10 +13,9 @@ use Rattle.digit_tuple.specs.Letters.{IsWord, product}
 use Rattle.digit_tuple.proofs.DfaLemmas.{row_at, target_by-in_range}
 use Rattle.digit_tuple.proofs.PaddingLemmas.{reverse-cons, IsWord-reverse}
 use Rattle.digit_tuple.proofs.PathLemmas.{Path-in_range}
-use Rattle.digit_tuple.proofs.WordLemmas.{IsWord-push, IsWord-append, run_of-append, run_of-push, accepts_from-append}
+use Rattle.digit_tuple.proofs.WordLemmas.{IsWord-append, run_of-append, run_of-push, accepts_from-append}
 use Rattle.digit_tuple.specs.Keys.{key_run, key_accepts, LeadAlike}
-use Rattle.digit_tuple.proofs.KeyLemmas.{key_accepts-run}
-use Rattle.std.proofs.lemmas.Bool.{cases_lt}
+use Rattle.digit_tuple.proofs.KeyLemmas.{key_accepts-run, key_accepts-append}
 use Rattle.digit_tuple.specs.Width.{HasApart, HasWidth}
 use Rattle.digit_tuple.specs.Reversed.{IsReversal}
 use Rattle.digit_tuple.specs.AcceptingStates.{AreAccepting}
@@ -30,16 +28,6 @@ pub same_bool : (a b : Bool) → (a ≡ true → b ≡ true) → (b ≡ true →
 same_bool true b forth back = sym (forth refl)
 same_bool false true forth back = back refl
 same_bool false false forth back = refl
-
--- after a word the key's acceptance is that of the key it leads to
-pub key_accepts-append : (after : List ℕ → ℕ → Option (List ℕ)) (accepts : List ℕ → Bool) (w u key : List ℕ) → key_accepts after accepts key (w ++ u) ≡ option_map_or (λ k. key_accepts after accepts k u) (key_run after key w) false
-key_accepts-append after accepts [] u key = refl
-key_accepts-append after accepts (a ∷ w) u key = by (after key a) (λ next. key_accepts-append after accepts w u next)
-  where
-    by : (o : Option (List ℕ)) → ((next : List ℕ) → key_accepts after accepts next (w ++ u) ≡ option_map_or (λ k. key_accepts after accepts k u) (key_run after next w) false)
-        → option_map_or (λ next. key_accepts after accepts next (w ++ u)) o false ≡ option_map_or (λ k. key_accepts after accepts k u) (option_and_then (λ next. key_run after next w) o) false
-    by None rest = refl
-    by (Some next) rest = rest next
 
 -- a state accepts the words that lead to an accepting state
 pub accepts_from-run : (t : Automaton) (q : ℕ) (w : List ℕ) → accepts_from t q w ≡ option_map_or (accepting_of t) (run_of t q w) false

@@ -12,3 +12,4 @@ pub mod GatheringLemmas
 pub mod PartitionLemmas
 pub mod LeadLemmas
 pub mod ApartLemmas
+pub mod KeySizes

@@ -12,10 +12,11 @@ use Rattle.digit_tuple.specs.Automaton.{Branching, Leads}
 use Rattle.digit_tuple.specs.Deterministic.{Automaton, IsTable, letters_of, states_of, accepting_of, edges_of, step_of, target_by}
 use Rattle.digit_tuple.specs.declared.source.KeyStep.{KeyStep}
 use Rattle.digit_tuple.specs.Reversed.{IsReversal, edge_to}
+use Rattle.digit_tuple.specs.AcceptingStates.{AreAccepting}
 use Rattle.digit_tuple.proofs.MemberLemmas.{Contains-none, Contains-head, Contains-tail, Contains-cases, Contains-filter, Contains-from_filter, Contains-map, Contains-from_map, Contains-flat_map, Contains-from_flat_map}
 use Rattle.minimise.specs.Classes.{class_of, next_of}
 use Rattle.minimise.specs.Gathering.{IsGathered, edges_by_class}
-use Rattle.minimise.specs.Partition.{IsCoarse, IsUnion, AreAcceptingStates, states_with, IsGiven, IsOneOf, AreParted, list_at, lists_in}
+use Rattle.minimise.specs.Partition.{IsCoarse, IsUnion, states_with, IsGiven, IsOneOf, AreParted, list_at, lists_in}
 use Rattle.minimise.proofs.SinkLemmas.{row_of, no_edges_past, not_accepting_past, accepts_from-next, next_within}
 
 -- what holds of all parts holds of the one at a place
@@ -99,12 +100,12 @@ module _ (d : Automaton) (table : IsTable (letters_of d) d.states) where
 
 module _ (d : Automaton) where
   -- the accepting states
-  pub IsUnion-accepting : (states : List ℕ) → AreAcceptingStates d states → IsUnion d states
+  pub IsUnion-accepting : (states : List ℕ) → AreAccepting d states → IsUnion d states
   IsUnion-accepting states are = record {
-    within = λ k z inside. ((are (get_or states k z)).0 (Contains-get_or states k z inside)).0;
+    within = λ k z inside. ((are.members (get_or states k z)).0 (Contains-get_or states k z inside)).0;
     whole = λ p q small low same there.
-        let accepts : accepting_of d q ≡ true = sym (same [] tt) ∙ ((are p).0 there).1 in
-        (are q).1 (by q accepts (cases_lt q (states_of d)), accepts);
+        let accepts : accepting_of d q ≡ true = sym (same [] tt) ∙ ((are.members p).0 there).1 in
+        (are.members q).1 (by q accepts (cases_lt q (states_of d)), accepts);
   }
     where
       by : (q : ℕ) → accepting_of d q ≡ true → (q < states_of d) ⊎ (states_of d ≤ q) → q < states_of d

@@ -1,8 +1,8 @@
 -- Classes of states that are being parted.
-use Rattle.std.specs.Prelude.{◌≡◌, ◌==◌, ℕ, ◌+◌, ◌<◌, ◌≤◌, true, List, [], map, filter, length, slice_index_or, ◌↔◌, ◌⊎◌, Vec}
+use Rattle.std.specs.Prelude.{◌≡◌, ◌==◌, ℕ, ◌+◌, ◌<◌, ◌≤◌, List, [], map, filter, length, slice_index_or, ◌⊎◌, Vec}
 use Rattle.std.specs.List.{All, Contains}
 use Rattle.std.specs.declared.alloc.Global.{Global}
-use Rattle.digit_tuple.specs.Deterministic.{Automaton, IsTable, letters_of, states_of, accepting_of}
+use Rattle.digit_tuple.specs.Deterministic.{Automaton, IsTable, letters_of, states_of}
 use Rattle.minimise.specs.Residuals.{SameResidual}
 use Rattle.minimise.specs.Classes.{class_of}
 use Rattle.minimise.specs.declared.partition.Partition.{Partition}
@@ -15,10 +15,6 @@ IsCoarse d classes = (p q : ℕ) → p ≤ states_of d → q ≤ states_of d →
 pub record IsUnion (d : Automaton) (set : List ℕ) : Type 0 where
   pub within : All (λ q. q < states_of d) set
   pub whole : (p q : ℕ) → p ≤ states_of d → q ≤ states_of d → SameResidual d p d q → Contains set p → Contains set q
-
--- the set has the accepting states
-abbrev pub AreAcceptingStates : Automaton → List ℕ → Type 0
-AreAcceptingStates d set = (q : ℕ) → Contains set q ↔ ((q < states_of d) × (accepting_of d q ≡ true))
 
 -- the states of the list that have the class
 abbrev pub states_with : List ℕ → List ℕ → ℕ → List ℕ

@@ -1,7 +1,6 @@
 //! Whether automata are canonical, and whether canonical ones have one language.
 
-ghost use Rattle.std.specs.Prelude.{◌≡◌, ◌<◌, ◌↔◌, IsTrue, IfOk};
-ghost use Rattle.digit_tuple.specs.Deterministic.{states_of, state_of};
+ghost use Rattle.std.specs.Prelude.{◌≡◌, ◌↔◌, IsTrue, IfOk};
 ghost use Rattle.minimise.specs.Residuals.{SameLanguage};
 ghost use Rattle.minimise.specs.Canonical.{IsCanonical};
 
@@ -37,18 +36,9 @@ fn have_equal_states(a: &Dfa, b: &Dfa) -> bool
         return false;
     }
     for state in 0..a.states() {
-        if !is_equal_state(a, b, state) {
+        if !a.is_same_state(b, state) {
             return false;
         }
     }
     true
-}
-
-// Whether the state is the same in both.
-fn is_equal_state(a: &Dfa, b: &Dfa, state: u32) -> bool
-    requires first { state < states_of a.now }
-    requires second { state < states_of b.now }
-    ensures { IsTrue result ↔ (state_of a.now state ≡ state_of b.now state) }
-{
-    a.accepting(state) == b.accepting(state) && a.edges(state) == b.edges(state)
 }

@@ -25,6 +25,9 @@ mod quotient;
 /// The canonical automaton of a language.
 pub mod canonical;
 
+/// The exploration, made canonical.
+pub mod canonical_exploration;
+
 /// Canonical automata whose tracks have names.
 pub mod tracked;
 

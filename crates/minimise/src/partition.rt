@@ -15,9 +15,10 @@ ghost use Rattle.std.specs.Prelude.{◌≡◌, ◌+◌, ◌<◌, ◌≤◌, leng
 ghost use Rattle.std.specs.List.{All};
 ghost use Rattle.digit_tuple.specs.Deterministic.{IsTable, letters_of, states_of};
 ghost use Rattle.digit_tuple.specs.Reversed.{IsReversal};
-ghost use Rattle.minimise.specs.Partition.{IsCoarse, IsUnion, IsGiven, IsOneOf, IsPartition, AreAcceptingStates, states_with};
+ghost use Rattle.minimise.specs.Partition.{IsCoarse, IsUnion, IsGiven, IsOneOf, IsPartition, states_with};
 
 use crate::gathering::{states_by_class, targets_by_letter};
+use digit_tuple::accepting_states::accepting_states;
 use digit_tuple::dfa::Dfa;
 use digit_tuple::faults::OutOfMemory;
 use digit_tuple::nfa::Nfa;
@@ -137,19 +138,6 @@ impl Partition {
         self.pending.push(set)?;
         Ok(())
     }
-}
-
-// The states that accept.
-fn accepting_states(alloc: Global, dfa: &Dfa) -> Result<Vec<u32>, OutOfMemory>
-    ensures { IfOk result (λ set. AreAcceptingStates dfa.now set.items) }
-{
-    let mut set = Vec::new(alloc);
-    for state in 0..dfa.states() {
-        if dfa.accepting(state) {
-            set.push(state)?;
-        }
-    }
-    Ok(set)
 }
 
 // Gives the states the class.

@@ -11,7 +11,7 @@ pub fn first_state(dfa: &Dfa) -> u32
     ensures { result ≡ first_of dfa.now }
 {
     let states = dfa.states();
-    if !dfa.accepting(0) && dfa.edges(0).is_empty() {
+    if !dfa.accepting(0) && dfa.is_bare(0) {
         states
     } else {
         0

@@ -49,6 +49,27 @@ impl Tracked {
         Ok(Tracked { least, track_names })
     }
 
+    /// A canonical automaton, its tracks under these names: one for each track, no two the same.
+    pub fn of_canonical(dfa: Dfa, names: Vec<Name>) -> Self
+        requires canonical { IsCanonical dfa }
+        requires count { length names.items ≡ length dfa.sizes }
+        requires distinct { AreDistinct names.items }
+        ensures { result ≡ record { names = names.items; automaton = dfa } }
+    {
+        Tracked {
+            least: dfa,
+            track_names: names,
+        }
+    }
+
+    /// The canonical automaton, without the names.
+    pub fn into_dfa(self) -> Dfa
+        ensures value { result ≡ self.automaton }
+        ensures canonical { IsCanonical result }
+    {
+        self.least
+    }
+
     /// The canonical automaton.
     pub fn dfa(&self) -> &Dfa
         ensures value { result.now ≡ self.now.automaton }

@@ -1,7 +1,6 @@
 pub mod ZeroClosureLemmas
 pub mod ImageLemmas
 pub mod ProjectionLemmas
-pub mod KeySizes
 pub mod SameBranches
 pub mod SinkLeads
 pub mod TrimmedWords

@@ -14,9 +14,6 @@ pub mod projection;
 /// Deterministic automata seen as nondeterministic ones.
 mod same_branching;
 
-/// The exploration, made canonical.
-mod canonical_exploration;
-
 /// Closure under leading zeros.
 mod padding_msd;
 

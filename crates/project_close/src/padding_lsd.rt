@@ -13,13 +13,13 @@ ghost use Rattle.project_close.specs.Padding.{IsPadded, PaddedAlike};
 ghost use Rattle.project_close.specs.PaddedPairs.{AreFinalFlags, IsPair, twice, pair_after, first_is_pair, pair_after_is_pair};
 ghost use Rattle.project_close.specs.ZeroClosure.{flag_at};
 
-use crate::canonical_exploration::explore_canonical;
 use crate::zero_closure::reached;
 use digit_tuple::dfa::Dfa;
 use digit_tuple::faults::{OpFault, OutOfMemory};
 use digit_tuple::reversed::reversed;
 use digit_tuple::source::{KeyStep, Source};
 use digit_tuple::stepped::Stepped;
+use minimise::canonical_exploration::explore_canonical;
 use minimise::sink::{first_state, next_state};
 use std::alloc::Global;
 

@@ -17,7 +17,6 @@ ghost use Rattle.project_close.specs.Padding.{IsPadded, PaddedAlike};
 ghost use Rattle.project_close.specs.PaddedSets.{IsStateList, AreFirst, padded_after, padded_accepts, zero_steps, zero_first, nothing_is_state_list, padded_after_is_state_list};
 ghost use Rattle.project_close.specs.SameBranching.{branching_as};
 
-use crate::canonical_exploration::explore_canonical;
 use crate::same_branching::same_branching;
 use crate::zero_closure::zero_closure;
 use determinise::subsets::Subsets;
@@ -26,6 +25,7 @@ use digit_tuple::faults::{OpFault, OutOfMemory};
 use digit_tuple::nfa::Nfa;
 use digit_tuple::source::{KeyStep, Source};
 use digit_tuple::stepped::Stepped;
+use minimise::canonical_exploration::explore_canonical;
 use minimise::sink::first_state;
 use std::alloc::Global;
 

@@ -1,4 +1,4 @@
-use Rattle.std.proofs.Common.{◌≡◌, ap, sym, subst, ◌∙◌}
+use Rattle.std.proofs.Common.{ap, sym, subst}
 use Rattle.minimise.specs.Canonical.{IsCanonical}
 use Rattle.minimise.proofs.SameLemmas.{same_automata}
 use Rattle.minimise.proofs.CanonicalLemmas.{canonical_forms}

@@ -8,13 +8,13 @@ ghost use Rattle.digit_tuple.specs.Letters.{product, IsWord};
 ghost use Rattle.digit_tuple.specs.Width.{HasApart, HasWidth};
 ghost use Rattle.minimise.specs.Canonical.{IsCanonical};
 
+use crate::canonical::canonical;
 use digit_tuple::alphabet::Alphabet;
 use digit_tuple::dfa::Dfa;
 use digit_tuple::exploration::explore;
 use digit_tuple::faults::OpFault;
 use digit_tuple::source::Source;
 use digit_tuple::stepped::Stepped;
-use minimise::canonical::canonical;
 use std::alloc::Global;
 
 /// The canonical automaton of the words that lead to accepting keys of the source. The width is the

@@ -6,7 +6,7 @@ use Rattle.digit_tuple.specs.Keys.{LeadAlike, key_accepts}
 use Rattle.digit_tuple.specs.Letters.{IsWord}
 use Rattle.digit_tuple.specs.Width.{HasWidth}
 use Rattle.digit_tuple.proofs.WordLemmas.{IsWord-append}
-use Rattle.determinise.proofs.ReversalLemmas.{key_accepts-append}
+use Rattle.digit_tuple.proofs.KeyLemmas.{key_accepts-append}
 use Rattle.minimise.specs.Canonical.{IsCanonical}
 use Rattle.minimise.proofs.ApartLemmas.{apart_within_width, canonical_apart}
 

@@ -3,8 +3,8 @@ use Rattle.digit_tuple.specs.Keys.{LeadAlike}
 use Rattle.digit_tuple.specs.Letters.{product, IsWord}
 use Rattle.digit_tuple.specs.Deterministic.{letters_of}
 use Rattle.digit_tuple.specs.Width.{HasWidth}
-use Rattle.project_close.proofs.KeySizes.{states_within_width}
-use Rattle.project_close.proofs.canonical_exploration.explore_canonical.Goals as goal
+use Rattle.minimise.proofs.KeySizes.{states_within_width}
+use Rattle.minimise.proofs.canonical_exploration.explore_canonical.Goals as goal
 
 pub returns-clause-size : goal.returns-clause-size
 returns-clause-size g c =
