@@ -7,9 +7,9 @@ use Rattle.digit_tuple.specs.Paddings.{in_order}
 use Rattle.digit_tuple.specs.Deterministic.{Automaton, accepts_of}
 use Rattle.digit_tuple.specs.declared.direction.Direction.{Direction}
 use Rattle.digit_tuple.specs.declared.direction.Direction.TheVariants.{Msd, Lsd}
-use Rattle.num_system.specs.Systems.{System, IsNumeral}
-use Rattle.num_system.specs.Spelling.{Spells, letters_in, first_track, other_tracks}
-use Rattle.num_system.specs.Relations.{IsSum, IsAdderOf}
+use Rattle.numeration.specs.Systems.{System, IsNumeral}
+use Rattle.numeration.specs.Spelling.{Spells, letters_in, first_track, other_tracks}
+use Rattle.numeration.specs.Relations.{IsSum, IsAdderOf}
 use Rattle.digit_tuple.proofs.PaddingLemmas.{IsWord-in_order}
 use Rattle.base_k.specs.Positional.{base, value}
 use Rattle.base_k.specs.Carries.{next_carry}

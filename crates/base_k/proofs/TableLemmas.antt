@@ -10,8 +10,8 @@ use Rattle.digit_tuple.specs.declared.dfa.DfaState.{DfaState}
 use Rattle.digit_tuple.specs.declared.edges.Edge.{Edge}
 use Rattle.digit_tuple.specs.declared.direction.Direction.{Direction}
 use Rattle.digit_tuple.proofs.DfaLemmas.{target_by-none}
-use Rattle.num_system.specs.Spelling.{letters_in}
-use Rattle.num_system.specs.Relations.{IsLanguageOf, IsAdderOf}
+use Rattle.numeration.specs.Spelling.{letters_in}
+use Rattle.numeration.specs.Relations.{IsLanguageOf, IsAdderOf}
 use Rattle.base_k.specs.Positional.{are_digits, base}
 use Rattle.base_k.specs.Carries.{next_carry, carry_after, AreEdgesBy}
 use Rattle.base_k.specs.BaseLaws.{digits_after}

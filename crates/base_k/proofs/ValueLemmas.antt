@@ -6,10 +6,10 @@ use Rattle.digit_tuple.specs.Letters.{IsWord}
 use Rattle.digit_tuple.specs.Paddings.{in_order}
 use Rattle.digit_tuple.specs.declared.direction.Direction.{Direction}
 use Rattle.digit_tuple.specs.declared.direction.Direction.TheVariants.{Msd, Lsd}
-use Rattle.num_system.specs.Words.{rank}
-use Rattle.num_system.specs.Systems.{IsNumeral}
-use Rattle.num_system.proofs.BelowLemmas.{size, below, after, led_below, size-suc, below-cons}
-use Rattle.num_system.proofs.RankLemmas.{rank_is_below}
+use Rattle.numeration.specs.Words.{rank}
+use Rattle.numeration.specs.Systems.{IsNumeral}
+use Rattle.numeration.proofs.BelowLemmas.{size, below, after, led_below, size-suc, below-cons}
+use Rattle.numeration.proofs.RankLemmas.{rank_is_below}
 use Rattle.base_k.specs.Positional.{are_digits, base, value}
 use Rattle.base_k.specs.BaseLaws.{digits_after, over_digits, base_is_system}
 

@@ -4,7 +4,7 @@ use Rattle.std.proofs.Common.{refl, ap, sym, ◌∙◌, arith}
 use Rattle.std.proofs.lemmas.Bool.{lt-ltb, ltb-true, and_parts}
 use Rattle.digit_tuple.specs.Letters.{IsWord}
 use Rattle.digit_tuple.specs.Paddings.{zeros}
-use Rattle.num_system.specs.Systems.{IsSystem}
+use Rattle.numeration.specs.Systems.{IsSystem}
 use Rattle.base_k.specs.Positional.{are_digits, base}
 
 -- a word is valid just where it is over the digits

@@ -1,8 +1,8 @@
 -- Base k: all words over its digits, and their positional values.
 use Rattle.std.specs.Prelude.{◌≡◌, ℕ, ◌+◌, ◌*◌, ◌^◌, ◌≤◌, Bool, true, ◌&&◌, nat_lt, List, [], ◌∷◌, length}
 use Rattle.digit_tuple.specs.Letters.{IsWord}
-use Rattle.num_system.specs.Words.{rank}
-use Rattle.num_system.specs.Systems.{System}
+use Rattle.numeration.specs.Words.{rank}
+use Rattle.numeration.specs.Systems.{System}
 
 -- each digit is below k
 abbrev pub are_digits : ℕ → List ℕ → Bool

@@ -3,7 +3,7 @@
 ghost use Rattle.std.specs.Prelude.{◌≡◌, ℕ, ◌*◌, ◌<◌, ◌≤◌, Some, nat_eq, IfSome, IfOk};
 ghost use Rattle.digit_tuple.specs.Letters.{IsAlphabet};
 ghost use Rattle.digit_tuple.specs.declared.direction.Direction.{Direction};
-ghost use Rattle.num_system.specs.Relations.{IsLanguageOf, IsAdderOf};
+ghost use Rattle.numeration.specs.Relations.{IsLanguageOf, IsAdderOf};
 ghost use Rattle.base_k.specs.Positional.{base};
 ghost use Rattle.base_k.specs.Carries.{carry_in, carry_out, next_carry, carry_after, AreEdgesBy};
 

@@ -7,7 +7,7 @@ use crate::automata::{adder_in, language_in};
 use digit_tuple::dfa::Dfa;
 use digit_tuple::direction::Direction;
 use digit_tuple::faults::OutOfMemory;
-use num_system::num_system::NumSystem;
+use numeration::num_system::NumSystem;
 use std::alloc::Global;
 
 /// The least base.

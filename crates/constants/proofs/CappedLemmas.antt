@@ -5,7 +5,7 @@ use Rattle.std.proofs.lemmas.Bool.{cases_eq, eq-eqb, ne_eqb}
 use Rattle.std.proofs.lemmas.Grind.{get_or-set_at}
 use Rattle.std.proofs.lemmas.List.{get_or-set_other}
 use Rattle.std.proofs.lemmas.List.Sums.{sum_by-cons}
-use Rattle.num_system.proofs.CountLemmas.{sum_below}
+use Rattle.numeration.proofs.CountLemmas.{sum_below}
 use Rattle.constants.specs.WordCounts.{capped}
 
 min-add : (c m n k l : ℕ) → min m c ≡ min k c → min n c ≡ min l c → min (m + n) c ≡ min (k + l) c

@@ -13,10 +13,10 @@ use Rattle.digit_tuple.specs.declared.direction.Direction.{Direction}
 use Rattle.digit_tuple.proofs.PaddingLemmas.{length-in_order, IsWord-in_order}
 use Rattle.digit_tuple.proofs.WordLemmas.{IsWord-push, IsWord-front, IsWord-back, accepts_from-append}
 use Rattle.digit_tuple.proofs.WidthLemmas.{HasApart-same, HasWidth-same}
-use Rattle.num_system.specs.Words.{is_plain}
-use Rattle.num_system.specs.Systems.{System, IsSystem, IsRep}
-use Rattle.num_system.proofs.RankLemmas.{two_digits}
-use Rattle.num_system.proofs.ConstantLemmas.{numeral_words}
+use Rattle.numeration.specs.Words.{is_plain}
+use Rattle.numeration.specs.Systems.{System, IsSystem, IsRep}
+use Rattle.numeration.proofs.RankLemmas.{two_digits}
+use Rattle.numeration.proofs.ConstantLemmas.{numeral_words}
 use Rattle.constants.specs.Constants.{ConstantAlike}
 use Rattle.constants.specs.WordPaths.{IsPaddingPath}
 use Rattle.constants.proofs.ConstantWords.{Pads, pads_long, pads_self, never_behind}

@@ -5,9 +5,9 @@ use Rattle.digit_tuple.specs.Paddings.{without_zeros, in_order}
 use Rattle.digit_tuple.specs.Width.{HasApart}
 use Rattle.digit_tuple.specs.declared.direction.Direction.{Direction}
 use Rattle.minimise.specs.Residuals.{SameLanguage}
-use Rattle.num_system.specs.Systems.{System, IsSystem, IsRep}
-use Rattle.num_system.proofs.RankLemmas.{rep_exists}
-use Rattle.num_system.proofs.ConstantLemmas.{constant_holds}
+use Rattle.numeration.specs.Systems.{System, IsSystem, IsRep}
+use Rattle.numeration.proofs.RankLemmas.{rep_exists}
+use Rattle.numeration.proofs.ConstantLemmas.{constant_holds}
 use Rattle.num_system.proofs.SealLemmas.{relation_kept}
 use Rattle.constants.specs.Constants.{IsConstantOf, ConstantAlike}
 use Rattle.constants.proofs.ConstantKinds.{constant_apart}

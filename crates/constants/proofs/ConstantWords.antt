@@ -6,8 +6,8 @@ use Rattle.digit_tuple.specs.Paddings.{zeros, without_zeros, in_order, strip}
 use Rattle.digit_tuple.specs.declared.direction.Direction.{Direction}
 use Rattle.digit_tuple.specs.declared.direction.Direction.TheVariants.{Msd, Lsd}
 use Rattle.digit_tuple.proofs.PaddingLemmas.{in_order-twice, length-in_order, without_zeros-short, zeros_at_end, reverse-cons}
-use Rattle.num_system.specs.Words.{is_plain}
-use Rattle.num_system.proofs.PlainLemmas.{plain_is}
+use Rattle.numeration.specs.Words.{is_plain}
+use Rattle.numeration.proofs.PlainLemmas.{plain_is}
 use Rattle.constants.specs.WordPaths.{IsNextLetter, IsPaddingZero, padding_front}
 
 -- a word is another but for zeros before its most significant digit

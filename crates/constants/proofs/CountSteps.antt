@@ -10,8 +10,8 @@ use Rattle.digit_tuple.proofs.DfaLemmas.{row_at}
 use Rattle.digit_tuple.proofs.PaddingLemmas.{reverse-cons}
 use Rattle.digit_tuple.proofs.WordLemmas.{run_of-append}
 use Rattle.minimise.proofs.CanonicalLemmas.{run_within}
-use Rattle.num_system.specs.Words.{words}
-use Rattle.num_system.proofs.CountLemmas.{sum_below, sum_below-same, count_by-words, count_by-none}
+use Rattle.numeration.specs.Words.{words}
+use Rattle.numeration.proofs.CountLemmas.{sum_below, sum_below-same, count_by-words, count_by-none}
 use Rattle.constants.specs.WordCounts.{capped, leads_to, words_at, AreCounts}
 use Rattle.constants.proofs.SumLemmas.{sum_below-swap, sum-edges, count-apart}
 use Rattle.constants.proofs.CappedLemmas.{capped-again, capped-add, capped-sum_by, capped-cond}

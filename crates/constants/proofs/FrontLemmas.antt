@@ -6,8 +6,8 @@ use Rattle.digit_tuple.specs.declared.direction.Direction.{Direction}
 use Rattle.digit_tuple.specs.declared.direction.Direction.TheVariants.{Msd, Lsd}
 use Rattle.digit_tuple.specs.Deterministic.{Automaton, IsTable, accepts_from, letters_of, run_of, states_of, step_of}
 use Rattle.digit_tuple.proofs.WordLemmas.{accepts_from-append, run_of-append}
-use Rattle.num_system.specs.Words.{words}
-use Rattle.num_system.proofs.CountLemmas.{sum_below, count_by-none}
+use Rattle.numeration.specs.Words.{words}
+use Rattle.numeration.proofs.CountLemmas.{sum_below, count_by-none}
 use Rattle.constants.specs.Continuations.{read, continuations}
 use Rattle.constants.specs.WordCounts.{capped, words_at, AreCounts}
 use Rattle.constants.specs.Fronts.{AreMarks, IsFront, Fits}

@@ -9,7 +9,7 @@ use Rattle.digit_tuple.specs.Deterministic.{Automaton, accepting_of, step_of, ru
 use Rattle.digit_tuple.specs.declared.direction.Direction.{Direction}
 use Rattle.digit_tuple.proofs.PaddingLemmas.{length-in_order}
 use Rattle.digit_tuple.proofs.WordLemmas.{run_of-push}
-use Rattle.num_system.specs.Words.{is_plain}
+use Rattle.numeration.specs.Words.{is_plain}
 use Rattle.constants.specs.WordPaths.{IsNextLetter, IsPaddingZero, IsPaddingPath, padding_front}
 use Rattle.constants.proofs.ConstantWords.{Pads, pads_long, pads_self, stopped, padding_same}
 

@@ -7,12 +7,12 @@ use Rattle.digit_tuple.specs.Letters.{IsWord, product}
 use Rattle.digit_tuple.specs.Paddings.{in_order}
 use Rattle.digit_tuple.specs.declared.direction.Direction.{Direction}
 use Rattle.digit_tuple.proofs.WordLemmas.{IsWord-push}
-use Rattle.num_system.specs.Words.{led, words, rank, is_plain, IsLanguage}
+use Rattle.numeration.specs.Words.{led, words, rank, is_plain, IsLanguage}
 use Rattle.num_system.specs.Sealed.{SystemValue, system_of}
-use Rattle.num_system.specs.Systems.{IsSystem, IsRep}
-use Rattle.num_system.proofs.CountLemmas.{count_by-append, count_by-map, count_by-led}
-use Rattle.num_system.proofs.BelowLemmas.{size, below, after, led_below, below-cons, below-less}
-use Rattle.num_system.proofs.RankLemmas.{rank_is_below, rank-zero, rep_exists}
+use Rattle.numeration.specs.Systems.{IsSystem, IsRep}
+use Rattle.numeration.proofs.CountLemmas.{count_by-append, count_by-map, count_by-led}
+use Rattle.numeration.proofs.BelowLemmas.{size, below, after, led_below, below-cons, below-less}
+use Rattle.numeration.proofs.RankLemmas.{rank_is_below, rank-zero, rep_exists}
 use Rattle.constants.specs.Continuations.{read, continuations, continuations_below}
 use Rattle.constants.specs.Places.{IsAtPlace}
 

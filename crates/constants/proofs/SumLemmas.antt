@@ -8,7 +8,7 @@ use Rattle.digit_tuple.specs.declared.edges.Edge.{Edge}
 use Rattle.digit_tuple.specs.Deterministic.{IsByEarlier, target_by}
 use Rattle.digit_tuple.proofs.DfaLemmas.{target_by-other, target_by-first}
 use Rattle.minimise.proofs.EdgeLemmas.{rest_pairs, target_by-early}
-use Rattle.num_system.proofs.CountLemmas.{sum_below, sum_below-same, sum_below-stops, count_by-cons}
+use Rattle.numeration.proofs.CountLemmas.{sum_below, sum_below-same, sum_below-stops, count_by-cons}
 
 pub sum_below-none : (f : ℕ → ℕ) (n : ℕ) → ((k : ℕ) → k < n → f k ≡ 0) → sum_below f n ≡ 0
 sum_below-none f zero none = refl

@@ -6,7 +6,7 @@ use Rattle.digit_tuple.specs.Deterministic.{Automaton, IsSet, with_state, states
 use Rattle.digit_tuple.specs.declared.direction.Direction.{Direction}
 use Rattle.digit_tuple.specs.declared.direction.Direction.TheVariants.{Msd, Lsd}
 use Rattle.digit_tuple.proofs.PaddingLemmas.{length-in_order}
-use Rattle.num_system.specs.Words.{is_plain}
+use Rattle.numeration.specs.Words.{is_plain}
 use Rattle.constants.specs.WordPaths.{IsPathTo, IsPaddingZero, IsPaddingPath, padding_front}
 use Rattle.constants.proofs.AddedStates.{states_of-added, accepting_of-kept, accepting_of-new, step_of-added}
 

@@ -4,8 +4,8 @@ use Rattle.digit_tuple.specs.Letters.{IsWord}
 use Rattle.digit_tuple.specs.Paddings.{in_order}
 use Rattle.digit_tuple.specs.Deterministic.{Automaton}
 use Rattle.digit_tuple.specs.declared.direction.Direction.{Direction}
-use Rattle.num_system.specs.Systems.{System, IsNumeral}
-use Rattle.num_system.specs.Relations.{HoldsOf}
+use Rattle.numeration.specs.Systems.{System, IsNumeral}
+use Rattle.numeration.specs.Relations.{HoldsOf}
 
 -- the automaton accepts the spellings of the number alone
 abbrev pub IsConstantOf : Direction → System → ℕ → Automaton → Type 0

@@ -4,7 +4,7 @@ use Rattle.std.specs.List.{count_by}
 use Rattle.digit_tuple.specs.Deterministic.{Automaton, accepts_of}
 use Rattle.digit_tuple.specs.Paddings.{in_order}
 use Rattle.digit_tuple.specs.declared.direction.Direction.{Direction}
-use Rattle.num_system.specs.Words.{led, words}
+use Rattle.numeration.specs.Words.{led, words}
 
 -- the language of an automaton, its words read from the most significant digit on
 abbrev pub read : Direction → Automaton → List ℕ → Bool

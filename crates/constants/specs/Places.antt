@@ -2,7 +2,7 @@
 use Rattle.std.specs.Prelude.{◌≡◌, ℕ, Bool, ◌&&◌, List, length, IsTrue}
 use Rattle.std.specs.List.{count_by}
 use Rattle.digit_tuple.specs.Letters.{IsWord}
-use Rattle.num_system.specs.Words.{words, is_less}
+use Rattle.numeration.specs.Words.{words, is_less}
 
 -- the word of the language of a length before which so many of that length stand
 pub record IsAtPlace (d : ℕ) (test : List ℕ → Bool) (n place : ℕ) (w : List ℕ) : Type 0 where

@@ -6,7 +6,7 @@ use Rattle.std.specs.Option.{option_map_or}
 use Rattle.digit_tuple.specs.Deterministic.{Automaton, accepts_from, run_of, letters_of, states_of}
 use Rattle.digit_tuple.specs.declared.direction.Direction.{Direction}
 use Rattle.digit_tuple.specs.declared.direction.Direction.TheVariants.{Msd, Lsd}
-use Rattle.num_system.specs.Words.{words}
+use Rattle.numeration.specs.Words.{words}
 
 -- a number, or the greatest of 128 bits where it is above that
 abbrev pub capped : ℕ → ℕ

@@ -9,7 +9,7 @@ ghost use Rattle.std.specs.Result.{IsErrOf};
 ghost use Rattle.digit_tuple.specs.Deterministic.{IsTable, letters_of, states_of};
 ghost use Rattle.digit_tuple.specs.declared.direction.Direction.{Direction};
 ghost use Rattle.num_system.specs.Sealed.{system_of};
-ghost use Rattle.num_system.specs.Systems.{IsRep};
+ghost use Rattle.numeration.specs.Systems.{IsRep};
 ghost use Rattle.constants.specs.Continuations.{read, continuations};
 ghost use Rattle.constants.specs.WordCounts.{AreCounts, AreRows};
 ghost use Rattle.constants.specs.Fronts.{IsFront, Fits};

@@ -4,7 +4,7 @@ ghost use Rattle.std.specs.Prelude.{◌≡◌, ◌<◌, ◌^◌, ◌↔◌, ℕ,
 ghost use Rattle.digit_tuple.specs.Deterministic.{accepts_of};
 ghost use Rattle.digit_tuple.specs.Letters.{IsWord, product};
 ghost use Rattle.digit_tuple.specs.Paddings.{in_order, without_zeros};
-ghost use Rattle.num_system.specs.Words.{is_plain};
+ghost use Rattle.numeration.specs.Words.{is_plain};
 ghost use Rattle.constants.specs.WordPaths.{IsPathTo, IsPaddingPath, padding_front};
 
 use digit_tuple::alphabet::Alphabet;

@@ -23,15 +23,16 @@ use Rattle.product_op.specs.Tracks.{joint_sizes}
 use Rattle.product_op.specs.Validity.{language_at, is_valid}
 use Rattle.product_op.specs.Products.{in_product}
 use Rattle.product_op.proofs.SizeLemmas.{AreDistinct-ordered}
-use Rattle.num_system.specs.Systems.{System}
-use Rattle.num_system.specs.Spelling.{sizes_of, letters_in}
-use Rattle.num_system.specs.Relations.{HoldsOf}
-use Rattle.num_system.specs.Joined.{system_at, systems_at, joined, IsBound, AreLanguagesOf}
+use Rattle.numeration.specs.Systems.{System}
+use Rattle.numeration.specs.Spelling.{sizes_of, letters_in}
+use Rattle.numeration.specs.Relations.{HoldsOf}
+use Rattle.numeration.specs.SomeTracks.{system_at, systems_at}
+use Rattle.num_system.specs.Joined.{joined, IsBound, AreLanguagesOf}
 use Rattle.digit_tuple.proofs.PaddingLemmas.{in_order-map}
-use Rattle.num_system.proofs.TrackLemmas.{track}
-use Rattle.num_system.proofs.PartSpelling.{AreValid}
+use Rattle.numeration.proofs.TrackLemmas.{track}
+use Rattle.numeration.proofs.PartSpelling.{AreValid}
 use Rattle.num_system.proofs.ProductLinks.{product_holds}
-use Rattle.num_system.proofs.ReadingLinks.{valid_read}
+use Rattle.numeration.proofs.ReadingLinks.{valid_read}
 
 -- the place of a name that is among some is among their places
 pub place_among : (names some : List (List ℕ)) (i : ℕ) → AreDistinct names → i < length names → Contains some (get_or names i []) → Contains (places_of names some) i

@@ -8,10 +8,10 @@ use Rattle.std.proofs.lemmas.List.{reverse-append, length-reverse}
 use Rattle.digit_tuple.specs.Paddings.{in_order}
 use Rattle.digit_tuple.specs.declared.direction.Direction.{Direction}
 use Rattle.digit_tuple.specs.declared.direction.Direction.TheVariants.{Msd, Lsd}
-use Rattle.num_system.specs.Words.{is_less, rank, IsLanguage}
-use Rattle.num_system.specs.Relations.{IsCompared}
-use Rattle.num_system.proofs.BelowLemmas.{word_order}
-use Rattle.num_system.proofs.RankLemmas.{less_is_rank}
+use Rattle.numeration.specs.Words.{is_less, rank, IsLanguage}
+use Rattle.numeration.specs.Relations.{IsCompared}
+use Rattle.numeration.proofs.BelowLemmas.{word_order}
+use Rattle.numeration.proofs.RankLemmas.{less_is_rank}
 use Rattle.num_system.specs.PairKeys.{ordering_at, compared_more}
 
 pub then_assoc : (o p q : Ordering) → ordering_then (ordering_then o p) q ≡ ordering_then o (ordering_then p q)

@@ -16,14 +16,14 @@ use Rattle.minimise.specs.Residuals.{SameAfter}
 use Rattle.minimise.specs.Canonical.{IsCanonical}
 use Rattle.minimise.specs.Classes.{next_of, first_of}
 use Rattle.minimise.proofs.LeadLemmas.{lead, accepting_of-lead, accepts_of-first, SameAfter-lead, one_lead}
-use Rattle.num_system.specs.Words.{rank}
-use Rattle.num_system.specs.Systems.{System, IsSystem}
-use Rattle.num_system.specs.Spelling.{Spells, first_track, other_tracks, letters_in}
-use Rattle.num_system.specs.Relations.{IsLanguageOf, HoldsOf, IsPairOf, IsCompared}
+use Rattle.numeration.specs.Words.{rank}
+use Rattle.numeration.specs.Systems.{System, IsSystem}
+use Rattle.numeration.specs.Spelling.{Spells, first_track, other_tracks, letters_in}
+use Rattle.numeration.specs.Relations.{IsLanguageOf, HoldsOf, IsPairOf, IsCompared}
 use Rattle.num_system.specs.Orders.{pair_letters, pair_track, comparison, OrderAlike}
 use Rattle.num_system.specs.PairKeys.{ordering_at, compared_more, at, first_pair, next_pair, is_compared_pair}
 use Rattle.digit_tuple.proofs.PaddingLemmas.{length-in_order, in_order-map}
-use Rattle.num_system.proofs.ConstantLemmas.{one_track}
+use Rattle.numeration.proofs.ConstantLemmas.{one_track}
 use Rattle.num_system.proofs.OrderLemmas.{ordering_at-index, comparison-ranks, wanted_is, joined, joined-nil, joined-step, joined-all}
 
 some_value : (a b : List ℕ) → Some a ≡ Some b → a ≡ b

@@ -10,13 +10,14 @@ use Rattle.digit_tuple.specs.declared.direction.Direction.{Direction}
 use Rattle.product_op.specs.declared.op.Op.{Op}
 use Rattle.product_op.specs.declared.op.Op.TheVariants.{And, AndNot, Or, Xor, Implies, Iff}
 use Rattle.product_op.specs.Connectives.{connective}
-use Rattle.num_system.specs.Systems.{System}
-use Rattle.num_system.specs.Spelling.{sizes_of, letters_in, Spells}
-use Rattle.num_system.specs.Relations.{HoldsOf}
-use Rattle.num_system.specs.Joined.{systems_at, Joined, joined}
+use Rattle.numeration.specs.Systems.{System}
+use Rattle.numeration.specs.Spelling.{sizes_of, letters_in, Spells}
+use Rattle.numeration.specs.Relations.{HoldsOf}
+use Rattle.numeration.specs.SomeTracks.{systems_at}
+use Rattle.num_system.specs.Joined.{Joined, joined}
 use Rattle.digit_tuple.proofs.PaddingLemmas.{IsWord-in_order}
-use Rattle.num_system.proofs.TrackLemmas.{AreNumerals, numerals_from_spelling, spelling_from_numerals}
-use Rattle.num_system.proofs.PartSpelling.{AreValid, ranks, numerals_valid, valid_numerals, holds_at}
+use Rattle.numeration.proofs.TrackLemmas.{AreNumerals, numerals_from_spelling, spelling_from_numerals}
+use Rattle.numeration.proofs.PartSpelling.{AreValid, ranks, numerals_valid, valid_numerals, holds_at}
 
 -- the connective of two truth values tells the connective of what they tell
 pub connective_tells : (op : Op) (b c : Bool) (P Q : Type 0) → IsTrue b ↔ P → IsTrue c ↔ Q → IsTrue (connective op b c) ↔ Joined op P Q

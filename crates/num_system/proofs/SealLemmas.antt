@@ -6,13 +6,13 @@ use Rattle.digit_tuple.specs.Deterministic.{Automaton, letters_of, accepts_of}
 use Rattle.digit_tuple.specs.declared.direction.Direction.{Direction}
 use Rattle.minimise.specs.Residuals.{SameLanguage}
 use Rattle.minimise.specs.Canonical.{IsCanonical}
-use Rattle.num_system.specs.Systems.{System, IsSystem}
-use Rattle.num_system.specs.Spelling.{Spells, letters_in}
-use Rattle.num_system.specs.Relations.{IsLanguageOf, HoldsOf, IsAdderOf}
+use Rattle.numeration.specs.Systems.{System, IsSystem}
+use Rattle.numeration.specs.Spelling.{Spells, letters_in}
+use Rattle.numeration.specs.Relations.{IsLanguageOf, HoldsOf, IsAdderOf}
 use Rattle.num_system.specs.Sealed.{SystemValue, system_of, AreRelationsOf, IsSealed}
 use Rattle.num_system.specs.Sealing.{IsLeastLanguage}
 use Rattle.digit_tuple.proofs.PaddingLemmas.{in_order-twice, IsWord-in_order}
-use Rattle.num_system.proofs.RankLemmas.{same_tests}
+use Rattle.numeration.proofs.RankLemmas.{same_tests}
 use Rattle.digit_tuple.proofs.AcceptedLemmas.{accepted_over}
 
 -- the canonical automaton of the language

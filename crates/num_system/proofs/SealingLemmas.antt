@@ -6,7 +6,7 @@ use Rattle.digit_tuple.specs.Width.{HasApart}
 use Rattle.digit_tuple.specs.Deterministic.{Automaton, letters_of}
 use Rattle.digit_tuple.specs.declared.direction.Direction.{Direction}
 use Rattle.minimise.proofs.ApartLemmas.{apart_within_width}
-use Rattle.num_system.specs.Systems.{System, IsSystem}
+use Rattle.numeration.specs.Systems.{System, IsSystem}
 use Rattle.num_system.specs.Orders.{OrderAlike, pair_letters}
 use Rattle.num_system.specs.Sealing.{IsOrderWithin}
 

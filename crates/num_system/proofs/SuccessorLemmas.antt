@@ -11,13 +11,14 @@ use Rattle.minimise.specs.Tracked.{NamedAutomaton}
 use Rattle.product_op.specs.declared.op.Op.TheVariants.{And, AndNot}
 use Rattle.product_op.specs.Tracks.{joint_sizes}
 use Rattle.digit_tuple.specs.Names.{names_without}
-use Rattle.num_system.specs.Systems.{System, IsSystem}
-use Rattle.num_system.specs.Relations.{HoldsOf, IsLess, IsOrderOf}
-use Rattle.num_system.specs.Joined.{joined, completed}
+use Rattle.numeration.specs.Systems.{System, IsSystem}
+use Rattle.numeration.specs.Relations.{HoldsOf, IsLess, IsOrderOf}
+use Rattle.numeration.specs.SomeTracks.{completed}
+use Rattle.num_system.specs.Joined.{joined}
 use Rattle.num_system.specs.Successor.{IsNext, IsSuccessorOf, name_u, name_x, name_y, order_on, IsProduct, IsProjection, IsChain, chain_sizes}
-use Rattle.num_system.proofs.TrackLemmas.{numerals_from_spelling}
+use Rattle.numeration.proofs.TrackLemmas.{numerals_from_spelling}
 use Rattle.num_system.proofs.NamedLinks.{in_product_holds}
-use Rattle.num_system.proofs.ProjectionLinks.{projection_holds}
+use Rattle.numeration.proofs.ProjectionLinks.{projection_holds}
 
 -- relations that are the same of tuples of as many numbers as there are tracks
 pub holds_same : (way : Direction) (ss : List System) (P Q : List ℕ → Type 0) (d : Automaton) → ((ns : List ℕ) → length ns ≡ length ss → P ns ↔ Q ns) → HoldsOf way ss P d → HoldsOf way ss Q d

@@ -7,11 +7,11 @@ use Rattle.digit_tuple.specs.Paddings.{zeros, without_zeros, in_order}
 use Rattle.digit_tuple.specs.Deterministic.{Automaton, IsSet, with_state, states_of, accepting_of, step_of, accepts_from, accepts_of}
 use Rattle.digit_tuple.specs.declared.direction.Direction.{Direction}
 use Rattle.digit_tuple.specs.declared.direction.Direction.TheVariants.{Msd, Lsd}
-use Rattle.num_system.specs.Words.{rank}
-use Rattle.num_system.specs.Systems.{System, IsSystem, IsRep}
-use Rattle.num_system.specs.Relations.{IsZeroOf}
+use Rattle.numeration.specs.Words.{rank}
+use Rattle.numeration.specs.Systems.{System, IsSystem, IsRep}
+use Rattle.numeration.specs.Relations.{IsZeroOf}
 use Rattle.digit_tuple.proofs.PaddingLemmas.{zeros_in_front}
-use Rattle.num_system.proofs.ConstantLemmas.{constant_holds}
+use Rattle.numeration.proofs.ConstantLemmas.{constant_holds}
 
 -- the empty word is that of 0
 zero_rep : (s : System) → IsSystem s → IsRep s.digits s.test 0 []

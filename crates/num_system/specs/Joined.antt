@@ -7,19 +7,9 @@ use Rattle.digit_tuple.specs.Parts.{picked}
 use Rattle.product_op.specs.declared.op.Op.{Op}
 use Rattle.product_op.specs.declared.op.Op.TheVariants.{And, AndNot, Or, Xor, Implies, Iff}
 use Rattle.product_op.specs.Validity.{language_at}
-use Rattle.num_system.specs.Systems.{System}
-use Rattle.num_system.specs.Relations.{IsLanguageOf}
-
--- what stands for a system that is not there
-abbrev pub no_system : System
-no_system = record { digits = 0; test = λ w. false }
-
-abbrev pub system_at : List System → ℕ → System
-system_at ss place = slice_index_or ss place no_system
-
--- the systems of the tracks at these places
-abbrev pub systems_at : List ℕ → List System → List System
-systems_at places ss = map (system_at ss) places
+use Rattle.numeration.specs.Systems.{System}
+use Rattle.numeration.specs.Relations.{IsLanguageOf}
+use Rattle.numeration.specs.SomeTracks.{system_at}
 
 -- what the connective says of two facts
 abbrev pub Joined : Op → Type 0 → Type 0 → Type 0
@@ -33,10 +23,6 @@ Joined Iff P Q = P ↔ Q
 -- the connective of a relation on the numbers at some places and a relation on those at others
 abbrev pub joined : Op → List ℕ → (List ℕ → Type 0) → List ℕ → (List ℕ → Type 0) → List ℕ → Type 0
 joined op ps P qs Q ns = Joined op (P (picked ps ns)) (Q (picked qs ns))
-
--- the numbers at the places are part of a tuple, a number for each system, of which the relation holds
-abbrev pub completed : List System → List ℕ → (List ℕ → Type 0) → List ℕ → Type 0
-completed ss places holds ms = (ns : List ℕ) × (length ns ≡ length ss) × (picked places ns ≡ ms) × holds ns
 
 -- for `and not` each name of the second argument is one of the first's
 abbrev pub IsBound : Op → List (List ℕ) → List (List ℕ) → Type 0

@@ -1,7 +1,8 @@
-pub mod Words
-pub mod Systems
-pub mod Spelling
-pub mod Relations
+pub use Rattle.numeration.specs.Words
+pub use Rattle.numeration.specs.Systems
+pub use Rattle.numeration.specs.Spelling
+pub use Rattle.numeration.specs.Relations
+pub use Rattle.numeration.specs.SomeTracks
 pub mod Sealed
 pub mod Orders
 pub mod PairKeys

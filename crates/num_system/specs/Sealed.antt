@@ -4,8 +4,8 @@ use Rattle.digit_tuple.specs.Deterministic.{Automaton, accepts_of}
 use Rattle.digit_tuple.specs.Paddings.{in_order}
 use Rattle.digit_tuple.specs.declared.direction.Direction.{Direction}
 use Rattle.minimise.specs.Canonical.{IsCanonical}
-use Rattle.num_system.specs.Systems.{System, IsSystem}
-use Rattle.num_system.specs.Relations.{IsLanguageOf, IsAdderOf, IsEqualityOf, IsOrderOf, IsZeroOf}
+use Rattle.numeration.specs.Systems.{System, IsSystem}
+use Rattle.numeration.specs.Relations.{IsLanguageOf, IsAdderOf, IsEqualityOf, IsOrderOf, IsZeroOf}
 use Rattle.num_system.specs.Successor.{IsSuccessorOf}
 use Rattle.num_system.specs.declared.relations.Relations.{Relations}
 

@@ -5,8 +5,8 @@ use Rattle.digit_tuple.specs.Letters.{IsAlphabet, IsTooLarge}
 use Rattle.digit_tuple.specs.Width.{HasApart, HasWidth}
 use Rattle.digit_tuple.specs.declared.direction.Direction.{Direction}
 use Rattle.minimise.specs.Canonical.{IsCanonical}
-use Rattle.num_system.specs.Systems.{System}
-use Rattle.num_system.specs.Relations.{IsLanguageOf, IsOrderOf}
+use Rattle.numeration.specs.Systems.{System}
+use Rattle.numeration.specs.Relations.{IsLanguageOf, IsOrderOf}
 use Rattle.num_system.specs.Orders.{OrderAlike, pair_sizes, pair_letters}
 use Rattle.num_system.specs.Successor.{AreWithin, Exceeds, chain_sizes}
 

@@ -13,8 +13,8 @@ use Rattle.product_op.specs.Tracks.{joint_sizes}
 use Rattle.product_op.specs.Products.{in_product, ProductAlike}
 use Rattle.project_close.specs.Projection.{InProjection, ProjectionAlike}
 use Rattle.project_close.specs.StayingTracks.{staying_places, staying_sizes}
-use Rattle.num_system.specs.Systems.{System}
-use Rattle.num_system.specs.Relations.{HoldsOf}
+use Rattle.numeration.specs.Systems.{System}
+use Rattle.numeration.specs.Relations.{HoldsOf}
 
 -- the second number is one more than the first
 abbrev pub IsNext : List ℕ → Type 0

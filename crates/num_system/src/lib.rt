@@ -2,7 +2,10 @@
 #![tactic(auto)]
 
 /// What a numeration system gives, and its laws.
-pub mod num_system;
+pub use numeration::num_system;
+
+/// Laws of the definitions.
+pub use numeration::laws;
 
 /// Pairs of words that are read side by side.
 mod pairs;
@@ -24,6 +27,3 @@ pub mod system;
 
 /// How a system is sealed.
 pub mod seal;
-
-/// Laws of the definitions.
-pub mod laws;

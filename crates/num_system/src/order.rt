@@ -5,8 +5,8 @@ ghost use Rattle.std.specs.Result.{IsErrOf};
 ghost use Rattle.digit_tuple.specs.Letters.{IsTooLarge};
 ghost use Rattle.digit_tuple.specs.Width.{HasApart, HasWidth};
 ghost use Rattle.minimise.specs.Canonical.{IsCanonical};
-ghost use Rattle.num_system.specs.Systems.{System, IsSystem};
-ghost use Rattle.num_system.specs.Relations.{IsLanguageOf, IsOrderOf, IsEqualityOf};
+ghost use Rattle.numeration.specs.Systems.{System, IsSystem};
+ghost use Rattle.numeration.specs.Relations.{IsLanguageOf, IsOrderOf, IsEqualityOf};
 ghost use Rattle.num_system.specs.Orders.{OrderAlike, pair_sizes, pair_letters};
 
 use crate::pairs::compared;

@@ -7,8 +7,8 @@ ghost use Rattle.std.specs.Result.{IsErrOf};
 ghost use Rattle.digit_tuple.specs.Letters.{IsTooLarge};
 ghost use Rattle.digit_tuple.specs.Width.{HasApart, HasWidth};
 ghost use Rattle.minimise.specs.Canonical.{IsCanonical};
-ghost use Rattle.num_system.specs.Systems.{System, IsSystem};
-ghost use Rattle.num_system.specs.Relations.{IsLanguageOf, HoldsOf, IsPairOf, IsCompared};
+ghost use Rattle.numeration.specs.Systems.{System, IsSystem};
+ghost use Rattle.numeration.specs.Relations.{IsLanguageOf, HoldsOf, IsPairOf, IsCompared};
 ghost use Rattle.num_system.specs.Orders.{OrderAlike, pair_sizes, pair_letters};
 ghost use Rattle.num_system.specs.PairKeys.{ordering_at, compared_more, first_pair, next_pair, is_compared_pair};
 

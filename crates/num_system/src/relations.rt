@@ -5,13 +5,13 @@ ghost use Rattle.std.specs.Result.{IsErrOf};
 ghost use Rattle.digit_tuple.specs.Letters.{IsAlphabet, IsTooLarge};
 ghost use Rattle.digit_tuple.specs.Width.{HasApart};
 ghost use Rattle.minimise.specs.Canonical.{IsCanonical};
-ghost use Rattle.num_system.specs.Systems.{System, IsSystem};
-ghost use Rattle.num_system.specs.Relations.{IsLanguageOf, IsOrderOf, IsEqualityOf};
+ghost use Rattle.numeration.specs.Systems.{System, IsSystem};
+ghost use Rattle.numeration.specs.Relations.{IsLanguageOf, IsOrderOf, IsEqualityOf};
 ghost use Rattle.num_system.specs.Orders.{OrderAlike, pair_sizes, pair_letters};
 ghost use Rattle.num_system.specs.Sealed.{AreRelationsOf};
 ghost use Rattle.num_system.specs.Sealing.{IsLeastLanguage, IsOrderWithin, IsSealedWithin, ExceedsByLetters, ExceedsByStates};
 
-use crate::num_system::NumSystem;
+use numeration::num_system::NumSystem;
 use crate::order::{equality_of, order_of};
 use crate::successor::successor_of;
 use crate::zero::zero_of;

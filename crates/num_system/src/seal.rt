@@ -5,7 +5,7 @@ ghost use Rattle.std.specs.Result.{IsErrOf};
 ghost use Rattle.num_system.specs.Sealed.{SystemValue, system_of};
 ghost use Rattle.num_system.specs.Sealing.{IsSealedWithin, ExceedsByLetters, ExceedsByStates};
 
-use crate::num_system::NumSystem;
+use numeration::num_system::NumSystem;
 use crate::relations::relations_of;
 use crate::system::System;
 use digit_tuple::faults::OpFault;

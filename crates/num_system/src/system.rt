@@ -2,8 +2,8 @@
 
 ghost use Rattle.std.specs.Prelude.{◌≡◌};
 ghost use Rattle.minimise.specs.Canonical.{IsCanonical};
-ghost use Rattle.num_system.specs.Systems.{IsSystem};
-ghost use Rattle.num_system.specs.Relations.{IsLanguageOf, IsAdderOf, IsEqualityOf, IsOrderOf, IsZeroOf};
+ghost use Rattle.numeration.specs.Systems.{IsSystem};
+ghost use Rattle.numeration.specs.Relations.{IsLanguageOf, IsAdderOf, IsEqualityOf, IsOrderOf, IsZeroOf};
 ghost use Rattle.num_system.specs.Successor.{IsSuccessorOf};
 ghost use Rattle.num_system.specs.Sealed.{SystemValue, system_of, sealed_of, IsSealed};
 

@@ -4,8 +4,8 @@ ghost use Rattle.std.specs.Prelude.{◌≡◌, ◌<◌, [], ◌∷◌, IfOk};
 ghost use Rattle.digit_tuple.specs.Deterministic.{letters_of};
 ghost use Rattle.digit_tuple.specs.declared.direction.Direction.{Direction};
 ghost use Rattle.minimise.specs.Canonical.{IsCanonical};
-ghost use Rattle.num_system.specs.Systems.{System, IsSystem};
-ghost use Rattle.num_system.specs.Relations.{IsZeroOf};
+ghost use Rattle.numeration.specs.Systems.{System, IsSystem};
+ghost use Rattle.numeration.specs.Relations.{IsZeroOf};
 
 use digit_tuple::dfa::Dfa;
 use digit_tuple::dfa_builder::DfaBuilder;

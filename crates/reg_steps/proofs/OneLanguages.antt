@@ -5,8 +5,8 @@ use Rattle.digit_tuple.specs.Deterministic.{Automaton}
 use Rattle.digit_tuple.specs.declared.direction.Direction.{Direction}
 use Rattle.minimise.proofs.CanonicalLemmas.{canonical_forms}
 use Rattle.product_op.specs.Validity.{AreLanguages, language_at, no_language}
-use Rattle.num_system.specs.Systems.{System}
-use Rattle.num_system.specs.Spelling.{sizes_of}
+use Rattle.numeration.specs.Systems.{System}
+use Rattle.numeration.specs.Spelling.{sizes_of}
 use Rattle.reg_steps.specs.Relations.{IsSystemLanguage, AreSystemLanguages}
 use Rattle.reg_steps.proofs.SpelledWords.{no_system}
 

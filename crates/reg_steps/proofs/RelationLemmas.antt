@@ -12,11 +12,11 @@ use Rattle.digit_tuple.proofs.TupleLemmas.{tuples_from_word, IsWord-codes}
 use Rattle.minimise.proofs.CanonicalLemmas.{canonical_forms}
 use Rattle.product_op.specs.Validity.{is_valid}
 use Rattle.project_close.specs.Padding.{IsPadded}
-use Rattle.num_system.specs.Systems.{System, AreSystems}
-use Rattle.num_system.specs.Spelling as spelling
-use Rattle.num_system.specs.Spelling.{Spells, letters_in}
+use Rattle.numeration.specs.Systems.{System, AreSystems}
+use Rattle.numeration.specs.Spelling as spelling
+use Rattle.numeration.specs.Spelling.{Spells, letters_in}
 use Rattle.digit_tuple.proofs.PaddingLemmas.{IsWord-in_order}
-use Rattle.num_system.proofs.SpellLemmas.{spellings}
+use Rattle.numeration.proofs.SpellLemmas.{spellings}
 use Rattle.regex_build.specs.Expression.{Expression}
 use Rattle.reg_steps.specs.RelationSteps.{AreRelationSteps}
 use Rattle.reg_steps.specs.Relations.{HasMatch, IsRelation, AreSystemLanguages}

@@ -9,10 +9,10 @@ use Rattle.digit_tuple.specs.Parts.{part}
 use Rattle.digit_tuple.specs.Paddings.{in_order}
 use Rattle.digit_tuple.specs.declared.direction.Direction.{Direction}
 use Rattle.product_op.specs.Validity.{language_at, is_valid}
-use Rattle.num_system.specs.Words.{rank}
-use Rattle.num_system.specs.Systems.{System, IsNumeral}
-use Rattle.num_system.specs.Spelling.{Spells, sizes_of}
-use Rattle.num_system.proofs.TrackLemmas.{track, numerals_from_spelling, spelling_from_numerals}
+use Rattle.numeration.specs.Words.{rank}
+use Rattle.numeration.specs.Systems.{System, IsNumeral}
+use Rattle.numeration.specs.Spelling.{Spells, sizes_of}
+use Rattle.numeration.proofs.TrackLemmas.{track, numerals_from_spelling, spelling_from_numerals}
 use Rattle.reg_steps.specs.Relations.{AreSystemLanguages}
 use Rattle.reg_steps.proofs.DirectionLemmas.{part-in_order}
 

@@ -4,8 +4,8 @@ use Rattle.digit_tuple.specs.Deterministic.{Automaton}
 use Rattle.digit_tuple.specs.Sets.{sizes_of}
 use Rattle.digit_tuple.specs.declared.direction.Direction.{Direction}
 use Rattle.digit_tuple.specs.declared.steps.StepLine.{StepLine}
-use Rattle.num_system.specs.Systems.{System, AreSystems}
-use Rattle.num_system.specs.Spelling as spelling
+use Rattle.numeration.specs.Systems.{System, AreSystems}
+use Rattle.numeration.specs.Spelling as spelling
 use Rattle.regex_build.specs.Expression.{Expression}
 use Rattle.reg_steps.specs.RelationSteps.{AreRelationSteps}
 use Rattle.reg_steps.specs.Relations.{IsRelation, AreSystemLanguages}

@@ -6,9 +6,9 @@ use Rattle.digit_tuple.specs.Paddings.{in_order}
 use Rattle.digit_tuple.specs.Tuples.{Codes}
 use Rattle.digit_tuple.specs.declared.direction.Direction.{Direction}
 use Rattle.minimise.specs.Canonical.{IsCanonical}
-use Rattle.num_system.specs.Systems.{System}
-use Rattle.num_system.specs.Spelling.{Spells, sizes_of, letters_in}
-use Rattle.num_system.specs.Relations.{IsLanguageOf}
+use Rattle.numeration.specs.Systems.{System}
+use Rattle.numeration.specs.Spelling.{Spells, sizes_of, letters_in}
+use Rattle.numeration.specs.Relations.{IsLanguageOf}
 use Rattle.product_op.specs.Validity.{language_at}
 use Rattle.regex_build.specs.Expression.{Expression}
 use Rattle.regex_build.specs.Matches.{Matches}

@@ -9,8 +9,8 @@ use Rattle.digit_tuple.specs.declared.systems.SystemTrack.{SystemTrack}
 use Rattle.minimise.specs.Canonical.{IsCanonical}
 use Rattle.minimise.specs.Residuals.{SameLanguage}
 use Rattle.product_op.specs.Validity.{language_at, no_language}
-use Rattle.num_system.specs.Systems.{System}
-use Rattle.num_system.specs.Relations.{IsLanguageOf}
+use Rattle.numeration.specs.Systems.{System}
+use Rattle.numeration.specs.Relations.{IsLanguageOf}
 use Rattle.num_system.proofs.SealLemmas.{language_kept}
 use Rattle.base_k.specs.declared.base_k.BaseK.{BaseK}
 use Rattle.base_k.specs.Positional.{base}

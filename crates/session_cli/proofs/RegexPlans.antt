@@ -11,8 +11,8 @@ use Rattle.regex_build.specs.Parsing.{Parses}
 use Rattle.dfa_text.specs.Meaning.{AreTrackSets}
 use Rattle.dfa_text.specs.RelationText.{relation_text}
 use Rattle.product_op.specs.Validity.{AreLanguages}
-use Rattle.num_system.specs.Systems.{AreSystems}
-use Rattle.num_system.specs.Spelling as spelling
+use Rattle.numeration.specs.Systems.{AreSystems}
+use Rattle.numeration.specs.Spelling as spelling
 use Rattle.base_k.specs.BaseLaws.{base_is_system}
 use Rattle.reg_steps.specs.declared.fault.StepFault.{StepFault}
 use Rattle.reg_steps.specs.declared.fault.StepFault.TheVariants as step_faults

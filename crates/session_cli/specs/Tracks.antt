@@ -4,7 +4,7 @@ use Rattle.digit_tuple.specs.Systems.{digit_sets}
 use Rattle.digit_tuple.specs.declared.direction.Direction.{Direction}
 use Rattle.digit_tuple.specs.declared.header.Header.{Header}
 use Rattle.digit_tuple.specs.declared.header.Header.TheVariants as headers
-use Rattle.num_system.specs.Systems.{System}
+use Rattle.numeration.specs.Systems.{System}
 use Rattle.base_k.specs.Positional.{base}
 use Rattle.session_cli.specs.BaseSystems.{AreBases, base_tracks}
 

@@ -15,7 +15,7 @@ use digit_tuple::name::Name;
 use digit_tuple::systems::Systems;
 use itoa::Buffer;
 use minimise::canonical::canonical;
-use num_system::num_system::NumSystem;
+use numeration::num_system::NumSystem;
 use std::alloc::Global;
 use std::rc::Rc;
 

@@ -4,7 +4,7 @@ use Rattle.digit_tuple.specs.Letters.{product}
 use Rattle.digit_tuple.specs.Deterministic.{Automaton, IsTable}
 use Rattle.digit_tuple.specs.DfaRows.{states_in}
 use Rattle.digit_tuple.specs.declared.dfa.DfaState.{DfaState}
-use Rattle.num_system.specs.Relations.{IsAdderOf}
+use Rattle.numeration.specs.Relations.{IsAdderOf}
 use Rattle.base_k.specs.Positional.{base}
 use Rattle.base_k.proofs.TableLemmas.{AreCarryStates, adder_table, adder_holds}
 use Rattle.base_k.proofs.automata.adder_in.Goals as goal

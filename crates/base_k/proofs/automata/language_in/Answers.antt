@@ -4,7 +4,7 @@ use Rattle.digit_tuple.specs.Deterministic.{Automaton}
 use Rattle.digit_tuple.specs.DfaRows.{states_in}
 use Rattle.digit_tuple.specs.declared.dfa.DfaState.{DfaState}
 use Rattle.digit_tuple.specs.declared.direction.Direction.{Direction}
-use Rattle.num_system.specs.Relations.{IsLanguageOf}
+use Rattle.numeration.specs.Relations.{IsLanguageOf}
 use Rattle.base_k.specs.Positional.{base}
 use Rattle.base_k.proofs.TableLemmas.{language_holds}
 use Rattle.base_k.proofs.automata.language_in.Goals as goal

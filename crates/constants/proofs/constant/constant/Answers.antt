@@ -3,7 +3,7 @@ use Rattle.digit_tuple.specs.Deterministic.{Automaton, accepts_of}
 use Rattle.digit_tuple.specs.Paddings.{in_order, without_zeros}
 use Rattle.digit_tuple.specs.Width.{HasWidth}
 use Rattle.digit_tuple.specs.declared.direction.Direction.{Direction}
-use Rattle.num_system.specs.Systems.{IsRep}
+use Rattle.numeration.specs.Systems.{IsRep}
 use Rattle.num_system.specs.Sealed.{system_of}
 use Rattle.constants.specs.Constants.{ConstantAlike}
 use Rattle.constants.specs.WordPaths.{IsPaddingPath}

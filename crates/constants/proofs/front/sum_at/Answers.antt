@@ -1,6 +1,6 @@
 use Rattle.std.proofs.Common.{◌≡◌, ℕ, false, cond, get_or, ap, ◌∙◌, arith}
 use Rattle.digit_tuple.specs.Deterministic.{states_of}
-use Rattle.num_system.proofs.CountLemmas.{sum_below}
+use Rattle.numeration.proofs.CountLemmas.{sum_below}
 use Rattle.constants.specs.WordCounts.{capped}
 use Rattle.constants.proofs.FrontLemmas.{marks-sum}
 use Rattle.constants.proofs.front.sum_at.Goals as goal

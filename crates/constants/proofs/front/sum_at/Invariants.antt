@@ -1,5 +1,5 @@
 use Rattle.std.proofs.Common.{◌≡◌, false, cond, slice_index_or}
-use Rattle.num_system.proofs.CountLemmas.{sum_below}
+use Rattle.numeration.proofs.CountLemmas.{sum_below}
 use Rattle.constants.specs.WordCounts.{capped}
 use Rattle.constants.proofs.front.sum_at.Given as goal
 

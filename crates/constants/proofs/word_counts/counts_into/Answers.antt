@@ -3,7 +3,7 @@ use Rattle.std.specs.List.{sum_by}
 use Rattle.std.proofs.Math.Seq.{take-append_seam}
 use Rattle.digit_tuple.specs.declared.edges.Edge.{Edge}
 use Rattle.digit_tuple.specs.Deterministic.{states_of}
-use Rattle.num_system.proofs.CountLemmas.{sum_below}
+use Rattle.numeration.proofs.CountLemmas.{sum_below}
 use Rattle.constants.specs.WordCounts.{capped}
 use Rattle.constants.proofs.CountSteps.{brought, brought-more, words_into-suc}
 use Rattle.constants.proofs.word_counts.counts_into.Goals as goal

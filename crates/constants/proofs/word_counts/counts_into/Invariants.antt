@@ -1,7 +1,7 @@
 use Rattle.std.proofs.Common.{◌≡◌, ℕ, ◌<◌, length, slice_index_or}
 use Rattle.digit_tuple.specs.Deterministic.{states_of}
 use Rattle.digit_tuple.specs.declared.direction.Direction.TheVariants.{Lsd}
-use Rattle.num_system.proofs.CountLemmas.{sum_below}
+use Rattle.numeration.proofs.CountLemmas.{sum_below}
 use Rattle.constants.specs.WordCounts.{capped, AreCounts}
 use Rattle.constants.proofs.CountSteps.{brought}
 use Rattle.constants.proofs.word_counts.counts_into.Given as goal

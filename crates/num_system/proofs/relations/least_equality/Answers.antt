@@ -1,7 +1,7 @@
 use Rattle.std.proofs.Common.{rules, ◌+◌, [], ◌∷◌}
 use Rattle.digit_tuple.specs.Width.{HasApart}
 use Rattle.num_system.specs.Orders.{OrderAlike, pair_letters}
-use Rattle.num_system.specs.Relations.{IsEqual}
+use Rattle.numeration.specs.Relations.{IsEqual}
 use Rattle.num_system.proofs.SealLemmas.{relation_kept}
 use Rattle.num_system.proofs.SealingLemmas.{none_beyond}
 use Rattle.num_system.proofs.relations.least_equality.Goals as goal

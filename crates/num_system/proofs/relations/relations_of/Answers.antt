@@ -5,7 +5,7 @@ use Rattle.digit_tuple.specs.Width.{HasApart}
 use Rattle.digit_tuple.specs.declared.direction.Direction.{Direction}
 use Rattle.digit_tuple.specs.declared.faults.OpFault.TheVariants.{States}
 use Rattle.num_system.specs.Orders.{OrderAlike, pair_sizes, pair_letters}
-use Rattle.num_system.specs.Relations.{IsLanguageOf, IsOrderOf}
+use Rattle.numeration.specs.Relations.{IsLanguageOf, IsOrderOf}
 use Rattle.num_system.specs.Sealed.{AreRelationsOf}
 use Rattle.num_system.specs.Sealing.{IsOrderWithin, letters_at_order, letters_at_successor, states_at_order, states_at_successor}
 use Rattle.num_system.specs.Successor.{Exceeds, chain_sizes}

@@ -3,7 +3,7 @@ use Rattle.std.proofs.lemmas.Result.{err_from_is_err_and}
 use Rattle.digit_tuple.specs.Deterministic.{Automaton}
 use Rattle.digit_tuple.specs.declared.direction.Direction.{Direction}
 use Rattle.digit_tuple.specs.declared.faults.OpFault.TheVariants.{States}
-use Rattle.num_system.specs.Relations.{IsLanguageOf, IsSum}
+use Rattle.numeration.specs.Relations.{IsLanguageOf, IsSum}
 use Rattle.num_system.specs.Sealed.{system_of, sealed_of}
 use Rattle.num_system.specs.Sealing.{IsLeastLanguage}
 use Rattle.num_system.proofs.SealLemmas.{language_kept, relation_kept, same_system, sealed_from}

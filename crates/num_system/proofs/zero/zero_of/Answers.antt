@@ -2,7 +2,7 @@ use Rattle.std.proofs.Common.{◌≡◌, [], ◌∷◌, sym, ap, ◌∙◌, subs
 use Rattle.std.proofs.lemmas.Result.{IfOk-weaker}
 use Rattle.digit_tuple.specs.Deterministic.{Automaton}
 use Rattle.minimise.specs.Residuals.{SameLanguage}
-use Rattle.num_system.specs.Relations.{IsZero}
+use Rattle.numeration.specs.Relations.{IsZero}
 use Rattle.num_system.proofs.PairLemmas.{both_ok}
 use Rattle.num_system.proofs.SealLemmas.{relation_kept}
 use Rattle.num_system.proofs.ZeroLemmas.{StaysByZero, set_by_zero, zero_holds}

@@ -1,6 +1,6 @@
 use Rattle.std.proofs.lemmas.Result.{IfOk-weaker}
 use Rattle.digit_tuple.specs.declared.direction.Direction.{Direction}
-use Rattle.num_system.specs.Relations.{IsLanguageOf}
+use Rattle.numeration.specs.Relations.{IsLanguageOf}
 use Rattle.base_k.specs.Positional.{base}
 use Rattle.base_k.proofs.base_k.BaseKNumSystem.language.Goals as goal
 

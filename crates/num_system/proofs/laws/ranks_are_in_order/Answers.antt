@@ -1,5 +1,0 @@
-use Rattle.num_system.proofs.RankLemmas.{less_is_rank}
-use Rattle.num_system.proofs.laws.ranks_are_in_order.Goals as goal
-
-pub returns : goal.returns
-returns c = less_is_rank

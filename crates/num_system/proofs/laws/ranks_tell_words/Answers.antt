@@ -1,5 +1,0 @@
-use Rattle.num_system.proofs.RankLemmas.{strip_from_rank}
-use Rattle.num_system.proofs.laws.ranks_tell_words.Goals as goal
-
-pub returns : goal.returns
-returns c = strip_from_rank

@@ -1,0 +1,10 @@
+pub mod CountLemmas
+pub mod PlainLemmas
+pub mod BelowLemmas
+pub mod RankLemmas
+pub mod SpellLemmas
+pub mod TrackLemmas
+pub mod ConstantLemmas
+pub mod PartSpelling
+pub mod ReadingLinks
+pub mod ProjectionLinks

@@ -1,0 +1,49 @@
+-- Words that spell tuples, track by track.
+use Rattle.std.proofs.Common.{◌≡◌, ℕ, zero, suc, ◌/◌, ◌%◌, ◌<◌, List, [], ◌∷◌, get_or, length, refl, ap, sym, ◌∙◌, subst, arith}
+use Rattle.std.proofs.lemmas.Simd.{map-map}
+use Rattle.digit_tuple.specs.Parts.{part, letter_part}
+use Rattle.numeration.specs.Systems.{System, IsNumeral}
+use Rattle.numeration.specs.Spelling.{sizes_of, letters_in, first_track, other_tracks, Spells}
+
+-- the track at a place
+abbrev pub track : List System → ℕ → List ℕ → List ℕ
+track ss i w = part (sizes_of ss) (i ∷ []) w
+
+pub track-first : (s : System) (ss : List System) (w : List ℕ) → track (s ∷ ss) 0 w ≡ first_track ss w
+track-first s ss [] = refl
+track-first s ss (a ∷ w) =
+    let same : letter_part (sizes_of (s ∷ ss)) (0 ∷ []) a ≡ a / letters_in ss = omega arith in
+    ap (λ n. n ∷ track (s ∷ ss) 0 w) same ∙ ap (λ v. (a / letters_in ss) ∷ v) (track-first s ss w)
+
+pub track-other : (s : System) (ss : List System) (i : ℕ) (w : List ℕ) → track (s ∷ ss) (suc i) w ≡ track ss i (other_tracks ss w)
+track-other s ss i w = sym (map-map (letter_part (sizes_of ss) (i ∷ [])) (λ a. a % letters_in ss) w)
+
+-- each track is a numeral of the number at its place
+pub record AreNumerals (ss : List System) (w ns : List ℕ) : Type 0 where
+  pub count : length ns ≡ length ss
+  pub each : (i : ℕ) (d : System) → i < length ss → IsNumeral (get_or ss i d) (track ss i w) (get_or ns i 0)
+
+one_more_numeral : (s : System) (ss : List System) (w : List ℕ) (n : ℕ) (ns : List ℕ) → IsNumeral s (first_track ss w) n → AreNumerals ss (other_tracks ss w) ns → AreNumerals (s ∷ ss) w (n ∷ ns)
+one_more_numeral s ss w n ns first rest = record { count = ap suc rest.count; each = at }
+  where
+    at : (i : ℕ) (d : System) → i < suc (length ss) → IsNumeral (get_or (s ∷ ss) i d) (track (s ∷ ss) i w) (get_or (n ∷ ns) i 0)
+    at zero d within = subst (λ v. IsNumeral s v n) (sym (track-first s ss w)) first
+    at (suc i) d within = subst (λ v. IsNumeral (get_or ss i d) v (get_or ns i 0)) (sym (track-other s ss i w)) (rest.each i d (omega (arith, within)))
+
+pub numerals_from_spelling : (ss : List System) (w ns : List ℕ) → Spells ss w ns → AreNumerals ss w ns
+numerals_from_spelling [] w [] spelled = record { count = refl; each = λ i d within. absurd (omega (arith, within)) }
+numerals_from_spelling [] w (n ∷ ns) spelled = absurd spelled
+numerals_from_spelling (s ∷ ss) w [] spelled = absurd spelled
+numerals_from_spelling (s ∷ ss) w (n ∷ ns) spelled = one_more_numeral s ss w n ns spelled.0 (numerals_from_spelling ss (other_tracks ss w) ns spelled.1)
+
+pub spelling_from_numerals : (ss : List System) (w ns : List ℕ) → AreNumerals ss w ns → Spells ss w ns
+spelling_from_numerals [] w [] are = tt
+spelling_from_numerals [] w (n ∷ ns) are = absurd (omega (arith, are.count))
+spelling_from_numerals (s ∷ ss) w [] are = absurd (omega (arith, are.count))
+spelling_from_numerals (s ∷ ss) w (n ∷ ns) are = (
+  subst (λ v. IsNumeral s v n) (track-first s ss w) (are.each 0 s (omega arith)),
+  spelling_from_numerals ss (other_tracks ss w) ns (record {
+    count = omega (arith, are.count);
+    each = λ i d within. subst (λ v. IsNumeral (get_or ss i d) v (get_or ns i 0)) (track-other s ss i w) (are.each (suc i) d (omega (arith, within)));
+  }),
+)

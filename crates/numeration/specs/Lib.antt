@@ -1,0 +1,5 @@
+pub mod Words
+pub mod Systems
+pub mod Spelling
+pub mod Relations
+pub mod SomeTracks

@@ -1,0 +1,40 @@
+//! Laws of the definitions, each a call that does nothing.
+
+ghost use Rattle.numeration.specs.Words.{ZerosKeepTheRank, RanksTellWords, RanksAreInOrder};
+ghost use Rattle.numeration.specs.Systems.{NumbersHaveWords, NumbersTellWords};
+ghost use Rattle.numeration.specs.Spelling.{TuplesHaveSpellings, SpellingsArePaddings};
+
+/// Leading zeros do not change the rank of a word.
+pub fn zeros_keep_the_rank()
+    ensures { ZerosKeepTheRank }
+{}
+
+/// Words of one rank differ in leading zeros alone.
+pub fn ranks_tell_words()
+    ensures { RanksTellWords }
+{}
+
+/// Ranks of words of one length are in the order of the words.
+pub fn ranks_are_in_order()
+    ensures { RanksAreInOrder }
+{}
+
+/// Each number is the rank of a word without leading zero.
+pub fn numbers_have_words()
+    ensures { NumbersHaveWords }
+{}
+
+/// Each number is the rank of one word without leading zero alone.
+pub fn numbers_tell_words()
+    ensures { NumbersTellWords }
+{}
+
+/// Each tuple of numbers has a spelling.
+pub fn tuples_have_spellings()
+    ensures { TuplesHaveSpellings }
+{}
+
+/// The spellings of a tuple differ in leading zeros alone.
+pub fn spellings_are_paddings()
+    ensures { SpellingsArePaddings }
+{}
