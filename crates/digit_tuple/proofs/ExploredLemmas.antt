@@ -15,9 +15,10 @@ use Rattle.digit_tuple.specs.Letters.{IsWord, product}
 use Rattle.digit_tuple.specs.Width.{HasApart, HasWidth}
 use Rattle.digit_tuple.proofs.WordLemmas.{IsWord-push}
 use Rattle.digit_tuple.specs.Keys.{key_run, key_accepts, LeadAlike}
-use Rattle.digit_tuple.specs.Explored.{AreApart, key_at, IsStateFrom, Overflows, IsExplored}
+use Rattle.digit_tuple.specs.Explored.{AreApart, key_at, IsExplored}
+use Rattle.digit_tuple.proofs.KeyEdgeLemmas.{IsStateFrom, Overflows}
 use Rattle.digit_tuple.proofs.RowLemmas.{IsFrom, IsFrom-row, gap_of, full_of}
-use Rattle.digit_tuple.proofs.FrontierLemmas.{IsFrontier, IsFrontier-next, IsFrontier-start, IsStateOf, IsStateOf-tried, IsStateOf-grows, LeadsTo, IsTrail, IsTrail-are, IsTrail-front, AreTried, AreTried-steps, NoLater, NoLater-trans, NoLater-push, key_run-push}
+use Rattle.digit_tuple.proofs.FrontierLemmas.{IsFrontier, IsFrontier-next, IsFrontier-start, IsStateOf, IsStateOf-tried, IsStateOf-grows, LeadsTo, IsTrail, IsTrail-are, IsTrail-front, AreTried, AreTried-edges, NoLater, NoLater-trans, NoLater-push, key_run-push}
 
 -- what holds of reads at one default
 pub AllPairs-from_get_or : {X : Type 0} (R : X → X → Type 0) (xs : List X) (e : X) → ((i j : ℕ) → i < j → j < length xs → R (get_or xs i e) (get_or xs j e)) → AllPairs R xs
@@ -93,14 +94,14 @@ module _ (letters : ℕ) (start : List ℕ) (after : List ℕ → ℕ → Option
       size : length (states ++ state ∷ []) ≡ length states + 1
       size = length_push states state
 
-      tried : AreTried letters start after keys e.firsts new (length states) from.steps state.edges
-      tried = AreTried-steps letters start after from.steps state.edges keys e.firsts new (length states) 0 e.frontier here (IsTrail-are letters start after (key_at keys (length states)) from.steps from.are) from.numbered
+      tried : AreTried letters start after keys e.firsts new (length states) from.key_edges state.edges
+      tried = AreTried-edges letters start after from.key_edges state.edges keys e.firsts new (length states) 0 e.frontier here (IsTrail-are letters start after (key_at keys (length states)) from.key_edges from.are) from.numbered
 
       still : length states < length new
       still = omega (arith, tried.keys_grow.more, here)
 
       row : IsStateOf letters start after accepts new tried.more (length states) state
-      row = IsStateOf-tried letters start after accepts keys new tried.more (length states) from.steps state (tried.keys_grow.same (length states) here) from.are tried.led from.accepting_is
+      row = IsStateOf-tried letters start after accepts keys new tried.more (length states) from.key_edges state (tried.keys_grow.same (length states) here) from.are tried.led from.accepting_is
 
       at_last : get_or (states ++ state ∷ []) (length states) no_state ≡ state
       at_last = get_or_push states state no_state (length states) refl
@@ -138,13 +139,13 @@ module _ (letters : ℕ) (start : List ℕ) (after : List ℕ → ℕ → Option
               let found = full_of letters 0 state.edges from_0 (omega (arith, h.0)) a (omega arith) small in
               (found.0, ap (λ (s : State). target_by s.edges a) (get_or_push states state no_state q (omega (arith, size, within))) ∙ found.1)
 
-  -- a step too many
+  -- an edge too many
   pub IsExploring-overflows : (keys new : List (List ℕ)) (states : List State) (gap : Bool) (count : ℕ) → IsExploring keys states gap → length states < length keys
       → Overflows letters (after (key_at keys (length states))) keys new count → HasApart (LeadAlike after start) letters count
   IsExploring-overflows keys new states gap count e here over =
       let trail = IsTrail-front letters start after (key_at keys (length states)) 0 over.some.front over.some.rest
-      (subst (λ ss. IsTrail letters start after (key_at keys (length states)) 0 ss) over.some.steps_are (IsTrail-are letters start after (key_at keys (length states)) over.steps over.are)) in
-      let tried = AreTried-steps letters start after over.some.front over.some.edges keys e.firsts new (length states) 0 e.frontier here trail over.some.numbered in
+      (subst (λ ss. IsTrail letters start after (key_at keys (length states)) 0 ss) over.some.edges_are (IsTrail-are letters start after (key_at keys (length states)) over.key_edges over.are)) in
+      let tried = AreTried-edges letters start after over.some.front over.some.edges keys e.firsts new (length states) 0 e.frontier here trail over.some.numbered in
       subst (HasApart (LeadAlike after start) letters) over.some.count_is (HasApart-firsts letters start after new tried.more (length states) tried.bound tried.frontier)
 
   -- a word that leads to no key too many
@@ -156,7 +157,7 @@ module _ (letters : ℕ) (start : List ℕ) (after : List ℕ → ℕ → Option
   -- where a word leads in the automaton is where it leads in the keys
   pub run_of-explored : (w : List ℕ) (p : ℕ) → p < states_of d → IsWord letters w → MatchOption (run_of d p w) (key_run after (key_at keys p) w ≡ None) (λ t. (t < states_of d) × (key_run after (key_at keys p) w ≡ Some (key_at keys t)))
   run_of-explored [] p within over = (within, refl)
-  run_of-explored (a ∷ w) p within over = by (step_of d p a) (e.steps p a within over.0) (λ t inside. run_of-explored w t inside over.1)
+  run_of-explored (a ∷ w) p within over = by (step_of d p a) (e.edges p a within over.0) (λ t inside. run_of-explored w t inside over.1)
     where
       by : (o : Option ℕ) → MatchOption o (after (key_at keys p) a ≡ None) (λ t. (t < states_of d) × (after (key_at keys p) a ≡ Some (key_at keys t)))
           → ((t : ℕ) → t < states_of d → MatchOption (run_of d t w) (key_run after (key_at keys t) w ≡ None) (λ u. (u < states_of d) × (key_run after (key_at keys t) w ≡ Some (key_at keys u))))
@@ -169,7 +170,7 @@ module _ (letters : ℕ) (start : List ℕ) (after : List ℕ → ℕ → Option
   -- a word is accepted where the keys accept it
   pub accepts_from-explored : (w : List ℕ) (p : ℕ) → p < states_of d → IsWord letters w → accepts_from d p w ≡ key_accepts after accepts (key_at keys p) w
   accepts_from-explored [] p within over = e.accepting p within
-  accepts_from-explored (a ∷ w) p within over = by (step_of d p a) (e.steps p a within over.0) (λ t inside. accepts_from-explored w t inside over.1)
+  accepts_from-explored (a ∷ w) p within over = by (step_of d p a) (e.edges p a within over.0) (λ t inside. accepts_from-explored w t inside over.1)
     where
       by : (o : Option ℕ) → MatchOption o (after (key_at keys p) a ≡ None) (λ t. (t < states_of d) × (after (key_at keys p) a ≡ Some (key_at keys t)))
           → ((t : ℕ) → t < states_of d → accepts_from d t w ≡ key_accepts after accepts (key_at keys t) w)
@@ -211,7 +212,7 @@ module _ (letters : ℕ) (start : List ℕ) (after : List ℕ → ℕ → Option
     start_is = e.frontier.start_is;
     apart = e.frontier.apart;
     accepting = λ q within. (e.rows q within).accepting;
-    steps = λ q a within small. by q a (step_of d q a) ((e.rows q within).leads a small);
+    edges = λ q a within small. by q a (step_of d q a) ((e.rows q within).leads a small);
   }
     where
       by : (q a : ℕ) (o : Option ℕ) → MatchOption o (after (key_at keys q) a ≡ None) (LeadsTo letters start after keys e.firsts q a)
@@ -284,10 +285,10 @@ module _ (letters : ℕ) (start : List ℕ) (after : List ℕ → ℕ → Option
           some_run : (w : List ℕ) (p : ℕ) → p < states_of d → IsWord letters w → ¬ (run_of d p w ≡ None)
           some_run [] p within over none = cc
           some_run (a ∷ w) p within over none =
-              let step = g p a within over.0 in
-              let led : LeadsTo letters start after keys e.firsts p a step.0 =
-              subst (λ o. MatchOption o (after (key_at keys p) a ≡ None) (LeadsTo letters start after keys e.firsts p a)) step.1 ((e.rows p within).leads a over.0) in
-              some_run w step.0 (omega (arith, led.within, done)) over.1 (sym (ap (λ o. option_and_then (λ q. run_of d q w) o) step.1) ∙ none)
+              let next = g p a within over.0 in
+              let led : LeadsTo letters start after keys e.firsts p a next.0 =
+              subst (λ o. MatchOption o (after (key_at keys p) a ≡ None) (LeadsTo letters start after keys e.firsts p a)) next.1 ((e.rows p within).leads a over.0) in
+              some_run w next.0 (omega (arith, led.within, done)) over.1 (sym (ap (λ o. option_and_then (λ q. run_of d q w) o) next.1) ∙ none)
 
           whole : (w : List ℕ) → IsWord letters w → Any (LeadAlike after start w) e.firsts
           whole w over = at (run_of d 0 w) refl (run_of-start letters start after accepts keys d IsExplored-done positive w over)
@@ -306,7 +307,7 @@ module _ (letters : ℕ) (start : List ℕ) (after : List ℕ → ℕ → Option
       (IsExploring-row letters start after accepts keys new (states_in rows) (state_in row) gap now e (omega (arith, at, here))
       (subst (λ n. IsStateFrom letters (after (key_at keys n)) (accepts (key_at keys n)) keys new (state_in row)) at from) short)
 
-  -- a step too many in the code
+  -- an edge too many in the code
   pub IsExploring-refused : (keys new : List (List ℕ)) (rows : List DfaState) (gap : Bool) (p count : ℕ) → IsExploring letters start after accepts keys (states_in rows) gap → p ≡ length (states_in rows) → p < length keys
       → Overflows letters (after (key_at keys p)) keys new count → HasApart (LeadAlike after start) letters count
   IsExploring-refused keys new rows gap p count e at here over =

@@ -19,7 +19,8 @@ pub mod PaddingLemmas
 pub mod WidthLemmas
 pub mod BuilderLemmas
 pub mod NumberingLemmas
-pub mod KeyStepLemmas
+pub mod KeySpanLemmas
+pub mod KeyEdgeLemmas
 pub mod KeyLemmas
 pub mod EdgeLemmas
 pub mod StateLemmas
@@ -28,4 +29,4 @@ pub mod AcceptingStateLemmas
 pub mod RowLemmas
 pub mod FrontierLemmas
 pub mod ExploredLemmas
-pub mod LetterSteps
+pub mod LetterEdges

@@ -1,7 +1,8 @@
 -- Keys of a set in insertion order.
 use Rattle.std.proofs.Common.{◌≡◌, ℕ, ◌+◌, ◌<◌, Bool, true, false, cond, not, if◌then◌else◌, ◌||◌, List, [], ◌∷◌, ◌++◌, map, length, get_or, slice_get, Some, ◌⊎◌, inl, inr, refl, sym, ap, ◌∙◌, true≢false, arith}
 use Rattle.std.specs.Bool.{Decides}
-use Rattle.std.specs.List.{IsDistinct, list_any, position_or_len}
+use Rattle.std.specs.List.{IsDistinct, list_any, position, position_or_len}
+use Rattle.std.proofs.lemmas.List.Quantifiers.{position-Some}
 use Rattle.std.proofs.lemmas.Map.Keys.{apart_from_distinct}
 use Rattle.std.proofs.lemmas.List.{get_or-map, length-map}
 use Rattle.std.proofs.lemmas.Option.{get_or_from_slice_get}
@@ -43,3 +44,14 @@ module _ {K : Type 0} (f : K → List ℕ) (eq : K → K → Bool) (tells : (x y
       by false e =
           let pushed : new ≡ old ++ key ∷ [] = inserted ∙ ap (λ b. if b then old else old ++ key ∷ []) e in
           inr (omega (arith, place, position_or_len-absent (eq key) old e, length-map old f), ap (map f) pushed ∙ map-append f old (key ∷ []))
+
+-- a key that is found has its number
+pub IsNumbered-found : {K : Type 0} (f : K → List ℕ) (test : K → Bool) (ks : List K) (key : List ℕ) (n : ℕ) → ((x : K) → Decides (test x) (key ≡ f x)) → AreApart (map f ks) → position test ks ≡ Some n → IsNumbered (map f ks) (map f ks) key n
+IsNumbered-found f test [] key n tells apart found = absurd (cc)
+IsNumbered-found f test (k ∷ ks) key n tells apart found =
+    let at = position-Some test (k ∷ ks) n k found in
+    record {
+      apart = apart;
+      key_is = get_or-map f (k ∷ ks) n k [] at.0 ∙ sym ((tells (get_or (k ∷ ks) n k)).0 at.1);
+      old_or_new = inl (refl, omega (arith, at.0, length-map (k ∷ ks) f));
+    }

@@ -1,27 +1,34 @@
 -- Keys that letters lead to, and where words lead.
-use Rattle.std.specs.Prelude.{◌≡◌, ◌==◌, ℕ, ◌<◌, Bool, false, List, [], ◌∷◌, Option, None, Some, if◌then◌else◌}
+use Rattle.std.specs.Prelude.{◌≡◌, ◌==◌, ℕ, ◌<◌, Bool, false, List, [], ◌∷◌, Option, None, Some, slice_index_or, if◌then◌else◌}
 use Rattle.std.specs.List.{All, AllPairs}
 use Rattle.std.specs.Option.{option_map_or, option_and_then}
 
--- a step from a key: its letter, and the key that it leads to
-pub record Step : Type 0 where
+-- an edge from a key: its letter, and the key that it leads to
+pub record KeyEdge : Type 0 where
   pub letter : ℕ
   pub key : List ℕ
 
--- where the first step by the letter leads
-abbrev pub key_by : List Step → ℕ → Option (List ℕ)
+-- the edge at a place
+abbrev pub no_edge : KeyEdge
+no_edge = record { letter = 0; key = [] }
+
+abbrev pub edge_at : List KeyEdge → ℕ → KeyEdge
+edge_at edges place = slice_index_or edges place no_edge
+
+-- where the first edge by the letter leads
+abbrev pub key_by : List KeyEdge → ℕ → Option (List ℕ)
 key_by [] letter = None
-key_by (step ∷ steps) letter = if step.letter == letter then Some step.key else key_by steps letter
+key_by (edge ∷ edges) letter = if edge.letter == letter then Some edge.key else key_by edges letter
 
--- the letter of the one step is before that of the other
-abbrev pub IsByEarlier : Step → Step → Type 0
-IsByEarlier s t = s.letter < t.letter
+-- the letter of the one edge is before that of the other
+abbrev pub IsByEarlier : KeyEdge → KeyEdge → Type 0
+IsByEarlier e f = e.letter < f.letter
 
--- the steps are by letters of the alphabet, stand by letter, at most one by each, and lead where the function says
-pub record AreSteps (letters : ℕ) (after : ℕ → Option (List ℕ)) (steps : List Step) : Type 0 where
-  pub in_range : All (λ step. step.letter < letters) steps
-  pub ascending : AllPairs IsByEarlier steps
-  pub lead : (letter : ℕ) → letter < letters → key_by steps letter ≡ after letter
+-- the edges are by letters of the alphabet, stand by letter, at most one by each, and lead where the function says
+pub record AreKeyEdges (letters : ℕ) (after : ℕ → Option (List ℕ)) (edges : List KeyEdge) : Type 0 where
+  pub in_range : All (λ edge. edge.letter < letters) edges
+  pub ascending : AllPairs IsByEarlier edges
+  pub lead : (letter : ℕ) → letter < letters → key_by edges letter ≡ after letter
 
 -- where a word leads from a key
 abbrev pub key_run : (List ℕ → ℕ → Option (List ℕ)) → List ℕ → List ℕ → Option (List ℕ)

@@ -19,5 +19,5 @@ pub mod Kinds
 pub mod Steps
 pub mod StepResults
 pub mod Keys
-pub mod KeySteps
+pub mod KeySpans
 pub mod Explored

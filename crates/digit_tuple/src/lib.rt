@@ -52,8 +52,11 @@ pub mod reversed;
 /// Results of one step of a construction.
 pub mod stepped;
 
-/// Where keys and the steps from them come from.
-pub mod source;
+/// Edges from a key, in one buffer.
+pub mod key_edges;
+
+/// Graphs of keys, which an exploration walks.
+pub mod key_graph;
 
 /// Keys, numbered in the order in which they were first seen.
 pub mod numbering;

@@ -11,6 +11,7 @@ use std::marker::Model;
 /// Lists of numbers, no two the same, numbered in the order in which they were first seen.
 #[derive(Drop)]
 pub struct Numbering {
+    alloc: Global,
     lists: IndexSet<Vec<u32>>,
 }
 
@@ -31,6 +32,7 @@ impl Numbering {
         ensures { result ≡ [] }
     {
         Numbering {
+            alloc,
             lists: IndexSet::new(alloc),
         }
     }
@@ -52,11 +54,16 @@ impl Numbering {
         &self.lists[number]
     }
 
-    /// The number of a key, a new one if the key was not seen before.
-    pub fn number_of(&mut self, key: Vec<u32>) -> Result<usize, OutOfMemory>
-        ensures { IfOk result (IsNumbered self.old self.new key.items) }
+    /// The number of a key, a new one if the key was not seen before. A key that was seen takes no
+    /// memory.
+    pub fn number_of(&mut self, key: &[u32]) -> Result<usize, OutOfMemory>
+        ensures { IfOk result (IsNumbered self.old self.new key.now) }
     {
-        let (number, _) = self.lists.insert_full(key)?;
+        if let Some(number) = self.lists.get_index_of(key) {
+            return Ok(number);
+        }
+        let list = Vec::from_slice(self.alloc, key)?;
+        let (number, _) = self.lists.insert_full(list)?;
         Ok(number)
     }
 }

@@ -8,9 +8,9 @@ abbrev pub invariant-explore : goal.invariant-explore
 invariant-explore g l = record {
   few : length l.keys ≤ l.limit;
   room : l.gap ≡ true → length l.keys < l.limit;
-  valid : All (g.S.Source.is_key l.source) l.keys;
+  valid : All (g.G.KeyGraph.is_key l.graph) l.keys;
   explored : vec_len l.rows ≤ length l.keys;
-  exploring : IsExploring (g.S.Source.letters l.source) (g.S.Source.start l.source) (g.S.Source.after l.source) (g.S.Source.accepts l.source) l.keys (states_in l.rows.items) l.gap;
+  exploring : IsExploring (g.G.KeyGraph.letters l.graph) (g.G.KeyGraph.start l.graph) (g.G.KeyGraph.after l.graph) (g.G.KeyGraph.accepts l.graph) l.keys (states_in l.rows.items) l.gap;
 }
 
 abbrev pub decreases-explore : goal.decreases-explore

@@ -1,0 +1,48 @@
+-- Keys that stand in a list of numbers.
+use Rattle.std.proofs.Common.{◌≡◌, ℕ, zero, suc, ◌+◌, ◌-◌, ◌<◌, ◌≤◌, List, [], ◌∷◌, ◌++◌, take, drop, length, get_or, refl, sym, ap, ◌∙◌, length-append, length-drop, arith}
+use Rattle.std.specs.List.{All, slice_range}
+use Rattle.std.proofs.lemmas.List.{map-append, take-append-le, drop-append-le, take_all}
+use Rattle.std.proofs.lemmas.List.Elements.{All-push}
+use Rattle.std.proofs.Math.Seq.{drop-append_seam}
+use Rattle.digit_tuple.specs.declared.key_edges.KeySpan.{KeySpan}
+use Rattle.digit_tuple.specs.Keys.{KeyEdge}
+use Rattle.digit_tuple.specs.KeySpans.{edge_in, edges_in, AreSpans}
+
+-- a part of a list stays as the list grows
+pub slice_range-append : (xs ys : List ℕ) (i j : ℕ) → i ≤ j → j ≤ length xs → slice_range (xs ++ ys) i j ≡ slice_range xs i j
+slice_range-append xs ys i j before within =
+    ap (take (j - i)) (drop-append-le i xs ys (omega arith)) ∙ take-append-le (j - i) (drop i xs) ys (omega (arith, length-drop i xs))
+
+-- the part that a list grew by
+pub slice_range-grown : (xs ys : List ℕ) (j : ℕ) → j ≡ length xs + length ys → slice_range (xs ++ ys) (length xs) j ≡ ys
+slice_range-grown xs ys j end = ap (take (j - length xs)) (drop-append_seam xs ys) ∙ take_all (j - length xs) ys (omega arith)
+
+-- the edges stay as the list of numbers grows
+pub edges_in-append : (numbers more : List ℕ) (spans : List KeySpan) → AreSpans (length numbers) spans → edges_in (numbers ++ more) spans ≡ edges_in numbers spans
+edges_in-append numbers more [] are = refl
+edges_in-append numbers more (s ∷ ss) are =
+    let here = are 0 s (omega arith) in
+    let same : edge_in (numbers ++ more) s ≡ edge_in numbers s = ap (λ (key : List ℕ). let edge : KeyEdge = record { letter = s.letter; key = key } in edge) (slice_range-append numbers more s.start s.end here.0 here.1) in
+    let rest = edges_in-append numbers more ss (λ k d within. are (suc k) d (omega arith)) in
+    ap (λ e. e ∷ edges_in (numbers ++ more) ss) same ∙ ap (λ es. edge_in numbers s ∷ es) rest
+
+pub AreSpans-more : (m n : ℕ) (spans : List KeySpan) → m ≤ n → AreSpans m spans → AreSpans n spans
+AreSpans-more m n spans more are k d within = let here = are k d within in (here.0, omega (arith, here.1))
+
+-- one more edge, whose key goes last
+pub edges_in-push : (numbers key : List ℕ) (spans : List KeySpan) (letter start end : ℕ) → AreSpans (length numbers) spans → start ≡ length numbers → end ≡ length numbers + length key
+    → edges_in (numbers ++ key) (spans ++ (record { letter = letter; start = start; end = end }) ∷ []) ≡ edges_in numbers spans ++ (record { letter = letter; key = key }) ∷ []
+edges_in-push numbers key spans letter start end are from to =
+    map-append (edge_in (numbers ++ key)) spans (span ∷ [])
+    ∙ ap (λ es. es ++ edge_in (numbers ++ key) span ∷ []) (edges_in-append numbers key spans are)
+    ∙ ap (λ (k : List ℕ). edges_in numbers spans ++ (let edge : KeyEdge = record { letter = letter; key = k } in edge) ∷ []) (ap (λ n. slice_range (numbers ++ key) n end) from ∙ slice_range-grown numbers key end to)
+  where
+    span : KeySpan
+    span = record { letter = letter; start = start; end = end }
+
+pub AreSpans-push : (numbers key : List ℕ) (spans : List KeySpan) (letter start end : ℕ) → AreSpans (length numbers) spans → start ≡ length numbers → end ≡ length numbers + length key
+    → AreSpans (length (numbers ++ key)) (spans ++ (record { letter = letter; start = start; end = end }) ∷ [])
+AreSpans-push numbers key spans letter start end are from to =
+    All-push (λ (span : KeySpan). (span.start ≤ span.end) × (span.end ≤ length (numbers ++ key))) spans (record { letter = letter; start = start; end = end })
+    (AreSpans-more (length numbers) (length (numbers ++ key)) spans (omega (arith, length-append numbers key)) are)
+    (omega (arith, from, to), omega (arith, to, length-append numbers key))

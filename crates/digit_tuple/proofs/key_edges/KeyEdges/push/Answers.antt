@@ -1,0 +1,28 @@
+use Rattle.std.proofs.Common.{◌≡◌, ◌+◌, [], ◌∷◌, ◌++◌, List, ℕ, length, sym, ap, ◌∙◌, arith}
+use Rattle.std.specs.Result.{OnErr}
+use Rattle.std.proofs.lemmas.Result.{err_from_is_err_and}
+use Rattle.digit_tuple.specs.declared.key_edges.KeySpan.{KeySpan}
+use Rattle.digit_tuple.specs.KeySpans.{edges_in}
+use Rattle.digit_tuple.proofs.KeySpanLemmas.{edges_in-append, edges_in-push}
+use Rattle.digit_tuple.proofs.key_edges.KeyEdges.push.Goals as goal
+
+pub returns-in_err-push-clause-err : goal.returns-in_err-push-clause-err
+returns-in_err-push-clause-err c =
+    let p = err_from_is_err_and c.from_residual-in_err-push.result c.from_residual-in_err-push.ensures.1 in
+    let numbers = c.self.inside.numbers.items in
+    let spans = c.self.inside.spans.items in
+    let grown : c.extend_from_slice.new.self.items ≡ numbers ++ c.args.key.now = c.in_ok-extend_from_slice.ensures.items in
+    let kept : c.push.new.self.items ≡ spans = c.in_err-push.ensures.items in
+    rw p.1 (ap (λ (ns : List ℕ). edges_in ns c.push.new.self.items) grown ∙ ap (edges_in (numbers ++ c.args.key.now)) kept ∙ edges_in-append numbers c.args.key.now spans c.self.invariant ∙ c.self.view_is)
+
+pub returns-clause-ok : goal.returns-clause-ok
+returns-clause-ok c =
+    let numbers = c.self.inside.numbers.items in
+    let spans = c.self.inside.spans.items in
+    let key = c.args.key.now in
+    let grown : c.extend_from_slice.new.self.items ≡ numbers ++ key = c.in_ok-extend_from_slice.ensures.items in
+    let span : KeySpan = record { letter = c.args.letter; start = c.len-start.result; end = c.len-end.result } in
+    let pushed : c.push.new.self.items ≡ spans ++ span ∷ [] = c.in_ok-push.ensures.items in
+    ap (λ (ns : List ℕ). edges_in ns c.push.new.self.items) grown ∙ ap (edges_in (numbers ++ key)) pushed
+    ∙ edges_in-push numbers key spans c.args.letter c.len-start.result c.len-end.result c.self.invariant (omega arith) (omega (arith, c.in_ok-extend_from_slice.ensures.len))
+    ∙ ap (λ es. es ++ (record { letter = c.args.letter; key = key }) ∷ []) c.self.view_is
