@@ -1,4 +1,4 @@
-use Rattle.std.proofs.Common.{◌≡◌, ◌+◌, ◌<◌, List, ℕ, [], ◌∷◌, ◌++◌, take, length, sym, subst, arith}
+use Rattle.std.proofs.Common.{◌+◌, List, ℕ, take, sym, subst, arith}
 use Rattle.digit_tuple.specs.declared.edges.Edge.{Edge}
 use Rattle.digit_tuple.specs.Explored.{AreNumbered, IsNumbered}
 use Rattle.digit_tuple.specs.Keys.{no_edge, edge_at}
