@@ -1,4 +1,3 @@
-pub mod GroupLemmas
 pub mod SubsetLemmas
 pub mod TrimmedLemmas
 pub mod ReversalLemmas

@@ -19,7 +19,7 @@ use Rattle.digit_tuple.proofs.KeyLemmas.{key_accepts-run, key_accepts-append}
 use Rattle.digit_tuple.specs.Width.{HasApart, HasWidth}
 use Rattle.digit_tuple.specs.Reversed.{IsReversal}
 use Rattle.digit_tuple.specs.AcceptingStates.{AreAccepting}
-use Rattle.determinise.specs.Reversed.{SameReversedResidual, bare_automaton}
+use Rattle.determinise.specs.Reversed.{SameReversedResidual}
 use Rattle.determinise.specs.Subsets.{set_after, has_accepting, IsStateSet}
 use Rattle.digit_tuple.proofs.MemberLemmas.{Contains-none, list_any-contains, contains_from_list_any}
 use Rattle.determinise.proofs.SubsetLemmas.{set_of, key_run-members, key_run-set, same_set}
@@ -160,27 +160,3 @@ IsStateSet-accepting t n turned first accepting some = record {
 pub nil_of_length : (xs : List ℕ) → length xs ≡ 0 → xs ≡ []
 nil_of_length [] none = refl
 nil_of_length (x ∷ xs) none = absurd (omega arith)
-
--- the automaton of one state accepts nothing
-pub bare_refuses : (sizes w : List ℕ) → accepts_of (bare_automaton sizes) w ≡ false
-bare_refuses sizes [] = refl
-bare_refuses sizes (a ∷ w) = refl
-
--- one word
-pub HasApart-one : (R : List ℕ → List ℕ → Type 0) (letters : ℕ) → HasApart R letters 1
-HasApart-one R letters = record { words = [] ∷ []; count = refl; over = over; apart = λ i j d before within. absurd (omega arith) }
-  where
-    over : All (IsWord letters) ([] ∷ [])
-    over zero d within = tt
-    over (suc k) d within = absurd (omega arith)
-
--- where all words are alike
-pub HasWidth-one : (R : List ℕ → List ℕ → Type 0) (letters : ℕ) → ((w : List ℕ) → IsWord letters w → R w []) → HasWidth R letters 1
-HasWidth-one R letters alike = record {
-  some = record { words = [] ∷ []; count = refl; over = over; apart = λ i j d before within. absurd (omega arith) };
-  whole = λ w inside. (0, [], omega arith, refl, alike w inside);
-}
-  where
-    over : All (IsWord letters) ([] ∷ [])
-    over zero d within = tt
-    over (suc k) d within = absurd (omega arith)

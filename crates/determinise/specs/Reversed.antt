@@ -1,12 +1,8 @@
 -- Residuals of reversed languages.
-use Rattle.std.specs.Prelude.{◌≡◌, ℕ, false, List, [], ◌∷◌, ◌++◌, reverse}
+use Rattle.std.specs.Prelude.{◌≡◌, ℕ, List, ◌++◌, reverse}
 use Rattle.digit_tuple.specs.Deterministic.{Automaton, letters_of, accepts_of}
 use Rattle.digit_tuple.specs.Letters.{IsWord}
 
 -- the reversed language goes on alike after the two words
 abbrev pub SameReversedResidual : Automaton → List ℕ → List ℕ → Type 0
 SameReversedResidual d w v = (u : List ℕ) → IsWord (letters_of d) u → accepts_of d (reverse (w ++ u)) ≡ accepts_of d (reverse (v ++ u))
-
--- the automaton of one state that accepts nothing
-abbrev pub bare_automaton : List ℕ → Automaton
-bare_automaton sizes = record { sizes = sizes; states = (record { accepting = false; edges = [] }) ∷ [] }

@@ -1,6 +1,7 @@
 -- Sets of states of a nondeterministic automaton that words lead to.
 use Rattle.std.specs.Prelude.{◌==◌, ◌&&◌, ℕ, ◌<◌, Bool, List, [], ◌∷◌, length, Option, None, Some, ◌↔◌, filter}
 use Rattle.std.specs.List.{All, AllPairs, list_any, range_with_len}
+use Rattle.digit_tuple.specs.Groups.{some_set}
 use Rattle.digit_tuple.specs.Automaton.{Branching, Path, edges_of, states_of, accepting_of}
 
 -- the two words lead to the same states
@@ -14,11 +15,6 @@ leads_to n set letter q = list_any (λ p. list_any (λ edge. (edge.letter == let
 -- the states that the letter leads to from the set, in order
 abbrev pub targets_of : Branching → List ℕ → ℕ → List ℕ
 targets_of n set letter = filter (leads_to n set letter) (range_with_len 0 (states_of n))
-
--- the set, unless it is empty
-abbrev pub some_set : List ℕ → Option (List ℕ)
-some_set [] = None
-some_set (q ∷ qs) = Some (q ∷ qs)
 
 -- the set that the letter leads to from the set, unless it is empty
 abbrev pub set_after : Branching → List ℕ → ℕ → Option (List ℕ)

@@ -18,9 +18,11 @@ pub mod WordLemmas
 pub mod PaddingLemmas
 pub mod WidthLemmas
 pub mod BuilderLemmas
+pub mod NoWordLemmas
 pub mod NumberingLemmas
 pub mod KeySpanLemmas
 pub mod KeyEdgeLemmas
+pub mod GroupLemmas
 pub mod KeyLemmas
 pub mod EdgeLemmas
 pub mod StateLemmas

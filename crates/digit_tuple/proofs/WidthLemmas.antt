@@ -1,5 +1,6 @@
 -- Widths by relations that are the same on words.
-use Rattle.std.proofs.Common.{ℕ, List, get_or, arith}
+use Rattle.std.proofs.Common.{ℕ, zero, suc, List, [], ◌∷◌, get_or, refl, arith}
+use Rattle.std.specs.List.{All}
 use Rattle.std.proofs.lemmas.List.Elements.{All-contains}
 use Rattle.digit_tuple.specs.Letters.{IsWord}
 use Rattle.digit_tuple.specs.Width.{HasApart, HasWidth}
@@ -24,3 +25,22 @@ module _ (R S : List ℕ → List ℕ → Type 0) (letters : ℕ) where
     whole = λ w inside. let found = width.whole w inside in
         (found.0, found.1, found.2, found.3, over w found.1 inside (All-contains (IsWord letters) width.some.words found.1 width.some.over (found.0, found.2, found.3)) found.4);
   }
+
+-- one word
+pub HasApart-one : (R : List ℕ → List ℕ → Type 0) (letters : ℕ) → HasApart R letters 1
+HasApart-one R letters = record { words = [] ∷ []; count = refl; over = over; apart = λ i j d before within. absurd (omega arith) }
+  where
+    over : All (IsWord letters) ([] ∷ [])
+    over zero d within = tt
+    over (suc k) d within = absurd (omega arith)
+
+-- where all words are alike
+pub HasWidth-one : (R : List ℕ → List ℕ → Type 0) (letters : ℕ) → ((w : List ℕ) → IsWord letters w → R w []) → HasWidth R letters 1
+HasWidth-one R letters alike = record {
+  some = record { words = [] ∷ []; count = refl; over = over; apart = λ i j d before within. absurd (omega arith) };
+  whole = λ w inside. (0, [], omega arith, refl, alike w inside);
+}
+  where
+    over : All (IsWord letters) ([] ∷ [])
+    over zero d within = tt
+    over (suc k) d within = absurd (omega arith)

@@ -20,4 +20,6 @@ pub mod Steps
 pub mod StepResults
 pub mod Keys
 pub mod KeySpans
+pub mod Groups
 pub mod Explored
+pub mod NoWords

@@ -1,6 +1,6 @@
 //! Edges from a key, in one buffer.
 
-ghost use Rattle.std.specs.Prelude.{◌≡◌, ◌<◌, ◌++◌, ◌∷◌, [], length, map, OnOk, OnErr};
+ghost use Rattle.std.specs.Prelude.{◌≡◌, ℕ, ◌<◌, ◌++◌, ◌∷◌, [], List, length, map, OnOk, OnErr};
 ghost use Rattle.digit_tuple.specs.Keys.{KeyEdge, edge_at};
 
 use crate::edges::Edge;
@@ -89,4 +89,27 @@ impl KeyEdges {
         self.spans.push(KeySpan { letter, start, end })?;
         Ok(())
     }
+
+    /// Adds an edge whose key is the targets of edges. A refused call leaves the edges.
+    pub fn push_targets(&mut self, letter: u32, edges: &[Edge]) -> Result<(), OutOfMemory>
+        ensures ok { OnOk result (self.new ≡ self.old ++ (record { letter = letter; key = map (λ edge. edge.target) edges.now }) ∷ []) }
+        ensures err { OnErr result (self.new ≡ self.old) }
+    {
+        let start = self.numbers.len();
+        add_targets(&mut self.numbers, edges)?;
+        let end = self.numbers.len();
+        self.spans.push(KeySpan { letter, start, end })?;
+        Ok(())
+    }
+}
+
+// Adds the targets of the edges.
+fn add_targets(numbers: &mut Vec<u32>, edges: &[Edge]) -> Result<(), OutOfMemory>
+    ensures ok { OnOk result (numbers.new.items ≡ numbers.old.items ++ map (λ edge. edge.target) edges.now) }
+    ensures kept { (more : List ℕ) × (numbers.new.items ≡ numbers.old.items ++ more) }
+{
+    for edge in edges {
+        numbers.push(edge.target)?;
+    }
+    Ok(())
 }

@@ -52,8 +52,14 @@ pub mod reversed;
 /// Results of one step of a construction.
 pub mod stepped;
 
+/// The automaton of no words.
+pub mod no_words;
+
 /// Edges from a key, in one buffer.
 pub mod key_edges;
+
+/// Edges gathered by their letters.
+pub mod groups;
 
 /// Graphs of keys, which an exploration walks.
 pub mod key_graph;

@@ -12,9 +12,8 @@ use Rattle.digit_tuple.specs.Automaton.{IsBefore}
 use Rattle.digit_tuple.proofs.MemberLemmas.{Contains-head}
 use Rattle.std.proofs.lemmas.List.Quantifiers.{all_pairs_push}
 use Rattle.digit_tuple.specs.declared.edges.Edge.{Edge}
-use Rattle.digit_tuple.specs.Keys.{Step, key_by, IsByEarlier}
-use Rattle.determinise.specs.Subsets.{some_set}
-use Rattle.determinise.specs.Groups.{targets_by, AreGroups}
+use Rattle.digit_tuple.specs.Keys.{KeyEdge, key_by, IsByEarlier}
+use Rattle.digit_tuple.specs.Groups.{some_set, targets_by, AreGroups}
 
 -- edges by one letter, and by others
 pub filter_by-all : (es : List Edge) (letter : ℕ) → All (λ e. e.letter ≡ letter) es → filter (λ e. e.letter == letter) es ≡ es
@@ -36,8 +35,8 @@ pub some_set-some : (xs : List ℕ) → 0 < length xs → some_set xs ≡ Some x
 some_set-some [] some = absurd (omega arith)
 some_set-some (x ∷ xs) some = refl
 
--- one more step
-pub key_by-push : (ss : List Step) (s : Step) (letter : ℕ) → key_by ss letter ≡ None → key_by (ss ++ s ∷ []) letter ≡ key_by (s ∷ []) letter
+-- one more edge
+pub key_by-push : (ss : List KeyEdge) (s : KeyEdge) (letter : ℕ) → key_by ss letter ≡ None → key_by (ss ++ s ∷ []) letter ≡ key_by (s ∷ []) letter
 key_by-push [] s letter none = refl
 key_by-push (t ∷ ss) s letter none = by (t.letter == letter) none (key_by-push ss s letter)
   where
@@ -46,20 +45,20 @@ key_by-push (t ∷ ss) s letter none = by (t.letter == letter) none (key_by-push
     by true is rest = let both : Some t.key ≡ None = is in cc
     by false is rest = rest is
 
-pub key_by-push_other : (ss : List Step) (s : Step) (letter : ℕ) → s.letter ≢ letter → key_by (ss ++ s ∷ []) letter ≡ key_by ss letter
+pub key_by-push_other : (ss : List KeyEdge) (s : KeyEdge) (letter : ℕ) → s.letter ≢ letter → key_by (ss ++ s ∷ []) letter ≡ key_by ss letter
 key_by-push_other [] s letter other = ap (λ b. if b then Some s.key else None) (ne_eqb s.letter letter other)
 key_by-push_other (t ∷ ss) s letter other = ap (λ o. if t.letter == letter then Some t.key else o) (key_by-push_other ss s letter other)
 
-module _ (before group : List Edge) (steps : List Step) (letter : ℕ) (groups : AreGroups before steps) (lower : All (λ e. e.letter < letter) before) (same : All (λ e. e.letter ≡ letter) group) (some : 0 < length group) where
-  abbrev step : Step
-  step = record { letter = letter; key = map (λ (e : Edge). e.target) group }
+module _ (before group : List Edge) (done : List KeyEdge) (letter : ℕ) (groups : AreGroups before done) (lower : All (λ e. e.letter < letter) before) (same : All (λ e. e.letter ≡ letter) group) (some : 0 < length group) where
+  abbrev next : KeyEdge
+  next = record { letter = letter; key = map (λ (e : Edge). e.target) group }
 
   -- the next group of edges
-  pub AreGroups-more : AreGroups (before ++ group) (steps ++ (record { letter = letter; key = map (λ (e : Edge). e.target) group }) ∷ [])
+  pub AreGroups-more : AreGroups (before ++ group) (done ++ (record { letter = letter; key = map (λ (e : Edge). e.target) group }) ∷ [])
   AreGroups-more = record {
-    letters = All-push (λ (s : Step). (e : Edge) × Contains (before ++ group) e × (e.letter ≡ s.letter)) steps step
+    letters = All-push (λ (s : KeyEdge). (e : Edge) × Contains (before ++ group) e × (e.letter ≡ s.letter)) done next
         (λ k d within. let old = groups.letters k d within in (old.0, Contains-append_left before group old.0 old.1, old.2)) (head group (λ e there. there) same some);
-    ascending = all_pairs_push IsByEarlier steps step groups.ascending
+    ascending = all_pairs_push IsByEarlier done next groups.ascending
         (λ k d within. let old = groups.letters k d within in omega (arith, old.2, All-contains (λ (e : Edge). e.letter < letter) before old.0 lower old.1));
     keys = λ a. by a (eqb_tells letter a);
   }
@@ -68,17 +67,17 @@ module _ (before group : List Edge) (steps : List Step) (letter : ℕ) (groups :
       head [] inside alike more = absurd (omega arith)
       head (e ∷ es) inside alike more = (e, Contains-append_right before group e (inside e (Contains-head e es)), alike 0 e (omega arith))
 
-      by : (a : ℕ) → (((letter == a) ≡ true) × (letter ≡ a)) ⊎ (((letter == a) ≡ false) × (letter ≢ a)) → key_by (steps ++ step ∷ []) a ≡ some_set (targets_by (before ++ group) a)
+      by : (a : ℕ) → (((letter == a) ≡ true) × (letter ≡ a)) ⊎ (((letter == a) ≡ false) × (letter ≢ a)) → key_by (done ++ next ∷ []) a ≡ some_set (targets_by (before ++ group) a)
       by a (inl is) =
           let none : targets_by before a ≡ [] = ap (map (λ e. e.target)) (filter_by-none before a (λ k d within e. omega (arith, e, lower k d within, is.1))) in
           let all : targets_by group a ≡ map (λ (e : Edge). e.target) group = ap (map (λ e. e.target)) (filter_by-all group a (λ k d within. same k d within ∙ is.1)) in
           let targets : targets_by (before ++ group) a ≡ map (λ (e : Edge). e.target) group = targets_by-append before group a ∙ ap (λ ts. ts ++ targets_by group a) none ∙ all in
-          key_by-push steps step a (groups.keys a ∙ ap some_set none) ∙ ap (λ b. if b then Some step.key else None) is.0
+          key_by-push done next a (groups.keys a ∙ ap some_set none) ∙ ap (λ b. if b then Some next.key else None) is.0
           ∙ sym (ap some_set targets ∙ some_set-some (map (λ (e : Edge). e.target) group) (omega (arith, length-map group (λ (e : Edge). e.target), some)))
       by a (inr other) =
           let none : targets_by group a ≡ [] = ap (map (λ e. e.target)) (filter_by-none group a (λ k d within e. other.1 (sym (same k d within) ∙ e))) in
           let targets : targets_by (before ++ group) a ≡ targets_by before a = targets_by-append before group a ∙ ap (λ ts. targets_by before a ++ ts) none ∙ append-nil (targets_by before a) in
-          key_by-push_other steps step a other.1 ∙ groups.keys a ∙ sym (ap some_set targets)
+          key_by-push_other done next a other.1 ∙ groups.keys a ∙ sym (ap some_set targets)
 
 -- the letters at the places before one are below those from it on
 abbrev pub IsParted : List Edge → ℕ → Type 0
@@ -97,9 +96,9 @@ module _ (edges : List Edge) (place end letter : ℕ) (z : Edge) (more : place <
       by (inr same) = let is : place ≡ k = omega arith in subst (λ n. (get_or edges n d).letter ≡ letter) is (at_place d)
 
   -- one more group
-  pub AreGroups-next : (steps : List Step) → AreGroups (take place edges) steps → AreGroups (take end edges) (steps ++ (record { letter = letter; key = map (λ (e : Edge). e.target) (take (end - place) (drop place edges)) }) ∷ [])
-  AreGroups-next steps groups = subst (λ es. AreGroups es (steps ++ (record { letter = letter; key = map (λ (e : Edge). e.target) (take (end - place) (drop place edges)) }) ∷ [])) (sym joined)
-      (AreGroups-more (take place edges) (take (end - place) (drop place edges)) steps letter groups lower same (omega (arith, size)))
+  pub AreGroups-next : (done : List KeyEdge) → AreGroups (take place edges) done → AreGroups (take end edges) (done ++ (record { letter = letter; key = map (λ (e : Edge). e.target) (take (end - place) (drop place edges)) }) ∷ [])
+  AreGroups-next done groups = subst (λ es. AreGroups es (done ++ (record { letter = letter; key = map (λ (e : Edge). e.target) (take (end - place) (drop place edges)) }) ∷ [])) (sym joined)
+      (AreGroups-more (take place edges) (take (end - place) (drop place edges)) done letter groups lower same (omega (arith, size)))
     where
       whole : place + (end - place) ≡ end
       whole = omega arith
