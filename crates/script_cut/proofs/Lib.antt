@@ -1,5 +1,6 @@
 pub mod Gaps
 pub mod Commands
+pub mod AskingSteps
 pub mod PassingSteps
 pub mod CutSteps
 pub mod FirstCut

@@ -1,87 +1,175 @@
 -- Bytes that are passed one part after another.
-use Rattle.std.proofs.Common.{nat_le, if◌then◌else◌, Ok, Err, ◌≡◌, ℕ, ◌+◌, ◌<◌, ◌≤◌, ◌==◌, Bool, true, false, IsTrue, List, [], ◌++◌, length, take, drop, Option, None, Some, refl, sym, ◌∙◌, subst, arith, append_assoc, append-nil, length-append, slice_index}
+use Rattle.std.proofs.Common.{nat_le, if◌then◌else◌, Ok, Err, ◌≡◌, ◌≢◌, ℕ, ◌+◌, ◌<◌, ◌≤◌, ◌==◌, Bool, true, false, IsTrue, List, [], ◌∷◌, ◌++◌, length, take, drop, None, Some, refl, sym, ap, ◌∙◌, subst, arith, append_assoc, append-nil, length-append, length-drop, slice_index}
 use Rattle.std.proofs.lemmas.List.{take-append-drop, take-take, length-take-le}
 use Rattle.std.proofs.lemmas.Bool.Decides.{nat_tests}
-use Rattle.std.specs.Io.KnownBytes.{Consumes}
+use Rattle.std.proofs.lemmas.List.Folds.{concat-append}
+use Rattle.std.specs.List.{concat}
+use Rattle.wal_outside.specs.Views.{SourceView}
+use Rattle.script_cut.specs.Asking.{Gives, AreAsked}
+use Rattle.script_cut.proofs.AskingSteps.{gives-none, gives-then, gave_once, asked_once}
 use Rattle.script_cut.specs.Texts.{all_gaps, commented, quoted, unbroken, Starts}
 use Rattle.script_cut.specs.Lengths.{gap_count, gap_open, text_count, text_open}
 use Rattle.script_cut.specs.Kept.{Kept, advance}
-use Rattle.script_cut.specs.Passing.{Passes, HasHeld, IsOver, Stops, PassesGaps, PassesText}
+use Rattle.script_cut.specs.Passing.{Passes, IsBounded, AllGave, AsksOnce, IsSupplied, HasHeld, IsOver, Stops, PassesGaps, PassesText}
 use Rattle.script_cut.specs.declared.cut.CutFault.{CutFault}
 use Rattle.script_cut.proofs.Gaps.{line_ends-append, commented-append, all_gaps-append, all_gaps-front, commented-front, starts-behind, starts-take}
 use Rattle.script_cut.proofs.Commands.{quoted-append, unbroken-append, unbroken-front, quoted-front, Ends, ends-behind, ends-take, ends-first}
 
-pub consumes-none : (told : Option (List ℕ)) → Consumes told told []
-consumes-none None = tt
-consumes-none (Some xs) = refl
-
-pub consumes-then : (told mid now : Option (List ℕ)) (a b : List ℕ) → Consumes told mid a → Consumes mid now b → Consumes told now (a ++ b)
-consumes-then None mid now a b p q = tt
-consumes-then (Some xs) None now a b p q = absurd p
-consumes-then (Some xs) (Some ys) None a b p q = absurd q
-consumes-then (Some xs) (Some ys) (Some zs) a b p q = let e : (a ++ b) ++ zs ≡ a ++ (b ++ zs) = append_assoc a b zs in cc
-
-pub passes-none : (old : Kept) (told : Option (List ℕ)) → Passes old told old told []
+pub passes-none : (old : Kept) (told : SourceView) → Passes old told old told []
 passes-none old told = record {
-  given = [];
-  taken = consumes-none told;
+  pieces = [];
+  given = gives-none told;
   split = append-nil old.held;
   line_is = omega arith;
   room_is = omega arith;
 }
 
-pub passes-then : (old mid new : Kept) (told between now : Option (List ℕ)) (a b : List ℕ) → Passes old told mid between a → Passes mid between new now b → Passes old told new now (a ++ b)
+abbrev pub passes-then : (old mid new : Kept) (told between now : SourceView) (a b : List ℕ) → Passes old told mid between a → Passes mid between new now b → Passes old told new now (a ++ b)
 passes-then old mid new told between now a b p q = record {
-  given = p.given ++ q.given;
-  taken = consumes-then told between now p.given q.given p.taken q.taken;
+  pieces = p.pieces ++ q.pieces;
+  given = gives-then told between now p.pieces q.pieces p.given q.given;
   split =
-      let e : old.held ++ (p.given ++ q.given) ≡ (old.held ++ p.given) ++ q.given = sym (append_assoc old.held p.given q.given) in
-      let f : (a ++ mid.held) ++ q.given ≡ a ++ (mid.held ++ q.given) = append_assoc a mid.held q.given in
+      let d : concat (p.pieces ++ q.pieces) ≡ concat p.pieces ++ concat q.pieces = concat-append p.pieces q.pieces in
+      let e : old.held ++ (concat p.pieces ++ concat q.pieces) ≡ (old.held ++ concat p.pieces) ++ concat q.pieces = sym (append_assoc old.held (concat p.pieces) (concat q.pieces)) in
+      let f : (a ++ mid.held) ++ concat q.pieces ≡ a ++ (mid.held ++ concat q.pieces) = append_assoc a mid.held (concat q.pieces) in
       let h : (a ++ b) ++ new.held ≡ a ++ (b ++ new.held) = append_assoc a b new.held in
-      let s : old.held ++ p.given ≡ a ++ mid.held = p.split in
-      let t : mid.held ++ q.given ≡ b ++ new.held = q.split in
+      let s : old.held ++ concat p.pieces ≡ a ++ mid.held = p.split in
+      let t : mid.held ++ concat q.pieces ≡ b ++ new.held = q.split in
       cc;
   line_is = omega (arith, p.line_is, q.line_is, line_ends-append a b);
   room_is = omega (arith, p.room_is, q.room_is, length-append a b);
 }
 
-pub passes-advance : (n : ℕ) (old : Kept) (told : Option (List ℕ)) → n ≤ length old.held → n ≤ old.room → Passes old told (advance n old) told (take n old.held)
+pub passes-advance : (n : ℕ) (old : Kept) (told : SourceView) → n ≤ length old.held → n ≤ old.room → Passes old told (advance n old) told (take n old.held)
 passes-advance n old told held room = record {
-  given = [];
-  taken = consumes-none told;
+  pieces = [];
+  given = gives-none told;
   split = append-nil old.held ∙ sym (take-append-drop n old.held);
   line_is = refl;
   room_is = omega (arith, length-take-le n old.held held);
 }
 
--- the same behind what is read first
-pub passes-more : (n : ℕ) (old mid new : Kept) (told between now : Option (List ℕ)) (a : List ℕ) → Passes old told mid between a → Passes mid between new now [] → n ≤ length new.held → n ≤ new.room → Passes old told (advance n new) now (a ++ take n new.held)
-passes-more n old mid new told between now a p q held room =
-    passes-then old mid (advance n new) told between now a (take n new.held) p (passes-then mid new (advance n new) between now now [] (take n new.held) q (passes-advance n new now held room))
+-- bytes that are held already
+pub supplied-held : (old : Kept) (told : SourceView) → IsSupplied old told old told
+unfolding passes-none
+supplied-held old told = record { passes = passes-none old told; once = tt; bounded = λ some. absurd (some refl) }
 
-pub passes-read : (old mid new : Kept) (told between now : Option (List ℕ)) (a : List ℕ) → Passes old told mid between a → Passes mid between new now [] → Passes old told new now a
-passes-read old mid new told between now a p q =
-    let P : List ℕ → Type 0 = λ x. Passes old told new now x in
-    subst P (append-nil a) (passes-then old mid new told between now a [] p q)
+-- one call, which gave these bytes
+pub supplied-call : (old : Kept) (told now : SourceView) (bytes : List ℕ) → old.held ≡ [] → Gives told (bytes ∷ []) now → length bytes ≤ old.room + 1 → IsSupplied old told (record old { held = bytes }) now
+supplied-call old told now bytes none given few = record {
+  passes = record { pieces = bytes ∷ []; given = given; split = rw (none, append-nil bytes) refl; line_is = omega arith; room_is = omega arith };
+  once = none;
+  bounded = λ some. few;
+}
+
+-- one call that gave none
+pub supplied-failed : (old : Kept) (told now : SourceView) (bytes : List ℕ) → old.held ≡ [] → Gives told ([] ∷ []) now × (bytes ≡ []) → IsSupplied old told (record old { held = bytes }) now
+supplied-failed old told now bytes none (given, nothing) =
+    let P : List ℕ → Type 0 = λ xs. IsSupplied old told (record old { held = xs }) now in
+    subst P (sym nothing) (supplied-call old told now [] none given (omega arith))
+
+-- and the source has ended
+pub supplied-over : (old new : Kept) (told now : SourceView) → IsSupplied old told new now → IsSupplied old told (record new { over = true }) now
+supplied-over old new told now s = record {
+  passes = record { pieces = s.passes.pieces; given = s.passes.given; split = s.passes.split; line_is = s.passes.line_is; room_is = s.passes.room_is };
+  once = s.once;
+  bounded = s.bounded;
+}
+
+-- bytes were passed, and a call was made only where those so far had the property
+pub record PassesBy (P : List ℕ → Type 0) (old : Kept) (told : SourceView) (new : Kept) (now : SourceView) (passed : List ℕ) : Type 0 where
+  pub passes : Passes old told new now passed
+  pub asked : AreAsked P old.held passes.pieces
+  pub bounded : IsBounded passes.pieces new
+
+pub by-none : (P : List ℕ → Type 0) (old : Kept) (told : SourceView) → PassesBy P old told old told []
+unfolding passes-none
+by-none P old told = record { passes = passes-none old told; asked = tt; bounded = λ some. absurd (some refl) }
+
+-- where no call more is made, the bound stays
+pub bounded-then : (ps qs : List (List ℕ)) (mid new : Kept) (passed : List ℕ) → IsBounded ps mid → IsBounded qs new → mid.held ++ concat qs ≡ passed ++ new.held → new.room + length passed ≡ mid.room → IsBounded (ps ++ qs) new
+bounded-then ps [] mid new passed bound more split room = λ some.
+    let held : mid.held ≡ passed ++ new.held = sym (append-nil mid.held) ∙ split in
+    let before : length mid.held ≤ mid.room + 1 = bound (λ none. some (rw none refl)) in
+    let long : length mid.held ≡ length passed + length new.held = ap length held ∙ length-append passed new.held in
+    omega (arith, before, room, long)
+bounded-then ps (q ∷ qs) mid new passed bound more split room = λ some. more (λ is. cc)
+
+-- bytes are supplied after what was passed
+pub by-supplied : (P : List ℕ → Type 0) (old mid new : Kept) (told between now : SourceView) (a : List ℕ) (p : PassesBy P old told mid between a) → AllGave p.passes.pieces → P a → IsSupplied mid between new now → PassesBy P old told new now a
+by-supplied P old mid new told between now a p gave has q =
+    let both : Passes old told new now (a ++ []) = passes-then old mid new told between now a [] p.passes q.passes in
+    record {
+      passes = record {
+        pieces = p.passes.pieces ++ q.passes.pieces;
+        given = gives-then told between now p.passes.pieces q.passes.pieces p.passes.given q.passes.given;
+        split = both.split ∙ rw (append-nil a) refl;
+        line_is = both.line_is ∙ rw (append-nil a) refl;
+        room_is = rw (append-nil a) at both.room_is;
+      };
+      asked = asked_once P old.held mid.held p.passes.pieces q.passes.pieces gave p.asked q.once (λ none. subst P (sym (p.passes.split ∙ rw none (append-nil a))) has);
+      bounded = bounded-then p.passes.pieces q.passes.pieces mid new [] p.bounded q.bounded q.passes.split q.passes.room_is;
+    }
+
+-- where bytes are held then, each call gave some
+pub gave-supplied : (P : List ℕ → Type 0) (old mid new : Kept) (told between now : SourceView) (a : List ℕ) (p : PassesBy P old told mid between a) (gave : AllGave p.passes.pieces) (has : P a) (q : IsSupplied mid between new now) → new.held ≢ [] → AllGave (by-supplied P old mid new told between now a p gave has q).passes.pieces
+unfolding by-supplied
+gave-supplied P old mid new told between now a p gave has q some = gave_once p.passes.pieces q.passes.pieces mid.held new.held gave q.once q.passes.split some
+
+-- bytes at the front are passed after what was passed
+pub by-front : (P : List ℕ → Type 0) (n : ℕ) (old new : Kept) (told now : SourceView) (a : List ℕ) (p : PassesBy P old told new now a) → n ≤ length new.held → n ≤ new.room → PassesBy P old told (advance n new) now (a ++ take n new.held)
+by-front P n old new told now a p held room = record {
+  passes = record {
+    pieces = p.passes.pieces;
+    given = p.passes.given;
+    split = p.passes.split ∙ (ap (λ (xs : List ℕ). a ++ xs) (sym (take-append-drop n new.held)) ∙ sym (append_assoc a (take n new.held) (drop n new.held)));
+    line_is = omega (arith, p.passes.line_is, line_ends-append a (take n new.held));
+    room_is = omega (arith, p.passes.room_is, length-append a (take n new.held), length-take-le n new.held held);
+  };
+  asked = p.asked;
+  bounded = λ some. omega (arith, p.bounded some, length-drop n new.held);
+}
+
+pub gave-front : (P : List ℕ → Type 0) (n : ℕ) (old new : Kept) (told now : SourceView) (a : List ℕ) (p : PassesBy P old told new now a) (held : n ≤ length new.held) (room : n ≤ new.room) → AllGave p.passes.pieces → AllGave (by-front P n old new told now a p held room).passes.pieces
+unfolding by-front
+gave-front P n old new told now a p held room gave = gave
+
+abbrev pub are_gaps : List ℕ → Type 0
+are_gaps bytes = IsTrue (all_gaps false bytes)
+
+abbrev pub is_text : List ℕ → Type 0
+is_text bytes = IsTrue (unbroken false bytes)
+
+some_held : (count : ℕ) (new : Kept) → HasHeld count new → new.held ≢ []
+some_held count new h = λ none. let empty : length new.held ≡ 0 = rw none refl in absurd (omega (arith, h.some, h.held, empty))
 
 -- gaps were passed, and a comment is open or not
-pub record IsInGaps (old : Kept) (told : Option (List ℕ)) (new : Kept) (now : Option (List ℕ)) (inside : Bool) : Type 0 where
+pub record IsInGaps (old : Kept) (told : SourceView) (new : Kept) (now : SourceView) (inside : Bool) : Type 0 where
   pub before : List ℕ
-  pub passes : Passes old told new now before
+  pub by : PassesBy are_gaps old told new now before
+  pub gave : AllGave by.passes.pieces
   pub gaps : IsTrue (all_gaps false before)
   pub open_is : commented false before ≡ inside
   pub over : new.over ≡ false
 
+-- none was passed yet
+pub gaps_none : (old : Kept) (told : SourceView) → old.over ≡ false → IsInGaps old told old told false
+unfolding by-none passes-none
+gaps_none old told over = record { before = []; by = by-none are_gaps old told; gave = tt; gaps = refl; open_is = refl; over = over }
+
 -- the gaps at the front are passed too
-pub gaps_more : (old mid new : Kept) (told between now : Option (List ℕ)) (inside : Bool) (count n : ℕ) → IsInGaps old told mid between inside → Passes mid between new now [] → HasHeld count new → n ≡ gap_count inside (take count new.held) → n ≤ count
+pub gaps_more : (old mid new : Kept) (told between now : SourceView) (inside : Bool) (count n : ℕ) → IsInGaps old told mid between inside → IsSupplied mid between new now → HasHeld count new → n ≡ gap_count inside (take count new.held) → n ≤ count
     → IsInGaps old told (advance n new) now (gap_open inside (take count new.held))
 gaps_more old mid new told between now inside count n p q h n_is within =
     let front : take n (take count new.held) ≡ take n new.held = take-take n count new.held within in
     let few : n ≤ length new.held = omega (arith, h.held) in
     let room : n ≤ new.room = omega (arith, h.room) in
+    let read : PassesBy are_gaps old told new now p.before = by-supplied are_gaps old mid new told between now p.before p.by p.gave p.gaps q in
+    let gave : AllGave read.passes.pieces = gave-supplied are_gaps old mid new told between now p.before p.by p.gave p.gaps q (some_held count new h) in
     record {
       before = p.before ++ take n new.held;
-      passes = passes-more n old mid new told between now p.before p.passes q few room;
+      by = by-front are_gaps n old new told now p.before read few room;
+      gave = gave-front are_gaps n old new told now p.before read few room gave;
       gaps = all_gaps-append false p.before (take n new.held) p.gaps (rw (p.open_is, ← front, n_is) (all_gaps-front inside (take count new.held)));
       open_is = rw (commented-append false p.before (take n new.held), p.open_is, ← front, n_is) (commented-front inside (take count new.held));
       over = h.over;
@@ -94,57 +182,67 @@ gaps_end new inside count n h n_is less =
     let stands : (gap_open inside (take count new.held) ≡ false) × Starts (drop (gap_count inside (take count new.held)) (take count new.held)) = starts-behind inside (take count new.held) (omega arith) in
     (stands.0, starts-take n count new.held (rw n_is stands.1))
 
-pub gaps_done : (old new : Kept) (told now : Option (List ℕ)) (inside : Bool) → IsInGaps old told new now inside → inside ≡ false → Starts new.held → 0 < new.room → PassesGaps old told (Ok true) new now
+pub gaps_done : (old new : Kept) (told now : SourceView) (inside : Bool) → IsInGaps old told new now inside → inside ≡ false → Starts new.held → 0 < new.room → PassesGaps old told (Ok true) new now
 gaps_done old new told now inside p closed starts room = record {
   before = p.before;
-  passes = p.passes;
+  passes = p.by.passes;
   gaps = p.gaps;
-  stops = record { closed = p.open_is ∙ closed; starts = starts; room = room; over = p.over };
+  asked = p.by.asked;
+  bounded = p.by.bounded;
+  stops = record { gave = p.gave; closed = p.open_is ∙ closed; starts = starts; room = room; over = p.over };
 }
 
-pub gaps_over : (old mid new : Kept) (told between now : Option (List ℕ)) (inside : Bool) → IsInGaps old told mid between inside → Passes mid between new now [] → IsOver new now → PassesGaps old told (Ok false) new now
-gaps_over old mid new told between now inside p q over = record {
-  before = p.before;
-  passes = passes-read old mid new told between now p.before p.passes q;
-  gaps = p.gaps;
-  stops = over;
-}
+pub gaps_over : (old mid new : Kept) (told between now : SourceView) (inside : Bool) → IsInGaps old told mid between inside → IsSupplied mid between new now → IsOver new now → PassesGaps old told (Ok false) new now
+gaps_over old mid new told between now inside p q over =
+    let read : PassesBy are_gaps old told new now p.before = by-supplied are_gaps old mid new told between now p.before p.by p.gave p.gaps q in
+    record { before = p.before; passes = read.passes; gaps = p.gaps; asked = read.asked; bounded = read.bounded; stops = over }
 
-pub gaps_stop : (old mid new : Kept) (told between now : Option (List ℕ)) (inside : Bool) (fault : CutFault) → IsInGaps old told mid between inside → Passes mid between new now [] → Stops fault new → PassesGaps old told (Err fault) new now
-gaps_stop old mid new told between now inside fault p q stops = record {
-  before = p.before;
-  passes = passes-read old mid new told between now p.before p.passes q;
-  gaps = p.gaps;
-  stops = stops;
-}
+pub gaps_stop : (old mid new : Kept) (told between now : SourceView) (inside : Bool) (fault : CutFault) → IsInGaps old told mid between inside → IsSupplied mid between new now → Stops fault new → PassesGaps old told (Err fault) new now
+gaps_stop old mid new told between now inside fault p q stops =
+    let read : PassesBy are_gaps old told new now p.before = by-supplied are_gaps old mid new told between now p.before p.by p.gave p.gaps q in
+    record { before = p.before; passes = read.passes; gaps = p.gaps; asked = read.asked; bounded = read.bounded; stops = stops }
 
 -- a text was passed, and a quote is open or not
-pub record IsInText (old : Kept) (told : Option (List ℕ)) (new : Kept) (now : Option (List ℕ)) (len : ℕ) (inside : Bool) : Type 0 where
+pub record IsInText (old : Kept) (told : SourceView) (new : Kept) (now : SourceView) (len : ℕ) (inside : Bool) : Type 0 where
   pub text : List ℕ
-  pub passes : Passes old told new now text
+  pub by : PassesBy is_text old told new now text
+  pub gave : AllGave by.passes.pieces
   pub whole : IsTrue (unbroken false text)
   pub open_is : quoted false text ≡ inside
   pub len_is : len ≡ length text
   pub text_is : len ≤ 65536 → new.text ≡ text
   pub over : new.over ≡ false
 
-passes-text : (old new : Kept) (told now : Option (List ℕ)) (passed text : List ℕ) → Passes old told new now passed → Passes old told (record new { text = text }) now passed
-passes-text old new told now passed text p = record { given = p.given; taken = p.taken; split = p.split; line_is = p.line_is; room_is = p.room_is }
+-- none was passed yet
+pub text_none : (old : Kept) (told : SourceView) → old.text ≡ [] → old.over ≡ false → IsInText old told old told 0 false
+unfolding by-none passes-none
+text_none old told empty over = record { text = []; by = by-none is_text old told; gave = tt; whole = refl; open_is = refl; len_is = refl; text_is = λ few. empty; over = over }
+
+by-text : (P : List ℕ → Type 0) (old new : Kept) (told now : SourceView) (passed text : List ℕ) → PassesBy P old told new now passed → PassesBy P old told (record new { text = text }) now passed
+by-text P old new told now passed text p = record {
+  passes = record { pieces = p.passes.pieces; given = p.passes.given; split = p.passes.split; line_is = p.passes.line_is; room_is = p.passes.room_is };
+  asked = p.asked;
+  bounded = p.bounded;
+}
 
 kept_short : (len : ℕ) (xs : List ℕ) → len ≤ 65536 → (if nat_le len 65536 then xs else []) ≡ xs
 kept_short len xs few = grind (arith, nat_tests)
 
 -- the text at the front is passed too
-pub text_more : (old mid new : Kept) (told between now : Option (List ℕ)) (len : ℕ) (inside : Bool) (count n : ℕ) → IsInText old told mid between len inside → Passes mid between new now [] → new.text ≡ mid.text → HasHeld count new → n ≡ text_count inside (take count new.held) → n ≤ count
+pub text_more : (old mid new : Kept) (told between now : SourceView) (len : ℕ) (inside : Bool) (count n : ℕ) → IsInText old told mid between len inside → IsSupplied mid between new now → new.text ≡ mid.text → HasHeld count new → n ≡ text_count inside (take count new.held) → n ≤ count
     → IsInText old told (record (advance n new) { text = (if nat_le (len + n) 65536 then new.text ++ take n new.held else []) }) now (len + n) (text_open inside (take count new.held))
+unfolding by-text
 text_more old mid new told between now len inside count n p q same h n_is within =
     let front : take n (take count new.held) ≡ take n new.held = take-take n count new.held within in
     let few : n ≤ length new.held = omega (arith, h.held) in
     let room : n ≤ new.room = omega (arith, h.room) in
     let size : length (take n new.held) ≡ n = length-take-le n new.held few in
+    let read : PassesBy is_text old told new now p.text = by-supplied is_text old mid new told between now p.text p.by p.gave p.whole q in
+    let gave : AllGave read.passes.pieces = gave-supplied is_text old mid new told between now p.text p.by p.gave p.whole q (some_held count new h) in
     record {
       text = p.text ++ take n new.held;
-      passes = passes-text old (advance n new) told now (p.text ++ take n new.held) (if nat_le (len + n) 65536 then new.text ++ take n new.held else []) (passes-more n old mid new told between now p.text p.passes q few room);
+      by = by-text is_text old (advance n new) told now (p.text ++ take n new.held) (if nat_le (len + n) 65536 then new.text ++ take n new.held else []) (by-front is_text n old new told now p.text read few room);
+      gave = gave-front is_text n old new told now p.text read few room gave;
       whole = unbroken-append false p.text (take n new.held) p.whole (rw (p.open_is, ← front, n_is) (unbroken-front inside (take count new.held)));
       open_is = rw (quoted-append false p.text (take n new.held), p.open_is, ← front, n_is) (quoted-front inside (take count new.held));
       len_is = omega (arith, p.len_is, size, length-append p.text (take n new.held));
@@ -161,39 +259,47 @@ text_end new inside count n h n_is less =
     let stands : (text_open inside (take count new.held) ≡ false) × Ends (drop (text_count inside (take count new.held)) (take count new.held)) = ends-behind inside (take count new.held) (omega arith) in
     (stands.0, ends-take n count new.held (rw n_is stands.1))
 
-pub text_done : (old new : Kept) (told now : Option (List ℕ)) (len : ℕ) (inside : Bool) → IsInText old told new now len inside → inside ≡ false → Ends new.held → 0 < length new.held → 0 < new.room
+pub text_done : (old new : Kept) (told now : SourceView) (len : ℕ) (inside : Bool) → IsInText old told new now len inside → inside ≡ false → Ends new.held → 0 < length new.held → 0 < new.room
     → PassesText old told (Ok (record { len = len; shown = Some (slice_index new.held 0 == 58) })) (advance 1 new) now
-text_done old new told now len inside p closed ends some room = record {
-  text = p.text;
-  end = take 1 new.held;
-  passes = passes-then old new (advance 1 new) told now now p.text (take 1 new.held) p.passes (passes-advance 1 new now (omega arith) (omega arith));
-  whole = p.whole;
-  stops = record {
-    ends = record { end_is = ends-first new.held ends; closed = p.open_is ∙ closed; over = p.over };
-    len_is = p.len_is;
-    text_is = p.text_is;
-  };
-}
+text_done old new told now len inside p closed ends some room =
+    let end : PassesBy is_text old told (advance 1 new) now (p.text ++ take 1 new.held) = by-front is_text 1 old new told now p.text p.by (omega arith) (omega arith) in
+    record {
+      text = p.text;
+      end = take 1 new.held;
+      passes = end.passes;
+      whole = p.whole;
+      asked = end.asked;
+      bounded = end.bounded;
+      stops = record {
+        ends = record { end_is = ends-first new.held ends; closed = p.open_is ∙ closed; over = p.over };
+        len_is = p.len_is;
+        text_is = p.text_is;
+      };
+    }
 
-pub text_over : (old mid new : Kept) (told between now : Option (List ℕ)) (len : ℕ) (inside : Bool) → IsInText old told mid between len inside → Passes mid between new now [] → new.text ≡ mid.text → IsOver new now
+-- nothing more was passed
+no_more : (P : List ℕ → Type 0) (old new : Kept) (told now : SourceView) (a : List ℕ) → PassesBy P old told new now a → PassesBy P old told new now (a ++ [])
+no_more P old new told now a p = let Q : List ℕ → Type 0 = λ xs. PassesBy P old told new now xs in subst Q (sym (append-nil a)) p
+
+pub text_over : (old mid new : Kept) (told between now : SourceView) (len : ℕ) (inside : Bool) → IsInText old told mid between len inside → IsSupplied mid between new now → new.text ≡ mid.text → IsOver new now
     → PassesText old told (Ok (record { len = len; shown = None })) new now
-text_over old mid new told between now len inside p q same over = record {
-  text = p.text;
-  end = [];
-  passes = passes-then old mid new told between now p.text [] p.passes q;
-  whole = p.whole;
-  stops = record {
-    ends = record { no_end = refl; over = over };
-    len_is = p.len_is;
-    text_is = λ few. same ∙ p.text_is few;
-  };
-}
+text_over old mid new told between now len inside p q same over =
+    let read : PassesBy is_text old told new now (p.text ++ []) = no_more is_text old new told now p.text (by-supplied is_text old mid new told between now p.text p.by p.gave p.whole q) in
+    record {
+      text = p.text;
+      end = [];
+      passes = read.passes;
+      whole = p.whole;
+      asked = read.asked;
+      bounded = read.bounded;
+      stops = record {
+        ends = record { no_end = refl; over = over };
+        len_is = p.len_is;
+        text_is = λ few. same ∙ p.text_is few;
+      };
+    }
 
-pub text_stop : (old mid new : Kept) (told between now : Option (List ℕ)) (len : ℕ) (inside : Bool) (fault : CutFault) → IsInText old told mid between len inside → Passes mid between new now [] → Stops fault new → PassesText old told (Err fault) new now
-text_stop old mid new told between now len inside fault p q stops = record {
-  text = p.text;
-  end = [];
-  passes = passes-then old mid new told between now p.text [] p.passes q;
-  whole = p.whole;
-  stops = (refl, stops);
-}
+pub text_stop : (old mid new : Kept) (told between now : SourceView) (len : ℕ) (inside : Bool) (fault : CutFault) → IsInText old told mid between len inside → IsSupplied mid between new now → Stops fault new → PassesText old told (Err fault) new now
+text_stop old mid new told between now len inside fault p q stops =
+    let read : PassesBy is_text old told new now (p.text ++ []) = no_more is_text old new told now p.text (by-supplied is_text old mid new told between now p.text p.by p.gave p.whole q) in
+    record { text = p.text; end = []; passes = read.passes; whole = p.whole; asked = read.asked; bounded = read.bounded; stops = (refl, stops) }

@@ -1,8 +1,11 @@
 -- The item of a source that tells what it has left.
-use Rattle.std.proofs.Common.{◌≡◌, ℕ, Bool, true, false, List, [], ◌++◌, Result, refl, sym, subst}
+use Rattle.std.proofs.Common.{◌≡◌, ℕ, Bool, true, false, List, [], ◌++◌, Option, Some, Result, refl, sym, subst}
+use Rattle.std.specs.List.{concat}
+use Rattle.std.specs.Io.KnownBytes.{Consumes, IsAtEnd as HasGivenAll}
+use Rattle.wal_outside.specs.Views.{SourceView}
 use Rattle.script_cut.specs.Cuts.{Place}
 use Rattle.script_cut.specs.Kept.{Kept}
-use Rattle.script_cut.specs.Cutting.{place_of, GivesItem}
+use Rattle.script_cut.specs.Cutting.{place_of, MayCome, GivesItem, HasCut}
 use Rattle.script_cut.specs.Laws.{GivesToldItem}
 use Rattle.script_cut.specs.declared.cut.Cut.{Cut}
 use Rattle.script_cut.specs.declared.cut.CutFault.{CutFault}
@@ -10,17 +13,27 @@ use Rattle.script_cut.specs.declared.cut.CutFault.{CutFault}
 same_place : (kept : Kept) (xs ys : List ℕ) → kept.over ≡ true → place_of kept xs ≡ place_of kept ys
 same_place kept xs ys over = rw over refl
 
-told_by : (old new : Kept) (left now : List ℕ) (result : Result Cut CutFault) (v w : Bool) → old.over ≡ v → new.over ≡ w → GivesToldItem old left result new now
-told_by old new left now result v false begun is h =
-    let P : List ℕ → Type 0 = λ bytes. GivesItem (place_of old bytes) result (place_of new now) in
-    subst P (sym h.taken) (h.item now (rw is refl))
-told_by old new left now result false true begun is h =
-    let P : List ℕ → Type 0 = λ bytes. GivesItem (place_of old bytes) result (place_of new now) in
-    subst P (sym h.taken) (h.item now (rw is (h.ended begun is)))
-told_by old new left now result true true begun is h =
-    let P : Place → Type 0 = λ place. GivesItem place result (place_of new now) in
-    let Q : Place → Type 0 = λ place. GivesItem (place_of old (h.given ++ [])) result place in
-    subst P (same_place old (h.given ++ []) left begun) (subst Q (same_place new [] now is) (h.item [] (rw is refl)))
+may_come : (over : Bool) (told : Option (List ℕ)) (now : List ℕ) (v : Bool) → over ≡ v → told ≡ Some now → MayCome v (Some now) now → MayCome over told now
+may_come over told now v is told_is may = rw (is, told_is) may
 
-pub told_item : (old : Kept) (left : List ℕ) (result : Result Cut CutFault) (new : Kept) (now : List ℕ) → GivesToldItem old left result new now
-told_item old left result new now = told_by old new left now result old.over new.over refl refl
+may_come_over : (over : Bool) (told : Option (List ℕ)) → over ≡ true → MayCome over told []
+may_come_over true told is = refl
+may_come_over false told is = cc
+
+told_by : (old new : Kept) (left now : List ℕ) (from to : SourceView) (result : Result Cut CutFault) (v w : Bool) → old.over ≡ v → new.over ≡ w → from.left ≡ Some left → to.left ≡ Some now → HasCut old from result new to → GivesItem (place_of old left) result (place_of new now)
+told_by old new left now from to result v false begun is told told' h =
+    let P : List ℕ → Type 0 = λ bytes. GivesItem (place_of old bytes) result (place_of new now) in
+    let taken : Consumes (Some left) (Some now) (concat h.pieces) = rw (told, told') at h.given.taken in
+    subst P (sym taken) (h.item now (may_come new.over to.left now false is told' refl))
+told_by old new left now from to result false true begun is told told' h =
+    let P : List ℕ → Type 0 = λ bytes. GivesItem (place_of old bytes) result (place_of new now) in
+    let taken : Consumes (Some left) (Some now) (concat h.pieces) = rw (told, told') at h.given.taken in
+    let ended : HasGivenAll (Some now) = rw told' at (h.ended begun is) in
+    subst P (sym taken) (h.item now (may_come new.over to.left now true is told' ended))
+told_by old new left now from to result true true begun is told told' h =
+    let P : Place → Type 0 = λ place. GivesItem place result (place_of new now) in
+    let Q : Place → Type 0 = λ place. GivesItem (place_of old (concat h.pieces ++ [])) result place in
+    subst P (same_place old (concat h.pieces ++ []) left begun) (subst Q (same_place new [] now is) (h.item [] (may_come_over new.over to.left is)))
+
+pub told_item : (old : Kept) (from : SourceView) (result : Result Cut CutFault) (new : Kept) (to : SourceView) → GivesToldItem old from result new to
+told_item old from result new to = λ h left now told told'. told_by old new left now from to result old.over new.over refl refl told told' h

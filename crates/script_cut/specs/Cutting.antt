@@ -1,6 +1,9 @@
 -- What one call of a cutter gives.
-use Rattle.std.specs.Prelude.{◌≡◌, ℕ, ◌<◌, ◌≤◌, Bool, true, false, if◌then◌else◌, List, [], ◌++◌, length, Option, None, Some, Result, Ok, Err, ⊤}
-use Rattle.std.specs.Io.KnownBytes.{Consumes, IsAtEnd as HasGivenAll}
+use Rattle.std.specs.Prelude.{◌≡◌, ◌≢◌, ℕ, ◌+◌, ◌<◌, ◌≤◌, Bool, true, false, if◌then◌else◌, List, [], ◌++◌, length, Option, None, Some, Result, Ok, Err, ⊤}
+use Rattle.std.specs.List.{concat}
+use Rattle.std.specs.Io.KnownBytes.{IsAtEnd as HasGivenAll}
+use Rattle.wal_outside.specs.Views.{SourceView}
+use Rattle.script_cut.specs.Asking.{Gives, AreAsked}
 use Rattle.script_cut.specs.Cuts.{Ended, Terminated, Unterminated, PastLimit, Place, Next, IsAtEnd, HasNoCommand}
 use Rattle.script_cut.specs.Kept.{Kept}
 use Rattle.script_cut.specs.declared.cut.Cut.{Cut}
@@ -33,15 +36,23 @@ GivesItem old (Err (faults.ScriptLimit line)) new =
 GivesItem old (Err faults.Failed) new = ⊤
 GivesItem old (Err faults.Memory) new = ⊤
 
--- One call. The source gave some bytes. Whatever comes behind those that were held and those that were given,
--- the item is the next one of all these bytes, and what is left is what stands behind it. Where the source
--- failed, no command has its terminator in the bytes that were held and given.
-pub record HasCut (old : Kept) (told : Option (List ℕ)) (result : Result Cut CutFault) (new : Kept) (now : Option (List ℕ)) : Type 0 where
-  pub given : List ℕ
-  pub taken : Consumes told now given
-  pub ended : old.over ≡ false → new.over ≡ true → HasGivenAll now
-  pub item : (more : List ℕ) → MayCome new.over now more → GivesItem (place_of old (given ++ more)) result (place_of new more)
-  pub failed : result ≡ Err faults.Failed → HasNoCommand (old.held ++ given)
+-- the source failed: all that was held and given may be passed, and no command has its terminator in it
+pub record HasFailed (old : Kept) (given : List ℕ) : Type 0 where
+  pub none : HasNoCommand (old.held ++ given)
+  pub within : length (old.held ++ given) ≤ old.room
+
+-- One call. The source gave pieces, each in a call of its own. Whatever comes after the bytes that were held and those that were given, the
+-- item is the next one of all these bytes, and what is left is what stands after it. Each call of the source but the last gave bytes, and
+-- before the last one no command had its terminator in what was held and given; so no call is made once a whole command is there or the
+-- source has ended. Where calls are made, at most one byte past those that may be passed is held and given.
+pub record HasCut (old : Kept) (told : SourceView) (result : Result Cut CutFault) (new : Kept) (now : SourceView) : Type 0 where
+  pub pieces : List (List ℕ)
+  pub given : Gives told pieces now
+  pub asked : AreAsked HasNoCommand old.held pieces
+  pub within : pieces ≢ [] → length (old.held ++ concat pieces) ≤ old.room + 1
+  pub ended : old.over ≡ false → new.over ≡ true → HasGivenAll now.left
+  pub item : (more : List ℕ) → MayCome new.over now.left more → GivesItem (place_of old (concat pieces ++ more)) result (place_of new more)
+  pub failed : result ≡ Err faults.Failed → HasFailed old (concat pieces)
 
 -- the answers with which a script has ended, and none other
 abbrev pub EndsScript : Result Cut CutFault → Kept → Type 0

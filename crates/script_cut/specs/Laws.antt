@@ -1,5 +1,6 @@
 -- What holds of the cuts of every script.
 use Rattle.std.specs.Prelude.{◌≡◌, ℕ, List, Some, Result}
+use Rattle.wal_outside.specs.Views.{SourceView}
 use Rattle.script_cut.specs.Cuts.{Item, Place, Next, HasItems}
 use Rattle.script_cut.specs.Kept.{Kept}
 use Rattle.script_cut.specs.Cutting.{place_of, GivesItem, HasCut}
@@ -15,5 +16,5 @@ abbrev pub HasOneList : Place → Type 0
 HasOneList place = (is js : List Item) → HasItems place is → HasItems place js → is ≡ js
 
 -- where the source tells what it has left, the item is the next one of what was held and what was left
-abbrev pub GivesToldItem : Kept → List ℕ → Result Cut CutFault → Kept → List ℕ → Type 0
-GivesToldItem old left result new now = HasCut old (Some left) result new (Some now) → GivesItem (place_of old left) result (place_of new now)
+abbrev pub GivesToldItem : Kept → SourceView → Result Cut CutFault → Kept → SourceView → Type 0
+GivesToldItem old from result new to = HasCut old from result new to → (left now : List ℕ) → from.left ≡ Some left → to.left ≡ Some now → GivesItem (place_of old left) result (place_of new now)

@@ -2,6 +2,7 @@ pub mod Texts
 pub mod Cuts
 pub mod Lengths
 pub mod Kept
+pub mod Asking
 pub mod Cutting
 pub mod Passing
 pub mod Reading

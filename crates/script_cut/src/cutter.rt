@@ -1,9 +1,10 @@
 // A script, one item after another.
 ghost use Rattle.std.specs.Prelude.{◌≡◌, ◌⊎◌, ℕ, ◌+◌, ◌-◌, ◌<◌, ◌≤◌, nat_le, Bool, true, false, not, IsTrue, if◌then◌else◌, List, [], ◌++◌, length, take, drop, slice_index, Ok, Err, OnOk, OnErr, IfErr, IsErrOf, ◌==◌};
-ghost use Rattle.wal_outside.specs.Causes.{Rose};
+ghost use Rattle.wal_outside.specs.Causes.{CountsFault};
+ghost use Rattle.script_cut.specs.Asking.{is_failed_cut};
 ghost use Rattle.script_cut.specs.Lengths.{gap_count, gap_open, text_count, text_open};
 ghost use Rattle.script_cut.specs.Kept.{kept_bytes, fresh, IsWithin, advance};
-ghost use Rattle.script_cut.specs.Passing.{Passes, Supplies, PassesGaps, PassesText};
+ghost use Rattle.script_cut.specs.Passing.{IsSupplied, IsRefilled, Supplies, PassesGaps, PassesText};
 ghost use Rattle.script_cut.specs.Texts.{unbroken};
 ghost use Rattle.script_cut.specs.Cuts.{HasNoCommand};
 ghost use Rattle.script_cut.specs.Reading.{IsStill, IsStillBehindGaps};
@@ -87,7 +88,8 @@ impl Cutter {
     }
 
     /// The next command of the script, whose bytes `from` gives. It reads only where what it holds has no
-    /// whole command.
+    /// whole command, no more than one byte past the limit of the script, and not again once a command is
+    /// whole or the script has ended.
     ///
     /// # Errors
     /// `Syntax` where the script ends in a text without terminator; then it gives `End`, as after `End`.
@@ -95,13 +97,12 @@ impl Cutter {
     /// limit of the script comes first, `Failed` where the source failed, `Memory`: what was given before
     /// stands, and the cutter is to be dropped.
     pub fn cut<S: Source>(&mut self, from: &mut S) -> Result<Cut, CutFault>
-        ensures cut { HasCut self.old (S.left from.old) result self.new (S.left from.new) }
+        ensures cut { HasCut self.old (S.view from.old) result self.new (S.view from.new) }
         ensures last { EndsScript result self.new }
         ensures again { self.old.over ≡ true → (result ≡ Ok End) × (self.new.over ≡ true) }
         ensures still { (from.new ≡ from.old) ⊎ HasNoCommand self.old.held }
         ensures bound { length (kept_bytes self.new) ≤ 65537 }
-        ensures later { S.faults from.old ≤ S.faults from.new }
-        ensures cause { IsErrOf result SourceFailed → Rose (S.faults from.old) (S.faults from.new) }
+        ensures faults { CountsFault (is_failed_cut result) (S.view from.old).faults (S.view from.new).faults }
     {
         self.text.clear();
         if self.over {
@@ -116,11 +117,10 @@ impl Cutter {
     fn next_item<S: Source>(&mut self, from: &mut S) -> Result<Cut, CutFault>
         requires empty { self.old.text ≡ [] }
         requires begun { self.old.over ≡ false }
-        ensures cut { HasCut self.old (S.left from.old) result self.new (S.left from.new) }
+        ensures cut { HasCut self.old (S.view from.old) result self.new (S.view from.new) }
         ensures last { EndsScript result self.new }
         ensures still { (from.new ≡ from.old) ⊎ HasNoCommand self.old.held }
-        ensures later { S.faults from.old ≤ S.faults from.new }
-        ensures cause { IsErrOf result SourceFailed → Rose (S.faults from.old) (S.faults from.new) }
+        ensures faults { CountsFault (is_failed_cut result) (S.view from.old).faults (S.view from.new).faults }
     {
         if !self.pass_gaps(from)? {
             return Ok(Cut::End);
@@ -142,11 +142,10 @@ impl Cutter {
     /// Goes to the next command; false where there is none.
     fn pass_gaps<S: Source>(&mut self, from: &mut S) -> Result<bool, CutFault>
         requires { self.old.over ≡ false }
-        ensures gaps { PassesGaps self.old (S.left from.old) result self.new (S.left from.new) }
+        ensures gaps { PassesGaps self.old (S.view from.old) result self.new (S.view from.new) }
         ensures still { IsStillBehindGaps (from.new ≡ from.old) self.old result self.new }
         ensures text { self.new.text ≡ self.old.text }
-        ensures later { S.faults from.old ≤ S.faults from.new }
-        ensures cause { IsErrOf result SourceFailed → Rose (S.faults from.old) (S.faults from.new) }
+        ensures faults { CountsFault (is_failed_cut result) (S.view from.old).faults (S.view from.new).faults }
     {
         let mut commented = false;
         'pieces: loop {
@@ -166,10 +165,9 @@ impl Cutter {
     fn pass_text<S: Source>(&mut self, from: &mut S) -> Result<Scanned, CutFault>
         requires empty { self.old.text ≡ [] }
         requires begun { self.old.over ≡ false }
-        ensures text { PassesText self.old (S.left from.old) result self.new (S.left from.new) }
+        ensures text { PassesText self.old (S.view from.old) result self.new (S.view from.new) }
         ensures still { (from.new ≡ from.old) ⊎ IsTrue (unbroken false self.old.held) }
-        ensures later { S.faults from.old ≤ S.faults from.new }
-        ensures cause { IsErrOf result SourceFailed → Rose (S.faults from.old) (S.faults from.new) }
+        ensures faults { CountsFault (is_failed_cut result) (S.view from.old).faults (S.view from.new).faults }
     {
         let _ = &self.room;
         let mut quoted = false;
@@ -195,20 +193,13 @@ impl Cutter {
     /// How many bytes are held that may be passed: reads once where none is held. None at the script's end.
     fn supply<S: Source>(&mut self, from: &mut S) -> Result<Option<usize>, CutFault>
         requires { self.old.over ≡ false }
-        ensures passes { Passes self.old (S.left from.old) self.new (S.left from.new) [] }
-        ensures supplies { Supplies result self.new (S.left from.new) }
+        ensures passes { IsSupplied self.old (S.view from.old) self.new (S.view from.new) }
+        ensures supplies { Supplies result self.new (S.view from.new) }
         ensures still { IsStill (from.new ≡ from.old) self.old self.new }
         ensures text { self.new.text ≡ self.old.text }
-        ensures later { S.faults from.old ≤ S.faults from.new }
-        ensures cause { IsErrOf result SourceFailed → Rose (S.faults from.old) (S.faults from.new) }
+        ensures faults { CountsFault (is_failed_cut result) (S.view from.old).faults (S.view from.new).faults }
     {
-        if self.window.bytes().is_empty() {
-            let most = TEXT_LIMIT + 1 - self.text.len();
-            match self.window.fill(from, most) {
-                Ok(()) => {}
-                Err(Failed) => return Err(CutFault::Failed),
-            }
-        }
+        self.refill(from)?;
         let held = self.window.bytes().len();
         if held == 0 {
             self.over = true;
@@ -218,6 +209,24 @@ impl Cutter {
             return Err(CutFault::ScriptLimit(self.line));
         }
         Ok(Some(held.min(self.room)))
+    }
+
+    /// Reads once where nothing is held, and at most one byte more than may be passed.
+    fn refill<S: Source>(&mut self, from: &mut S) -> Result<(), CutFault>
+        ensures supplied { IsSupplied self.old (S.view from.old) self.new (S.view from.new) }
+        ensures ended { IsRefilled self.old result self.new (S.view from.new) }
+        ensures still { IsStill (from.new ≡ from.old) self.old self.new }
+        ensures same { self.new ≡ record self.old { held = self.new.held } }
+        ensures faults { CountsFault (is_failed_cut result) (S.view from.old).faults (S.view from.new).faults }
+    {
+        if !self.window.bytes().is_empty() {
+            return Ok(());
+        }
+        let most = (TEXT_LIMIT + 1 - self.text.len()).min(self.room + 1);
+        if let Err(Failed) = self.window.fill(from, most) {
+            return Err(CutFault::Failed);
+        }
+        Ok(())
     }
 
     /// The gaps at the front of the next `count` bytes.

@@ -1,4 +1,5 @@
-ghost use Rattle.std.specs.Prelude.{ℕ, List, Result};
+ghost use Rattle.std.specs.Prelude.{Result};
+ghost use Rattle.wal_outside.specs.Views.{SourceView};
 ghost use Rattle.script_cut.specs.Cuts.{Place};
 ghost use Rattle.script_cut.specs.Kept.{Kept};
 ghost use Rattle.script_cut.specs.Laws.{HasOneNext, HasOneList, GivesToldItem};
@@ -12,7 +13,7 @@ pub fn one_cut()
 {}
 
 /// A law, with nothing to run: where the source tells what it has left, a call gives the next item of what the
-/// cutter held and the source had left, and what both have then is what stands behind it.
+/// cutter held and the source had left, and what both have then is what stands after it.
 pub fn told_cut()
-    ensures { (old : Kept) (left : List ℕ) (result : Result Cut CutFault) (new : Kept) (now : List ℕ) → GivesToldItem old left result new now }
+    ensures { (old : Kept) (from : SourceView) (result : Result Cut CutFault) (new : Kept) (to : SourceView) → GivesToldItem old from result new to }
 {}

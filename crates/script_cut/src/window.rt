@@ -1,7 +1,7 @@
 // Bytes that were read and not yet passed.
-ghost use Rattle.std.specs.Prelude.{◌≡◌, ℕ, ◌<◌, ◌≤◌, List, [], length, take, drop, OnErr};
-ghost use Rattle.wal_outside.specs.Causes.{Rose};
-ghost use Rattle.script_cut.specs.Passing.{Fills};
+ghost use Rattle.std.specs.Prelude.{◌≡◌, ◌<◌, ◌≤◌, [], length, drop};
+ghost use Rattle.wal_outside.specs.Causes.{CountsFault};
+ghost use Rattle.script_cut.specs.Passing.{Fills, is_failed_fill};
 
 use std::marker::Model;
 use wal_outside::{Failed, Source};
@@ -55,10 +55,9 @@ impl Window {
     /// Reads at most `most` bytes, once, where none is held.
     pub(crate) fn fill<S: Source>(&mut self, from: &mut S, most: usize) -> Result<(), Failed>
         requires { 0 < most }
-        ensures filled { Fills (S.left from.old) result self.new (S.left from.new) }
+        ensures filled { Fills (S.view from.old) result self.new (S.view from.new) }
         ensures within { length self.new ≤ most }
-        ensures later { S.faults from.old ≤ S.faults from.new }
-        ensures cause { OnErr result (Rose (S.faults from.old) (S.faults from.new)) }
+        ensures faults { CountsFault (is_failed_fill result) (S.view from.old).faults (S.view from.new).faults }
     {
         self.start = 0;
         self.end = 0;

@@ -16,11 +16,11 @@ Answers there answers.Failed into = ⊤
 Answers there answers.Memory into = ⊤
 
 -- what a read of a name answers, where the files are told
-abbrev pub Reads : Option Files → Folder → List ℕ → Found → List ℕ → Type 0
-Reads told folder name result into = IfSome told (λ files. Answers (files folder name) result into)
+abbrev pub Finds : Option Files → Folder → List ℕ → Found → List ℕ → Type 0
+Finds told folder name result into = IfSome told (λ files. Answers (files folder name) result into)
 
 -- a write that answers Ok changes the files at one name; every other write, and what isn't told, leaves them
-abbrev pub Writes : Option Files → Option Files → Folder → List ℕ → List ℕ → Result (Unit {0}) WriteFault → Type 0
-Writes None new folder name text result = new ≡ None
-Writes (Some files) new folder name text (Ok _) = new ≡ Some (put files folder name text)
-Writes (Some files) new folder name text (Err _) = new ≡ Some files
+abbrev pub Keeps : Option Files → Option Files → Folder → List ℕ → List ℕ → Result (Unit {0}) WriteFault → Type 0
+Keeps None new folder name text result = new ≡ None
+Keeps (Some files) new folder name text (Ok _) = new ≡ Some (put files folder name text)
+Keeps (Some files) new folder name text (Err _) = new ≡ Some files

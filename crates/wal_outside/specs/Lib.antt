@@ -2,8 +2,10 @@
 pub mod Causes
 pub mod Folders
 pub mod Files
-pub mod Answers
 pub mod Places
+pub mod Views
+pub mod Calls
+pub mod Answers
 pub mod Sending
 pub mod Schedules
 pub mod Shelves

@@ -1,12 +1,9 @@
 -- Which calls of an object in memory are to fail, and how many bytes each takes.
-use Rattle.std.specs.Prelude.{◌≡◌, ℕ, ◌+◌, ◌-◌, ◌==◌, ◌^◌, min, Bool, List, slice_index_or}
+use Rattle.std.specs.Prelude.{◌≡◌, ℕ, ◌==◌, min, Bool, List, slice_index_or}
 use Rattle.std.specs.List.{list_any}
+use Rattle.wal_outside.specs.Causes.{one_more}
 use Rattle.wal_outside.specs.declared.schedule.Schedule.{Schedule}
 use Rattle.wal_outside.specs.declared.pieces.Pieces.{Pieces}
-
--- one more, up to the last value of 64 bits
-abbrev pub one_more : ℕ → ℕ
-one_more n = min (n + 1) (2 ^ 64 - 1)
 
 -- whether the next call is one that is to fail: its number is listed
 abbrev pub fails_next : Schedule → Bool

@@ -75,11 +75,7 @@ impl<'a, R: Files> FolderStore<'a, R> {
 
 impl<'a, R: Files> Store for FolderStore<'a, R> {
     // files tell nothing
-    ghost files = { λ _. None };
-
-    ghost faults = { λ s. s.faults };
-
-    ghost failed = { λ _. None };
+    ghost view = { λ s. record { files = None; faults = s.faults; failed = None } };
 
     fn read(&mut self, folder: Folder, name: &str, into: &mut Vec<u8>) -> Found {
         into.clear();

@@ -49,17 +49,17 @@ impl MemSink {
 }
 
 impl Sink for MemSink {
-    ghost held = { λ s. Some (mem_held s) };
-
-    ghost faults = { λ s. s.schedule.faults };
+    ghost view = { λ s. record { held = Some (mem_held s); faults = s.schedule.faults } };
 
     fn write(&mut self, piece: &[u8]) -> Result<usize, WriteFault> {
         if self.schedule.next_fails() {
+            self.schedule.count_fault();
             return Err(WriteFault::Failed);
         }
         let count = self.pieces.next_length(piece.len());
         if count == 0 && !piece.is_empty() {
             self.schedule.count_fault();
+            return Ok(0);
         }
         self.held.extend_from_slice(&piece[..count])?;
         Ok(count)
@@ -91,9 +91,7 @@ impl SureSink {
 }
 
 impl Sink for SureSink {
-    ghost held = { λ s. Some (sure_held s) };
-
-    ghost faults = { λ _. 0 };
+    ghost view = { λ s. record { held = Some (sure_held s); faults = 0 } };
 
     fn write(&mut self, piece: &[u8]) -> Result<usize, WriteFault> {
         self.held.extend_from_slice(piece)?;

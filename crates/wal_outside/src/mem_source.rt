@@ -49,12 +49,11 @@ impl MemSource {
 }
 
 impl Source for MemSource {
-    ghost left = { λ s. Some (mem_left s) };
-
-    ghost faults = { λ s. s.schedule.faults };
+    ghost view = { λ s. record { left = Some (mem_left s); calls = source_calls s; faults = s.schedule.faults } };
 
     fn read(&mut self, buf: &mut [u8]) -> Result<usize, Failed> {
         if self.schedule.next_fails() {
+            self.schedule.count_fault();
             return Err(Failed);
         }
         let most = self.pieces.next_length(buf.len()).max(1);
@@ -69,6 +68,7 @@ impl Source for MemSource {
 pub struct SureSource {
     bytes: Vec<u8>,
     at: usize,
+    calls: u64,
 }
 
 impl SureSource {
@@ -76,7 +76,11 @@ impl SureSource {
     pub fn new(bytes: Vec<u8>) -> Self
         ensures { sure_left result ≡ bytes.items }
     {
-        SureSource { bytes, at: 0 }
+        SureSource {
+            bytes,
+            at: 0,
+            calls: 0,
+        }
     }
 
     /// The bytes that are left to be read.
@@ -88,11 +92,10 @@ impl SureSource {
 }
 
 impl Source for SureSource {
-    ghost left = { λ s. Some (sure_left s) };
-
-    ghost faults = { λ _. 0 };
+    ghost view = { λ s. record { left = Some (sure_left s); calls = s.calls; faults = 0 } };
 
     fn read(&mut self, buf: &mut [u8]) -> Result<usize, Failed> {
+        self.calls = self.calls.saturating_add(1);
         let count = give(rest_of(&self.bytes, self.at), buf.len(), buf);
         self.at += count;
         Ok(count)

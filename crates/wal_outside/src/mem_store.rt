@@ -1,7 +1,9 @@
 // Stores in memory.
-ghost use Rattle.std.specs.Prelude.{◌≡◌, ◌≢◌, ℕ, Some, None, OnOk, OnErr, IsErrOf};
+ghost use Rattle.std.specs.Prelude.{◌≡◌, Some, None, OnOk, OnErr};
 ghost use Rattle.std.specs.Option.{option_copied, option_map};
+ghost use Rattle.wal_outside.specs.Causes.{CountsFault, is_failure};
 ghost use Rattle.wal_outside.specs.Files.{put};
+ghost use Rattle.wal_outside.specs.Places.{FailedAt};
 ghost use Rattle.wal_outside.specs.Memory.{mem_files, sure_files, mem_failed, mem_count, call_place, store_calls};
 ghost use Rattle.wal_outside.specs.Schedules.{IsFresh};
 
@@ -85,15 +87,15 @@ impl MemStore {
         self.schedule.calls
     }
 
-    // Keeps which call fails. Where there is no memory for its name, that is the fault instead.
+    // Counts a fault, and keeps which call fails. Where there is no memory for its name, that is the fault instead, and none is counted.
     fn fail_at(&mut self, folder: Folder, name: &str) -> WriteFault
-        ensures failed { result ≡ WriteFault.Failed → mem_failed self.new ≡ Some (folder, name.now) }
-        ensures memory { result ≢ WriteFault.Failed → mem_failed self.new ≡ mem_failed self.old }
+        ensures failed { FailedAt (is_failure result) (folder, name.now) (Some (mem_failed self.old)) (Some (mem_failed self.new)) }
         ensures files { self.new.shelf ≡ self.old.shelf }
-        ensures faults { self.new.schedule ≡ self.old.schedule }
+        ensures faults { CountsFault (is_failure result) self.old.schedule.faults self.new.schedule.faults }
     {
         match String::from_str(self.alloc, name) {
             Ok(name) => {
+                self.schedule.count_fault();
                 self.failed = Some(FailedCall { folder, name });
                 WriteFault::Failed
             }
@@ -103,11 +105,7 @@ impl MemStore {
 }
 
 impl Store for MemStore {
-    ghost files = { λ s. Some (mem_files s) };
-
-    ghost faults = { λ s. s.schedule.faults };
-
-    ghost failed = { λ s. Some (mem_failed s) };
+    ghost view = { λ s. record { files = Some (mem_files s); faults = s.schedule.faults; failed = Some (mem_failed s) } };
 
     fn read(&mut self, folder: Folder, name: &str, into: &mut Vec<u8>) -> Found {
         into.clear();
@@ -156,11 +154,7 @@ impl SureStore {
 }
 
 impl Store for SureStore {
-    ghost files = { λ s. Some (sure_files s) };
-
-    ghost faults = { λ _. 0 };
-
-    ghost failed = { λ _. Some None };
+    ghost view = { λ s. record { files = Some (sure_files s); faults = 0; failed = Some None } };
 
     fn read(&mut self, folder: Folder, name: &str, into: &mut Vec<u8>) -> Found {
         answer(self.shelf.find(folder, name), into)

@@ -1,7 +1,7 @@
 // Which calls of an object in memory are to fail.
-ghost use Rattle.std.specs.Prelude.{◌≡◌, ℕ, ◌≤◌, IsTrue};
-ghost use Rattle.wal_outside.specs.Causes.{Rose};
-ghost use Rattle.wal_outside.specs.Schedules.{one_more, fails_next, IsFresh};
+ghost use Rattle.std.specs.Prelude.{◌≡◌, ◌≤◌, true};
+ghost use Rattle.wal_outside.specs.Causes.{one_more, CountsFault};
+ghost use Rattle.wal_outside.specs.Schedules.{fails_next, IsFresh};
 
 /// The calls that an object in memory had, and the numbers of those that are to fail.
 #[derive(Debug, Drop)]
@@ -25,26 +25,19 @@ impl Schedule {
         }
     }
 
-    /// Counts a call, and says whether it is one that is to fail, which counts as a fault.
+    /// Counts a call, and says whether it is one that is to fail.
     pub fn next_fails(&mut self) -> bool
         ensures value { result ≡ fails_next self.old }
-        ensures failing { self.new.failing ≡ self.old.failing }
-        ensures calls { self.new.calls ≡ one_more self.old.calls }
-        ensures later { self.old.faults ≤ self.new.faults }
-        ensures cause { IsTrue result → Rose self.old.faults self.new.faults }
+        ensures counted { self.new ≡ record self.old { calls = one_more self.old.calls } }
     {
         self.calls = self.calls.saturating_add(1);
-        let fails = self.failing.contains(&self.calls);
-        if fails {
-            self.count_fault();
-        }
-        fails
+        self.failing.contains(&self.calls)
     }
 
     /// Counts a fault.
     pub fn count_fault(&mut self)
         ensures value { self.new ≡ record self.old { faults = one_more self.old.faults } }
-        ensures later { self.old.faults ≤ self.new.faults }
+        ensures rose { CountsFault true self.old.faults self.new.faults }
     {
         self.faults = self.faults.saturating_add(1);
     }

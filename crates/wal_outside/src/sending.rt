@@ -1,6 +1,5 @@
 // Whole pieces for a sink.
-ghost use Rattle.std.specs.Prelude.{◌≡◌, ◌≤◌, [], ◌++◌, IsErrOf};
-ghost use Rattle.wal_outside.specs.Causes.{Rose};
+ghost use Rattle.std.specs.Prelude.{◌≡◌, [], ◌++◌};
 ghost use Rattle.wal_outside.specs.Sending.{Sends};
 
 use crate::sink::{Sink, WriteFault};
@@ -9,12 +8,10 @@ use crate::sink::{Sink, WriteFault};
 ///
 /// # Errors
 /// `Failed` where a call failed or took nothing, and `Memory` where a call had none: the bytes that
-/// were appended are a front of the piece.
+/// were appended are a front of the piece and not all of it. No call is made after that one.
 pub fn send<K: Sink>(out: &mut K, piece: &[u8]) -> Result<(), WriteFault>
-    ensures sent { Sends (K.held out.old) (K.held out.new) piece.now result }
+    ensures sent { Sends (K.view out.old) piece.now result (K.view out.new) }
     ensures empty { piece.now ≡ [] → (result ≡ Ok tt) × (out.new ≡ out.old) }
-    ensures later { K.faults out.old ≤ K.faults out.new }
-    ensures cause { IsErrOf result WriteFault.Failed → Rose (K.faults out.old) (K.faults out.new) }
 {
     let mut at = 0;
     'pieces: while at < piece.len() {
@@ -32,9 +29,7 @@ pub fn send<K: Sink>(out: &mut K, piece: &[u8]) -> Result<(), WriteFault>
 /// # Errors
 /// As `send`: what was appended is a front of the two.
 pub fn send_two<K: Sink>(out: &mut K, first: &[u8], second: &[u8]) -> Result<(), WriteFault>
-    ensures sent { Sends (K.held out.old) (K.held out.new) (first.now ++ second.now) result }
-    ensures later { K.faults out.old ≤ K.faults out.new }
-    ensures cause { IsErrOf result WriteFault.Failed → Rose (K.faults out.old) (K.faults out.new) }
+    ensures { Sends (K.view out.old) (first.now ++ second.now) result (K.view out.new) }
 {
     send(out, first)?;
     send(out, second)
@@ -51,9 +46,7 @@ pub fn send_four<K: Sink>(
     third: &[u8],
     fourth: &[u8],
 ) -> Result<(), WriteFault>
-    ensures sent { Sends (K.held out.old) (K.held out.new) ((first.now ++ second.now) ++ (third.now ++ fourth.now)) result }
-    ensures later { K.faults out.old ≤ K.faults out.new }
-    ensures cause { IsErrOf result WriteFault.Failed → Rose (K.faults out.old) (K.faults out.new) }
+    ensures { Sends (K.view out.old) ((first.now ++ second.now) ++ (third.now ++ fourth.now)) result (K.view out.new) }
 {
     send_two(out, first, second)?;
     send_two(out, third, fourth)

@@ -1,8 +1,8 @@
 // Where bytes are written.
-ghost use Rattle.std.specs.Prelude.{◌≡◌, ℕ, ◌<◌, ◌≤◌, List, Option, length, IsErrOf};
+ghost use Rattle.std.specs.Prelude.{◌≡◌};
 ghost use Rattle.std.specs.Io.{WritesAtMost};
-ghost use Rattle.std.specs.Io.KnownBytes.{WriteAppends};
-ghost use Rattle.wal_outside.specs.Causes.{Rose};
+ghost use Rattle.wal_outside.specs.Calls.{Writes};
+ghost use Rattle.wal_outside.specs.Views.{SinkView};
 ghost use Rattle.wal_outside.specs.declared.sink.WriteFault.TheVariants.{Memory};
 
 use std::alloc::{AllocError, AllocFailed};
@@ -18,23 +18,19 @@ pub enum WriteFault {
 
 /// Where answers are printed.
 pub trait Sink {
-    // the bytes that were written, where they are told
-    ghost held: { Self → Option (List ℕ) };
-
-    // how many faults there were; this never falls, and stands still at its last value
-    ghost faults: { Self → ℕ };
+    // the bytes that were written, where they are told, and how many faults there were; this count never falls, and stands still at
+    // its last value
+    ghost view: { Self → SinkView };
 
     /// Appends bytes from the front of the piece to what was written, and gives how many.
     ///
     /// # Errors
     /// `Failed` where the call failed, and `Memory` where it had none: nothing was appended. The
-    /// count of faults rose at `Failed`, and where nothing was taken of a piece that has bytes.
+    /// count of faults rose at `Failed`, and where nothing was taken of a piece that has bytes. Else
+    /// it stays.
     fn write(&mut self, piece: &[u8]) -> Result<usize, WriteFault>
         ensures bound { WritesAtMost result piece.now }
-        ensures bytes { WriteAppends (held self.old) (held self.new) result piece.now }
-        ensures later { faults self.old ≤ faults self.new }
-        ensures cause { IsErrOf result WriteFault.Failed → Rose (faults self.old) (faults self.new) }
-        ensures stuck { result ≡ Ok 0 → 0 < length piece.now → Rose (faults self.old) (faults self.new) };
+        ensures written { Writes (view self.old) result piece.now (view self.new) };
 }
 
 impl From<AllocError> for WriteFault {

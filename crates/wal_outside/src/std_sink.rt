@@ -30,9 +30,7 @@ impl<W: Write> StdSink<W> {
 
 impl<W: Write> Sink for StdSink<W> {
     // what the writer tells
-    ghost held = { λ s. W.contents s.writer };
-
-    ghost faults = { λ s. s.faults };
+    ghost view = { λ s. record { held = W.contents s.writer; faults = s.faults } };
 
     fn write(&mut self, piece: &[u8]) -> Result<usize, WriteFault> {
         match write_some(&mut self.writer, piece) {

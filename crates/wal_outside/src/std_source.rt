@@ -11,13 +11,18 @@ use std::io::{ErrorKind, Read};
 #[derive(Debug, Drop)]
 pub struct StdSource<R> {
     reader: R,
+    calls: u64,
     faults: u64,
 }
 
 impl<R: Read> StdSource<R> {
     /// A source of what the reader gives.
     pub fn new(reader: R) -> Self {
-        StdSource { reader, faults: 0 }
+        StdSource {
+            reader,
+            calls: 0,
+            faults: 0,
+        }
     }
 
     /// How many faults there were.
@@ -30,11 +35,10 @@ impl<R: Read> StdSource<R> {
 
 impl<R: Read> Source for StdSource<R> {
     // what the reader tells
-    ghost left = { λ s. R.remaining s.reader };
-
-    ghost faults = { λ s. s.faults };
+    ghost view = { λ s. record { left = R.remaining s.reader; calls = s.calls; faults = s.faults } };
 
     fn read(&mut self, buf: &mut [u8]) -> Result<usize, Failed> {
+        self.calls = self.calls.saturating_add(1);
         match read_some(&mut self.reader, buf) {
             Ok(count) => Ok(count),
             Err(_) => {

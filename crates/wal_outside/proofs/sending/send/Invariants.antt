@@ -5,10 +5,9 @@ use Rattle.wal_outside.proofs.sending.send.Given as goal
 -- what stands before `at` was sent, and nothing was called while there was none
 abbrev pub invariant-pieces : goal.invariant-pieces
 invariant-pieces g l = record {
-  sent : HasSent (g.K.Sink.held l.initial.out) (g.K.Sink.held l.out) (take l.at l.piece);
+  sent : HasSent (g.K.Sink.view l.initial.out) (take l.at l.piece) (g.K.Sink.view l.out);
   within : l.at ≤ length l.piece;
   fresh : length l.piece ≡ 0 → l.out ≡ l.initial.out;
-  later : g.K.Sink.faults l.initial.out ≤ g.K.Sink.faults l.out;
 }
 
 abbrev pub decreases-pieces : goal.decreases-pieces

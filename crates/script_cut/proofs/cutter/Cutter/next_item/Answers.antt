@@ -1,48 +1,66 @@
-use Rattle.std.proofs.Common.{◌≡◌, ◌≤◌, true, Ok, sym, ap, subst, arith}
+use Rattle.std.proofs.Common.{◌≡◌, ◌≤◌, true, false, ◌∙◌, Ok, sym, ap, subst, arith}
 use Rattle.std.proofs.lemmas.Result.{err_from_is_err_and}
 use Rattle.script_cut.specs.Kept.{Kept}
 use Rattle.script_cut.specs.Passing.{PassesGaps}
 use Rattle.script_cut.specs.Cutting.{HasCut}
 use Rattle.script_cut.specs.declared.cut.Cut.TheVariants as cuts
-use Rattle.script_cut.proofs.CutSteps.{cut_gaps_stop, cut_text_stop, cut_too_long, cut_command, cut_syntax, found_terminated, found_unterminated}
+use Rattle.script_cut.proofs.CutSteps.{cut_end, still_both, cut_gaps_stop, cut_text_stop, cut_too_long, cut_command, cut_syntax, found_terminated, found_unterminated}
 use Rattle.script_cut.proofs.cutter.Cutter.next_item.Goals as goal
+
+pub returns-then-not-branch-clause-cut : goal.returns-then-not-branch-clause-cut
+returns-then-not-branch-clause-cut g c =
+    let is : c.in_ok-pass_gaps.field-0 ≡ false = grind arith in
+    let gaps : PassesGaps c.args.self.now (g.S.Source.view c.args.from.now) (Ok false) c.pass_gaps.new.self (g.S.Source.view c.pass_gaps.new.from) = rw is at c.in_ok-pass_gaps.ensures.gaps in
+    cut_end c.args.self.now c.pass_gaps.new.self (g.S.Source.view c.args.from.now) (g.S.Source.view c.pass_gaps.new.from) c.requires.begun gaps
+
+pub returns-in_err-scanned-clause-still : goal.returns-in_err-scanned-clause-still
+returns-in_err-scanned-clause-still g c =
+    let is : c.in_ok-pass_gaps.field-0 ≡ true = grind arith in
+    let gaps : PassesGaps c.args.self.now (g.S.Source.view c.args.from.now) (Ok true) c.pass_gaps.new.self (g.S.Source.view c.pass_gaps.new.from) = rw is at c.in_ok-pass_gaps.ensures.gaps in
+    still_both (c.pass_gaps.new.from ≡ c.args.from.now) (c.pass_text.new.from ≡ c.pass_gaps.new.from) (c.pass_text.new.from ≡ c.args.from.now) c.args.self.now c.pass_gaps.new.self (λ p q. q ∙ p) (rw is at c.in_ok-pass_gaps.ensures.still) gaps.stops.starts c.pass_text.ensures.still
+
+pub returns-then-scanned-gt-TEXT_LIMIT-clause-still : goal.returns-then-scanned-gt-TEXT_LIMIT-clause-still
+returns-then-scanned-gt-TEXT_LIMIT-clause-still g c =
+    let is : c.in_ok-pass_gaps.field-0 ≡ true = grind arith in
+    let gaps : PassesGaps c.args.self.now (g.S.Source.view c.args.from.now) (Ok true) c.pass_gaps.new.self (g.S.Source.view c.pass_gaps.new.from) = rw is at c.in_ok-pass_gaps.ensures.gaps in
+    still_both (c.pass_gaps.new.from ≡ c.args.from.now) (c.pass_text.new.from ≡ c.pass_gaps.new.from) (c.pass_text.new.from ≡ c.args.from.now) c.args.self.now c.pass_gaps.new.self (λ p q. q ∙ p) (rw is at c.in_ok-pass_gaps.ensures.still) gaps.stops.starts c.pass_text.ensures.still
 
 pub returns-in_err-pass_gaps-clause-cut : goal.returns-in_err-pass_gaps-clause-cut
 returns-in_err-pass_gaps-clause-cut g c =
     let p = err_from_is_err_and c.from_residual.result c.from_residual.ensures.1 in
-    rw (p.1, p.2) (cut_gaps_stop c.args.self.now c.pass_gaps.new.self (g.S.Source.left c.args.from.now) (g.S.Source.left c.pass_gaps.new.from) c.in_err-pass_gaps.field-0.0 c.requires.begun c.in_err-pass_gaps.ensures.gaps)
+    rw (p.1, p.2) (cut_gaps_stop c.args.self.now c.pass_gaps.new.self (g.S.Source.view c.args.from.now) (g.S.Source.view c.pass_gaps.new.from) c.in_err-pass_gaps.field-0.0 c.requires.begun c.in_err-pass_gaps.ensures.gaps)
 
 pub returns-in_err-scanned-clause-cut : goal.returns-in_err-scanned-clause-cut
 returns-in_err-scanned-clause-cut g c =
     let is : c.in_ok-pass_gaps.field-0 ≡ true = grind arith in
-    let gaps : PassesGaps c.args.self.now (g.S.Source.left c.args.from.now) (Ok true) c.pass_gaps.new.self (g.S.Source.left c.pass_gaps.new.from) = rw is at c.in_ok-pass_gaps.ensures.gaps in
+    let gaps : PassesGaps c.args.self.now (g.S.Source.view c.args.from.now) (Ok true) c.pass_gaps.new.self (g.S.Source.view c.pass_gaps.new.from) = rw is at c.in_ok-pass_gaps.ensures.gaps in
     let p = err_from_is_err_and c.from_residual-in_err-scanned.result c.from_residual-in_err-scanned.ensures.1 in
-    rw (p.1, p.2) (cut_text_stop c.args.self.now c.pass_gaps.new.self c.pass_text.new.self (g.S.Source.left c.args.from.now) (g.S.Source.left c.pass_gaps.new.from) (g.S.Source.left c.pass_text.new.from) c.in_err-scanned.field-0.0 c.requires.begun gaps c.in_err-scanned.ensures.text)
+    rw (p.1, p.2) (cut_text_stop c.args.self.now c.pass_gaps.new.self c.pass_text.new.self (g.S.Source.view c.args.from.now) (g.S.Source.view c.pass_gaps.new.from) (g.S.Source.view c.pass_text.new.from) c.in_err-scanned.field-0.0 c.requires.begun gaps c.in_err-scanned.ensures.text)
 
 pub returns-then-scanned-gt-TEXT_LIMIT-clause-cut :
     goal.returns-then-scanned-gt-TEXT_LIMIT-clause-cut
 returns-then-scanned-gt-TEXT_LIMIT-clause-cut g c =
     let is : c.in_ok-pass_gaps.field-0 ≡ true = grind arith in
-    let gaps : PassesGaps c.args.self.now (g.S.Source.left c.args.from.now) (Ok true) c.pass_gaps.new.self (g.S.Source.left c.pass_gaps.new.from) = rw is at c.in_ok-pass_gaps.ensures.gaps in
+    let gaps : PassesGaps c.args.self.now (g.S.Source.view c.args.from.now) (Ok true) c.pass_gaps.new.self (g.S.Source.view c.pass_gaps.new.from) = rw is at c.in_ok-pass_gaps.ensures.gaps in
     let line : c.self.inside.line ≡ c.pass_gaps.new.self.line = ap (λ (k : Kept). k.line) c.self.view_is in
-    rw line (cut_too_long c.args.self.now c.pass_gaps.new.self c.pass_text.new.self (g.S.Source.left c.args.from.now) (g.S.Source.left c.pass_gaps.new.from) (g.S.Source.left c.pass_text.new.from) c.in_ok-scanned.scanned c.requires.begun gaps c.in_ok-scanned.ensures.text c.if-scanned-gt-TEXT_LIMIT.true)
+    rw line (cut_too_long c.args.self.now c.pass_gaps.new.self c.pass_text.new.self (g.S.Source.view c.args.from.now) (g.S.Source.view c.pass_gaps.new.from) (g.S.Source.view c.pass_text.new.from) c.in_ok-scanned.scanned c.requires.begun gaps c.in_ok-scanned.ensures.text c.if-scanned-gt-TEXT_LIMIT.true)
 
 pub returns-in-Some-clause-cut : goal.returns-in-Some-clause-cut
 returns-in-Some-clause-cut g c =
     let is : c.in_ok-pass_gaps.field-0 ≡ true = grind arith in
-    let gaps : PassesGaps c.args.self.now (g.S.Source.left c.args.from.now) (Ok true) c.pass_gaps.new.self (g.S.Source.left c.pass_gaps.new.from) = rw is at c.in_ok-pass_gaps.ensures.gaps in
+    let gaps : PassesGaps c.args.self.now (g.S.Source.view c.args.from.now) (Ok true) c.pass_gaps.new.self (g.S.Source.view c.pass_gaps.new.from) = rw is at c.in_ok-pass_gaps.ensures.gaps in
     let line : c.self.inside.line ≡ c.pass_gaps.new.self.line = ap (λ (k : Kept). k.line) c.self.view_is in
     let text : c.replace-text.result.items ≡ c.pass_text.new.self.text = rw c.replace-text.ensures.value (ap (λ (k : Kept). k.text) c.self-2.view_is) in
     let few : c.in_ok-scanned.scanned.len ≤ 65536 = omega arith in
-    let P : Kept → Type 0 = λ k. HasCut c.args.self.now (g.S.Source.left c.args.from.now) (Ok (cuts.Command c.replace-text.result c.in-Some.shown c.self.inside.line)) (record k { text = c.replace-text.new.dest.items }) (g.S.Source.left c.pass_text.new.from) in
-    subst P (sym c.self-2.view_is) (rw line (cut_command c.args.self.now c.pass_text.new.self (g.S.Source.left c.args.from.now) (g.S.Source.left c.pass_text.new.from) c.in-Some.shown c.pass_gaps.new.self.line c.in_ok-scanned.scanned.len c.replace-text.result c.replace-text.new.dest.items
-    (found_terminated c.args.self.now c.pass_gaps.new.self c.pass_text.new.self (g.S.Source.left c.args.from.now) (g.S.Source.left c.pass_gaps.new.from) (g.S.Source.left c.pass_text.new.from) c.in_ok-scanned.scanned c.in-Some.shown c.requires.begun gaps c.in_ok-scanned.ensures.text c.in-Some.is) few text))
+    let P : Kept → Type 0 = λ k. HasCut c.args.self.now (g.S.Source.view c.args.from.now) (Ok (cuts.Command c.replace-text.result c.in-Some.shown c.self.inside.line)) (record k { text = c.replace-text.new.dest.items }) (g.S.Source.view c.pass_text.new.from) in
+    subst P (sym c.self-2.view_is) (rw line (cut_command c.args.self.now c.pass_text.new.self (g.S.Source.view c.args.from.now) (g.S.Source.view c.pass_text.new.from) c.in-Some.shown c.pass_gaps.new.self.line c.in_ok-scanned.scanned.len c.replace-text.result c.replace-text.new.dest.items
+    (found_terminated c.args.self.now c.pass_gaps.new.self c.pass_text.new.self (g.S.Source.view c.args.from.now) (g.S.Source.view c.pass_gaps.new.from) (g.S.Source.view c.pass_text.new.from) c.in_ok-scanned.scanned c.in-Some.shown c.requires.begun gaps c.in_ok-scanned.ensures.text c.in-Some.is) few text))
 
 pub returns-in-None-clause-cut : goal.returns-in-None-clause-cut
 returns-in-None-clause-cut g c =
     let is : c.in_ok-pass_gaps.field-0 ≡ true = grind arith in
-    let gaps : PassesGaps c.args.self.now (g.S.Source.left c.args.from.now) (Ok true) c.pass_gaps.new.self (g.S.Source.left c.pass_gaps.new.from) = rw is at c.in_ok-pass_gaps.ensures.gaps in
+    let gaps : PassesGaps c.args.self.now (g.S.Source.view c.args.from.now) (Ok true) c.pass_gaps.new.self (g.S.Source.view c.pass_gaps.new.from) = rw is at c.in_ok-pass_gaps.ensures.gaps in
     let line : c.self.inside.line ≡ c.pass_gaps.new.self.line = ap (λ (k : Kept). k.line) c.self.view_is in
     let few : c.in_ok-scanned.scanned.len ≤ 65536 = omega arith in
-    rw line (cut_syntax c.args.self.now c.pass_text.new.self (g.S.Source.left c.args.from.now) (g.S.Source.left c.pass_text.new.from) c.pass_gaps.new.self.line c.in_ok-scanned.scanned.len
-    (found_unterminated c.args.self.now c.pass_gaps.new.self c.pass_text.new.self (g.S.Source.left c.args.from.now) (g.S.Source.left c.pass_gaps.new.from) (g.S.Source.left c.pass_text.new.from) c.in_ok-scanned.scanned c.requires.begun gaps c.in_ok-scanned.ensures.text c.in-None.is) few)
+    rw line (cut_syntax c.args.self.now c.pass_text.new.self (g.S.Source.view c.args.from.now) (g.S.Source.view c.pass_text.new.from) c.pass_gaps.new.self.line c.in_ok-scanned.scanned.len
+    (found_unterminated c.args.self.now c.pass_gaps.new.self c.pass_text.new.self (g.S.Source.view c.args.from.now) (g.S.Source.view c.pass_gaps.new.from) (g.S.Source.view c.pass_text.new.from) c.in_ok-scanned.scanned c.requires.begun gaps c.in_ok-scanned.ensures.text c.in-None.is) few)

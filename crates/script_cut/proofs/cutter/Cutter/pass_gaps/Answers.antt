@@ -1,20 +1,28 @@
-use Rattle.std.proofs.Common.{Bool, ◌∙◌, subst, ◌≡◌, ℕ, ◌-◌, ◌<◌, rules, arith}
+use Rattle.std.proofs.Common.{Bool, refl, ◌∙◌, subst, ◌≡◌, ℕ, ◌-◌, ◌<◌, rules, arith}
 use Rattle.std.proofs.lemmas.Result.{err_from_is_err_and}
 use Rattle.script_cut.specs.Kept.{advance}
 use Rattle.script_cut.specs.Passing.{HasHeld}
 use Rattle.script_cut.specs.Reading.{IsStillInGaps}
 use Rattle.script_cut.proofs.ReadingSteps.{gaps_still-more, gaps_still-read}
-use Rattle.script_cut.proofs.PassingSteps.{gaps_more, gaps_end, gaps_done, gaps_over, gaps_stop}
+use Rattle.script_cut.proofs.PassingSteps.{gaps_none, gaps_more, gaps_end, gaps_done, gaps_over, gaps_stop}
 use Rattle.script_cut.proofs.cutter.Cutter.pass_gaps.Goals as goal
+
+pub pieces-init : goal.pieces-init
+pieces-init g c = record {
+  gaps = gaps_none c.args.self.now (g.S.Source.view c.args.from.now) c.requires;
+  still = search rules;
+  text = refl;
+  faults = refl;
+}
 
 pub returns-in_err-count-clause-gaps : goal.returns-in_err-count-clause-gaps
 returns-in_err-count-clause-gaps g c =
     let p = err_from_is_err_and c.from_residual.result c.from_residual.ensures.1 in
-    rw (p.1, p.2) (gaps_stop c.args.self.now c.pieces.self c.supply.new.self (g.S.Source.left c.args.from.now) (g.S.Source.left c.pieces.from) (g.S.Source.left c.supply.new.from) c.pieces.commented c.in_err-count.field-0.0 c.pieces.invariant.gaps c.supply.ensures.passes c.in_err-count.ensures.supplies)
+    rw (p.1, p.2) (gaps_stop c.args.self.now c.pieces.self c.supply.new.self (g.S.Source.view c.args.from.now) (g.S.Source.view c.pieces.from) (g.S.Source.view c.supply.new.from) c.pieces.commented c.in_err-count.field-0.0 c.pieces.invariant.gaps c.supply.ensures.passes c.in_err-count.ensures.supplies)
 
 pub returns-in_default-clause-gaps : goal.returns-in_default-clause-gaps
 returns-in_default-clause-gaps g c =
-    gaps_over c.args.self.now c.pieces.self c.supply.new.self (g.S.Source.left c.args.from.now) (g.S.Source.left c.pieces.from) (g.S.Source.left c.supply.new.from) c.pieces.commented c.pieces.invariant.gaps c.supply.ensures.passes (rw c.in_default.is at c.in_ok-count.ensures.supplies)
+    gaps_over c.args.self.now c.pieces.self c.supply.new.self (g.S.Source.view c.args.from.now) (g.S.Source.view c.pieces.from) (g.S.Source.view c.supply.new.from) c.pieces.commented c.pieces.invariant.gaps c.supply.ensures.passes (rw c.in_default.is at c.in_ok-count.ensures.supplies)
 
 pub returns-then-part-count-clause-gaps : goal.returns-then-part-count-clause-gaps
 returns-then-part-count-clause-gaps g c =
@@ -22,16 +30,16 @@ returns-then-part-count-clause-gaps g c =
     let n : ℕ = c.gaps_ahead-part.result.len in
     let end = gaps_end c.supply.new.self c.pieces.commented c.in-Some.count n held c.gaps_ahead-part.ensures.len c.if-part-count.true in
     let room : 0 < c.supply.new.self.room - n = omega (arith, held.room, c.if-part-count.true) in
-    rw c.pass.ensures (gaps_done c.args.self.now _ (g.S.Source.left c.args.from.now) (g.S.Source.left c.supply.new.from) _ (gaps_more c.args.self.now c.pieces.self c.supply.new.self (g.S.Source.left c.args.from.now) (g.S.Source.left c.pieces.from) (g.S.Source.left c.supply.new.from) c.pieces.commented c.in-Some.count n c.pieces.invariant.gaps c.supply.ensures.passes held c.gaps_ahead-part.ensures.len c.gaps_ahead-part.ensures.within) end.0 end.1 room)
+    rw c.pass.ensures (gaps_done c.args.self.now _ (g.S.Source.view c.args.from.now) (g.S.Source.view c.supply.new.from) _ (gaps_more c.args.self.now c.pieces.self c.supply.new.self (g.S.Source.view c.args.from.now) (g.S.Source.view c.pieces.from) (g.S.Source.view c.supply.new.from) c.pieces.commented c.in-Some.count n c.pieces.invariant.gaps c.supply.ensures.passes held c.gaps_ahead-part.ensures.len c.gaps_ahead-part.ensures.within) end.0 end.1 room)
 
 pub pieces-preserved : goal.pieces-preserved
 pieces-preserved g c =
     let held : HasHeld c.in-Some.count c.supply.new.self = rw c.in-Some.is at c.in_ok-count.ensures.supplies in
     record {
-      gaps = rw (c.pass.ensures, c.gaps_ahead-part.ensures.open) (gaps_more c.args.self.now c.pieces.self c.supply.new.self (g.S.Source.left c.args.from.now) (g.S.Source.left c.pieces.from) (g.S.Source.left c.supply.new.from) c.pieces.commented c.in-Some.count c.gaps_ahead-part.result.len c.pieces.invariant.gaps c.supply.ensures.passes held c.gaps_ahead-part.ensures.len c.gaps_ahead-part.ensures.within);
+      gaps = rw (c.pass.ensures, c.gaps_ahead-part.ensures.open) (gaps_more c.args.self.now c.pieces.self c.supply.new.self (g.S.Source.view c.args.from.now) (g.S.Source.view c.pieces.from) (g.S.Source.view c.supply.new.from) c.pieces.commented c.in-Some.count c.gaps_ahead-part.result.len c.pieces.invariant.gaps c.supply.ensures.passes held c.gaps_ahead-part.ensures.len c.gaps_ahead-part.ensures.within);
       still = rw (c.pass.ensures, c.gaps_ahead-part.ensures.open) (gaps_still-more (c.supply.new.from ≡ c.args.from.now) c.args.self.now c.supply.new.self c.pieces.commented c.in-Some.count c.gaps_ahead-part.result.len (gaps_still-read (c.pieces.from ≡ c.args.from.now) (c.supply.new.from ≡ c.pieces.from) (c.supply.new.from ≡ c.args.from.now) c.args.self.now c.pieces.self c.supply.new.self c.pieces.commented (λ p q. q ∙ p) c.pieces.invariant.still c.supply.ensures.still) c.gaps_ahead-part.ensures.len c.gaps_ahead-part.ensures.within);
       text = search rules;
-      later = search rules;
+      faults = search rules;
     }
 
 pub returns-then-part-count-clause-still : goal.returns-then-part-count-clause-still

@@ -5,10 +5,10 @@ use Rattle.script_cut.proofs.cutter.Cutter.pass_gaps.Given as goal
 
 abbrev pub invariant-pieces : goal.invariant-pieces
 invariant-pieces g l = record {
-  gaps : IsInGaps l.initial.self (g.S.Source.left l.initial.from) l.self (g.S.Source.left l.from) l.commented;
+  gaps : IsInGaps l.initial.self (g.S.Source.view l.initial.from) l.self (g.S.Source.view l.from) l.commented;
   still : IsStillInGaps (l.from ≡ l.initial.from) l.initial.self l.self l.commented;
   text : l.self.text ≡ l.initial.self.text;
-  later : g.S.Source.faults l.initial.from ≤ g.S.Source.faults l.from;
+  faults : (g.S.Source.view l.from).faults ≡ (g.S.Source.view l.initial.from).faults;
 }
 
 abbrev pub decreases-pieces : goal.decreases-pieces

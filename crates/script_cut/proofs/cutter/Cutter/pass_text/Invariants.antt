@@ -5,9 +5,9 @@ use Rattle.script_cut.proofs.cutter.Cutter.pass_text.Given as goal
 
 abbrev pub invariant-pieces : goal.invariant-pieces
 invariant-pieces g l = record {
-  text : IsInText l.initial.self (g.S.Source.left l.initial.from) l.self (g.S.Source.left l.from) l.len l.quoted;
+  text : IsInText l.initial.self (g.S.Source.view l.initial.from) l.self (g.S.Source.view l.from) l.len l.quoted;
   still : IsStillInText (l.from ≡ l.initial.from) l.initial.self l.self l.quoted;
-  later : g.S.Source.faults l.initial.from ≤ g.S.Source.faults l.from;
+  faults : (g.S.Source.view l.from).faults ≡ (g.S.Source.view l.initial.from).faults;
 }
 
 abbrev pub decreases-pieces : goal.decreases-pieces
