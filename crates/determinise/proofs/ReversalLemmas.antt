@@ -1,6 +1,6 @@
 -- The reversal of a deterministic automaton.
-use Rattle.std.proofs.Common.{◌≡◌, ℕ, zero, suc, ◌<◌, Bool, true, false, List, [], ◌∷◌, ◌++◌, reverse, length, get_or, Option, None, Some, ◌↔◌, refl, sym, ap, ◌∙◌, subst, true≢false, append-nil, arith}
-use Rattle.std.specs.List.{All, Contains}
+use Rattle.std.proofs.Common.{◌≡◌, ℕ, ◌<◌, Bool, true, false, List, [], ◌∷◌, ◌++◌, reverse, length, get_or, Option, None, Some, ◌↔◌, refl, sym, ap, ◌∙◌, subst, true≢false, append-nil, arith}
+use Rattle.std.specs.List.{Contains}
 use Rattle.std.specs.Option.{option_and_then, option_map_or, IfSome}
 use Rattle.std.proofs.lemmas.Option.{same_Some}
 use Rattle.std.proofs.lemmas.List.{reverse-append, reverse-reverse}
@@ -16,7 +16,6 @@ use Rattle.digit_tuple.proofs.PathLemmas.{Path-in_range}
 use Rattle.digit_tuple.proofs.WordLemmas.{IsWord-append, run_of-append, run_of-push, accepts_from-append}
 use Rattle.digit_tuple.specs.Keys.{key_run, key_accepts, LeadAlike}
 use Rattle.digit_tuple.proofs.KeyLemmas.{key_accepts-run, key_accepts-append}
-use Rattle.digit_tuple.specs.Width.{HasApart, HasWidth}
 use Rattle.digit_tuple.specs.Reversed.{IsReversal}
 use Rattle.digit_tuple.specs.AcceptingStates.{AreAccepting}
 use Rattle.determinise.specs.Reversed.{SameReversedResidual}

@@ -1,5 +1,5 @@
 -- Sets of states that words lead to.
-use Rattle.std.proofs.Common.{◌≡◌, ◌==◌, ◌&&◌, ℕ, ◌<◌, Bool, true, false, List, [], ◌∷◌, map, filter, length, get_or, Option, None, Some, MatchOption, IsTrue, ◌↔◌, ◌⊎◌, inl, inr, refl, sym, ap, ◌∙◌, subst, true≢false, eq-eqb, arith}
+use Rattle.std.proofs.Common.{◌≡◌, ◌==◌, ◌&&◌, ℕ, ◌<◌, Bool, true, false, List, [], ◌∷◌, map, filter, length, get_or, slice_index, Option, None, Some, MatchOption, IsTrue, ◌↔◌, ◌⊎◌, inl, inr, refl, sym, ap, ◌∙◌, subst, true≢false, eq-eqb, arith}
 use Rattle.std.specs.Bool.{⊤}
 use Rattle.std.specs.List.{All, AllPairs, Contains, list_any, range_with_len}
 use Rattle.std.specs.Option.{option_and_then, option_map_or}
@@ -12,10 +12,10 @@ use Rattle.digit_tuple.specs.declared.edges.Edge.{Edge}
 use Rattle.digit_tuple.specs.Automaton.{Branching, IsBranchTable, IsBefore, Leads, Path, Accepts, edges_of, states_of, letters_of, accepting_of}
 use Rattle.digit_tuple.specs.Letters.{IsWord}
 use Rattle.digit_tuple.proofs.TableLemmas.{Leads-in_range}
-use Rattle.digit_tuple.specs.Keys.{Step, AreSteps, key_run, key_accepts, LeadAlike}
+use Rattle.digit_tuple.specs.Keys.{KeyEdge, AreKeyEdges, key_run, key_accepts, LeadAlike}
 use Rattle.digit_tuple.proofs.KeyLemmas.{key_accepts-run, key_run-keeps}
-use Rattle.determinise.specs.Groups.{targets_by, AreGroups}
-use Rattle.determinise.specs.Subsets.{leads_to, targets_of, some_set, set_after, has_accepting, IsStateSet, Alike}
+use Rattle.digit_tuple.specs.Groups.{some_set, targets_by, AreGroups}
+use Rattle.determinise.specs.Subsets.{leads_to, targets_of, set_after, has_accepting, IsStateSet, Alike}
 use Rattle.determinise.specs.SubsetLaws.{AllPairs-range, start_is_state_set, after_is_state_set}
 use Rattle.digit_tuple.proofs.MemberLemmas.{Contains-head, Contains-cases, Contains-none, Contains-filter, Contains-from_filter, Contains-map, Contains-from_map, list_any-contains, contains_from_list_any, same_ascending}
 
@@ -90,15 +90,29 @@ module _ (n : Branching) (table : IsBranchTable (letters_of n) n.states) where
             Contains-map (λ (e : Edge). e.target) (filter (λ (e : Edge). e.letter == a) edges) edge
             (Contains-filter (λ (e : Edge). e.letter == a) edges edge ((members edge).1 (found.0, found.1, found.2)) (eq-eqb a a refl))
 
-    -- the groups of the set's edges are the steps from the set
-    pub AreSteps-groups : (steps : List Step) → AreGroups edges steps → AreSteps (letters_of n) (set_after n set) steps
-    AreSteps-groups steps groups = record {
+    -- the groups of the set's edges are the edges from the set
+    pub AreKeyEdges-groups : (key_edges : List KeyEdge) → AreGroups edges key_edges → AreKeyEdges (letters_of n) (set_after n set) key_edges
+    AreKeyEdges-groups key_edges groups = record {
       in_range = λ k d within. let one = groups.letters k d within in
           let from = (members one.0).0 one.1 in
           omega (arith, (Leads-in_range n from.0 one.0.letter one.0.target table from.2).0, one.2);
       ascending = groups.ascending;
       lead = λ a small. groups.keys a ∙ ap some_set (targets_by-set a);
     }
+
+  -- the edges of a set of one state
+  pub AreKeyEdges-one : (set : List ℕ) (edges : List Edge) (key_edges : List KeyEdge) → length set ≡ 1 → edges ≡ edges_of n (slice_index set 0) → AllPairs IsBefore edges → AreGroups edges key_edges → AreKeyEdges (letters_of n) (set_after n set) key_edges
+  AreKeyEdges-one [] edges key_edges one are ascending groups = absurd (omega arith)
+  AreKeyEdges-one (q ∷ r ∷ set) edges key_edges one are ascending groups = absurd (omega arith)
+  AreKeyEdges-one (q ∷ []) edges key_edges one are ascending groups =
+      AreKeyEdges-groups (q ∷ []) (edges_of n q) (subst (AllPairs IsBefore) are ascending) members key_edges (subst (λ es. AreGroups es key_edges) are groups)
+    where
+      members : (edge : Edge) → Contains (edges_of n q) edge ↔ ((p : ℕ) × Contains (q ∷ []) p × Contains (edges_of n p) edge)
+      members edge = ((λ there. (q, Contains-head q [], there)), (λ found. only found.0 found.2 (Contains-cases q [] found.0 found.1)))
+        where
+          only : (p : ℕ) → Contains (edges_of n p) edge → (q ≡ p) ⊎ Contains [] p → Contains (edges_of n q) edge
+          only p there (inl same) = subst (λ r. Contains (edges_of n r) edge) (sym same) there
+          only p there (inr none) = absurd (Contains-none p none)
 
   -- the states of the set that a word leads to, where no set is the empty one
   abbrev pub set_of : Option (List ℕ) → List ℕ

@@ -4,35 +4,35 @@ use Rattle.std.specs.Option.{option_map, option_map_or}
 use Rattle.std.proofs.lemmas.List.{get_or-map, length-map}
 use Rattle.digit_tuple.specs.declared.edges.Edge.{Edge}
 use Rattle.digit_tuple.specs.Deterministic.{Automaton, IsRow, target_by, step_of, accepts_from}
-use Rattle.digit_tuple.specs.Keys.{Step, AreSteps, key_by, key_accepts}
+use Rattle.digit_tuple.specs.Keys.{KeyEdge, AreKeyEdges, key_by, key_accepts}
 use Rattle.determinise.specs.Trimmed.{state_after, state_accepts}
 
--- the step that an edge stands for
-abbrev pub step_of_edge : Edge → Step
-step_of_edge e = record { letter = e.letter; key = e.target ∷ [] }
+-- the key edge that an edge stands for
+abbrev pub key_edge_of : Edge → KeyEdge
+key_edge_of e = record { letter = e.letter; key = e.target ∷ [] }
 
-key_by-edges : (es : List Edge) (a : ℕ) → key_by (map step_of_edge es) a ≡ option_map (λ q. q ∷ []) (target_by es a)
+key_by-edges : (es : List Edge) (a : ℕ) → key_by (map key_edge_of es) a ≡ option_map (λ q. q ∷ []) (target_by es a)
 key_by-edges [] a = refl
 key_by-edges (e ∷ es) a = by (e.letter == a) (key_by-edges es a)
   where
-    by : (b : Bool) → key_by (map step_of_edge es) a ≡ option_map (λ q. q ∷ []) (target_by es a)
-        → (if b then Some (e.target ∷ []) else key_by (map step_of_edge es) a) ≡ option_map (λ q. q ∷ []) (if b then Some e.target else target_by es a)
+    by : (b : Bool) → key_by (map key_edge_of es) a ≡ option_map (λ q. q ∷ []) (target_by es a)
+        → (if b then Some (e.target ∷ []) else key_by (map key_edge_of es) a) ≡ option_map (λ q. q ∷ []) (if b then Some e.target else target_by es a)
     by true rest = refl
     by false rest = rest
 
-pub AreSteps-edges : (letters states : ℕ) (es : List Edge) → IsRow letters states es → AreSteps letters (λ a. option_map (λ q. q ∷ []) (target_by es a)) (map step_of_edge es)
-AreSteps-edges letters states es row = record {
-  in_range = λ k d within. let e = get_or-map step_of_edge es k z d (omega (arith, size)) in omega (arith, ap (λ (s : Step). s.letter) e, (row.in_range k z (omega (arith, size))).0);
+pub AreKeyEdges-edges : (letters states : ℕ) (es : List Edge) → IsRow letters states es → AreKeyEdges letters (λ a. option_map (λ q. q ∷ []) (target_by es a)) (map key_edge_of es)
+AreKeyEdges-edges letters states es row = record {
+  in_range = λ k d within. let e = get_or-map key_edge_of es k z d (omega (arith, size)) in omega (arith, ap (λ (s : KeyEdge). s.letter) e, (row.in_range k z (omega (arith, size))).0);
   ascending = λ i j d before within.
-      let e = get_or-map step_of_edge es i z d (omega (arith, size)) in
-      let f = get_or-map step_of_edge es j z d (omega (arith, size)) in
+      let e = get_or-map key_edge_of es i z d (omega (arith, size)) in
+      let f = get_or-map key_edge_of es j z d (omega (arith, size)) in
       let less = row.ascending i j z before (omega (arith, size)) in
-      omega (arith, less, ap (λ (s : Step). s.letter) e, ap (λ (s : Step). s.letter) f);
+      omega (arith, less, ap (λ (s : KeyEdge). s.letter) e, ap (λ (s : KeyEdge). s.letter) f);
   lead = λ a small. key_by-edges es a;
 }
   where
-    size : length (map step_of_edge es) ≡ length es
-    size = length-map es step_of_edge
+    size : length (map key_edge_of es) ≡ length es
+    size = length-map es key_edge_of
 
     z : Edge
     z = record { letter = 0; target = 0 }

@@ -6,7 +6,8 @@ use Rattle.std.proofs.lemmas.List.Elements.{All-filter}
 use Rattle.std.proofs.lemmas.List.Kept.{AllPairs-filter}
 use Rattle.std.proofs.lemmas.List.FromFn.{length-range_with_len, get_or-range_with_len}
 use Rattle.digit_tuple.specs.Automaton.{Branching, IsBranchTable, letters_of, states_of}
-use Rattle.determinise.specs.Subsets.{IsStateSet, leads_to, targets_of, some_set, set_after}
+use Rattle.digit_tuple.specs.Groups.{some_set}
+use Rattle.determinise.specs.Subsets.{IsStateSet, leads_to, targets_of, set_after}
 
 pub All-range : (n : ℕ) → All (λ q. q < n) (range_with_len 0 n)
 All-range n k d within =

@@ -1,5 +1,5 @@
 -- Sets of states of a nondeterministic automaton that words lead to.
-use Rattle.std.specs.Prelude.{◌==◌, ◌&&◌, ℕ, ◌<◌, Bool, List, [], ◌∷◌, length, Option, None, Some, ◌↔◌, filter}
+use Rattle.std.specs.Prelude.{◌==◌, ◌&&◌, ℕ, ◌<◌, Bool, List, length, Option, ◌↔◌, filter}
 use Rattle.std.specs.List.{All, AllPairs, list_any, range_with_len}
 use Rattle.digit_tuple.specs.Groups.{some_set}
 use Rattle.digit_tuple.specs.Automaton.{Branching, Path, edges_of, states_of, accepting_of}

@@ -1,14 +1,12 @@
 //! Deterministic automata made from nondeterministic ones, whose states are sets of states.
 #![tactic(auto)]
 
-/// Edges gathered by their letters.
-pub mod groups;
-
-/// The sets of states that words lead to, as a source of keys.
+/// The sets of states that words lead to, as a graph of keys.
 pub mod subsets;
 
 /// The subset construction.
 pub mod subset_construction;
+
 /// Automata without the states that no word leads to.
 pub mod trimmed;
 

@@ -7,16 +7,15 @@ ghost use Rattle.digit_tuple.specs.FirstWords.{IsNumberedByFirsts};
 ghost use Rattle.digit_tuple.specs.Letters.{product, IsWord};
 ghost use Rattle.digit_tuple.specs.Width.{HasApart, HasWidth};
 ghost use Rattle.digit_tuple.specs.AcceptingStates.{AreAccepting};
-ghost use Rattle.determinise.specs.Reversed.{SameReversedResidual, bare_automaton};
+ghost use Rattle.determinise.specs.Reversed.{SameReversedResidual};
 
 use crate::subsets::Subsets;
 use crate::trimmed::trimmed;
 use digit_tuple::accepting_states::accepting_states;
-use digit_tuple::alphabet::Alphabet;
 use digit_tuple::dfa::Dfa;
-use digit_tuple::dfa_builder::DfaBuilder;
 use digit_tuple::exploration::explore;
 use digit_tuple::faults::OpFault;
+use digit_tuple::no_words::no_words_within;
 use digit_tuple::reversed::reversed;
 use digit_tuple::stepped::Stepped;
 use std::alloc::Global;
@@ -40,7 +39,7 @@ pub fn reverse(alloc: Global, d: &Dfa, limit: u32) -> Result<Stepped<Dfa>, OpFau
     let alphabet = d.alphabet().copy(alloc)?;
     let first = accepting_states(alloc, &reachable)?;
     if first.is_empty() {
-        return nothing(alloc, alphabet, limit);
+        return no_words_within(alloc, alphabet, limit);
     }
     let nfa = reversed(alloc, &reachable)?;
     let subsets = Subsets {
@@ -48,23 +47,4 @@ pub fn reverse(alloc: Global, d: &Dfa, limit: u32) -> Result<Stepped<Dfa>, OpFau
         first: &first,
     };
     explore(alloc, &subsets, alphabet, limit)
-}
-
-// The automaton that accepts nothing.
-fn nothing(alloc: Global, alphabet: Alphabet, limit: u32) -> Result<Stepped<Dfa>, OpFault>
-    ensures result_is { IfOk result (λ stepped. stepped.result ≡ bare_automaton alphabet) }
-    ensures width { IfOk result (λ stepped. stepped.width ≡ 1) }
-    ensures within { IfOk result (λ stepped. 1 ≤ limit) }
-    ensures states { IsErrOf result OpFault.States → limit ≡ 0 }
-    ensures letters { ¬ IsErrOf result OpFault.Letters }
-{
-    if limit == 0 {
-        return Err(OpFault::States);
-    }
-    let mut builder = DfaBuilder::new(alloc, alphabet)?;
-    builder.add_state(false)?;
-    Ok(Stepped {
-        result: builder.finish()?,
-        width: 1,
-    })
 }

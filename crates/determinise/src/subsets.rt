@@ -1,4 +1,4 @@
-//! The sets of states that words lead to, as a source of keys.
+//! The sets of states that words lead to, as a graph of keys.
 
 ghost use Rattle.std.specs.Prelude.{◌≡◌, ℕ, ◌<◌, ◌↔◌, [], ◌∷◌, IfOk};
 ghost use Rattle.std.specs.List.{All, AllPairs, Contains};
@@ -7,11 +7,12 @@ ghost use Rattle.digit_tuple.specs.declared.edges.Edge.{Edge};
 ghost use Rattle.determinise.specs.Subsets.{IsStateSet, set_after, has_accepting};
 ghost use Rattle.determinise.specs.SubsetLaws.{after_is_state_set};
 
-use crate::groups::grouped;
 use digit_tuple::edges::Edge;
 use digit_tuple::faults::OutOfMemory;
+use digit_tuple::groups::group_into;
+use digit_tuple::key_edges::KeyEdges;
+use digit_tuple::key_graph::KeyGraph;
 use digit_tuple::nfa::Nfa;
-use digit_tuple::source::{KeyStep, Source};
 use std::alloc::Global;
 
 /// The sets of states that words lead to from the states of a first set, each as the list of its
@@ -22,10 +23,10 @@ pub struct Subsets<'a> {
     pub first: &'a [u32],
 }
 
-impl Source for Subsets<'_> {
+impl KeyGraph for Subsets<'_> {
     ghost letters = { λ s. letters_of s.nfa.now };
 
-    ghost is_source = { λ s. IsBranchTable (letters_of s.nfa.now) s.nfa.now.states × IsStateSet s.nfa.now s.first.now };
+    ghost is_graph = { λ s. IsBranchTable (letters_of s.nfa.now) s.nfa.now.states × IsStateSet s.nfa.now s.first.now };
 
     ghost is_key = { λ s. IsStateSet s.nfa.now };
 
@@ -35,17 +36,20 @@ impl Source for Subsets<'_> {
 
     ghost accepts = { λ s. has_accepting s.nfa.now };
 
-    ghost start_is_key = { λ s source. source.1 };
+    ghost start_is_key = { λ s graph. graph.1 };
 
-    ghost after_is_key = { λ s key letter source is_set small. after_is_state_set s.nfa.now key letter };
+    ghost after_is_key = { λ s key letter graph is_set small. after_is_state_set s.nfa.now key letter };
 
     fn first_key(&self, alloc: Global) -> Result<Vec<u32>, OutOfMemory> {
         Ok(Vec::from_slice(alloc, self.first)?)
     }
 
-    fn steps(&self, alloc: Global, key: &[u32]) -> Result<Vec<KeyStep>, OutOfMemory> {
+    fn edges(&self, alloc: Global, key: &[u32], out: &mut KeyEdges) -> Result<(), OutOfMemory> {
+        if key.len() == 1 {
+            return group_into(self.nfa.edges(key[0]), out);
+        }
         let edges = edges_from(alloc, self.nfa, key)?;
-        grouped(alloc, &edges)
+        group_into(&edges, out)
     }
 
     fn is_accepting(&self, key: &[u32]) -> bool {
@@ -63,7 +67,7 @@ fn edges_from(alloc: Global, nfa: &Nfa, set: &[u32]) -> Result<Vec<Edge>, OutOfM
     for state in set {
         edges.extend_from_slice(nfa.edges(*state))?;
     }
-    edges.sort()?;
+    edges.sort_unstable();
     edges.dedup();
     Ok(edges)
 }

@@ -9,7 +9,8 @@ ghost use Rattle.determinise.specs.Trimmed.{IsStateKey, state_after, state_accep
 use digit_tuple::dfa::Dfa;
 use digit_tuple::exploration::explore;
 use digit_tuple::faults::OutOfMemory;
-use digit_tuple::source::{KeyStep, Source};
+use digit_tuple::key_edges::KeyEdges;
+use digit_tuple::key_graph::KeyGraph;
 use std::alloc::Global;
 
 /// The states that words lead to, each alone.
@@ -18,10 +19,10 @@ pub struct States<'a> {
     pub dfa: &'a Dfa,
 }
 
-impl Source for States<'_> {
+impl KeyGraph for States<'_> {
     ghost letters = { λ s. letters_of s.dfa.now };
 
-    ghost is_source = { λ s. IsTable (letters_of s.dfa.now) s.dfa.now.states };
+    ghost is_graph = { λ s. IsTable (letters_of s.dfa.now) s.dfa.now.states };
 
     ghost is_key = { λ s. IsStateKey s.dfa.now };
 
@@ -39,16 +40,13 @@ impl Source for States<'_> {
         Ok(vec![in alloc; 0]?)
     }
 
-    fn steps(&self, alloc: Global, key: &[u32]) -> Result<Vec<KeyStep>, OutOfMemory> {
-        let mut steps = Vec::new(alloc);
-        for edge in self.dfa.edges(key[0]) {
-            let key = vec![in alloc; edge.target]?;
-            steps.push(KeyStep {
-                letter: edge.letter,
-                key,
-            })?;
+    fn edges(&self, alloc: Global, key: &[u32], out: &mut KeyEdges) -> Result<(), OutOfMemory> {
+        let mut row = Vec::new(alloc);
+        self.dfa.edges_into(key[0], &mut row)?;
+        for edge in &row {
+            out.push(edge.letter, &[edge.target])?;
         }
-        Ok(steps)
+        Ok(())
     }
 
     fn is_accepting(&self, key: &[u32]) -> bool {

@@ -5,14 +5,15 @@ use Rattle.digit_tuple.specs.Automaton as branching
 use Rattle.digit_tuple.specs.Deterministic.{Automaton, accepts_of, letters_of}
 use Rattle.digit_tuple.specs.Letters.{IsWord, product}
 use Rattle.digit_tuple.specs.Width.{HasApart, HasWidth}
-use Rattle.digit_tuple.proofs.WidthLemmas.{HasApart-same, HasWidth-same}
+use Rattle.digit_tuple.proofs.WidthLemmas.{HasApart-one, HasApart-same, HasWidth-one, HasWidth-same}
+use Rattle.digit_tuple.proofs.NoWordLemmas.{bare_refuses}
 use Rattle.digit_tuple.proofs.WordLemmas.{IsWord-append}
 use Rattle.digit_tuple.specs.Keys.{LeadAlike}
 use Rattle.digit_tuple.specs.AcceptingStates.{AreAccepting}
 use Rattle.determinise.specs.Reversed.{SameReversedResidual}
 use Rattle.determinise.specs.Subsets.{set_after}
 use Rattle.digit_tuple.proofs.PaddingLemmas.{IsWord-reverse}
-use Rattle.determinise.proofs.ReversalLemmas.{key_accepts-reversed, SameReversedResidual-lead, LeadAlike-residual, IsStateSet-accepting, accepts_of-none, nil_of_length, bare_refuses, HasApart-one, HasWidth-one}
+use Rattle.determinise.proofs.ReversalLemmas.{key_accepts-reversed, SameReversedResidual-lead, LeadAlike-residual, IsStateSet-accepting, accepts_of-none, nil_of_length}
 use Rattle.determinise.proofs.reversal.reverse.Goals as goal
 
 pub explore-requires : goal.explore-requires
@@ -23,7 +24,7 @@ explore-requires c =
     let more : vec_len c.in_ok-first.first ≢ 0 = eqb-false (vec_len c.in_ok-first.first) 0 (sym c.is_empty.ensures ∙ c.if-is_empty.false) in
     let some : 0 < length c.deref.result.now = omega (arith, more, c.in_ok-first.first.ok, c.deref.ensures.len) in
     record {
-      source = (c.in_ok-nfa.ensures.table, IsStateSet-accepting t n turned c.deref.result.now (subst (AreAccepting t) (sym c.deref.ensures.value) c.in_ok-first.ensures) some);
+      graph = (c.in_ok-nfa.ensures.table, IsStateSet-accepting t n turned c.deref.result.now (subst (AreAccepting t) (sym c.deref.ensures.value) c.in_ok-first.ensures) some);
       letters = ap product (turned.sizes ∙ c.in_ok-reachable.ensures.sizes ∙ sym (c.in_ok-alphabet.ensures ∙ c.alphabet.ensures.sizes));
     }
 
@@ -85,9 +86,9 @@ returns-then-is_empty-clause-language c =
     let zero_len : vec_len c.in_ok-first.first ≡ 0 = eqb-true (vec_len c.in_ok-first.first) 0 (sym c.is_empty.ensures ∙ c.if-is_empty.true) in
     let none : c.in_ok-first.first.items ≡ [] = nil_of_length c.in_ok-first.first.items (omega (arith, zero_len, c.in_ok-first.first.ok)) in
     let refuses : (w : List ℕ) → IsWord (letters_of d) w → accepts_of d w ≡ false = λ w over. sym (c.in_ok-reachable.ensures.language w over) ∙ accepts_of-none t c.in_ok-reachable.ensures.table (subst (AreAccepting t) none c.in_ok-first.ensures) w in
-    IfOk-weaker c.nothing.result _ _
+    IfOk-weaker c.no_words_within.result _ _
     (λ stepped is word over. ap (λ (a : Automaton). accepts_of a word) is ∙ bare_refuses c.in_ok-alphabet.alphabet word ∙ sym (refuses (reverse word) (IsWord-reverse (letters_of d) word over)))
-    c.nothing.ensures.result_is
+    c.no_words_within.ensures.no_words
 
 pub returns-then-is_empty-clause-width : goal.returns-then-is_empty-clause-width
 returns-then-is_empty-clause-width c =
@@ -98,12 +99,12 @@ returns-then-is_empty-clause-width c =
     let refuses : (w : List ℕ) → IsWord (letters_of d) w → accepts_of d w ≡ false = λ w over. sym (c.in_ok-reachable.ensures.language w over) ∙ accepts_of-none t c.in_ok-reachable.ensures.table (subst (AreAccepting t) none c.in_ok-first.ensures) w in
     let alike : (w : List ℕ) → IsWord (letters_of d) w → SameReversedResidual d w [] =
     λ w over u more. refuses (reverse (w ++ u)) (IsWord-reverse (letters_of d) (w ++ u) (IsWord-append (letters_of d) w u over more)) ∙ sym (refuses (reverse ([] ++ u)) (IsWord-reverse (letters_of d) u more)) in
-    IfOk-weaker c.nothing.result _ _
+    IfOk-weaker c.no_words_within.result _ _
     (λ stepped one. subst (HasWidth (SameReversedResidual d) (letters_of d)) (sym one) (HasWidth-one (SameReversedResidual d) (letters_of d) alike))
-    c.nothing.ensures.width
+    c.no_words_within.ensures.width
 
 pub returns-then-is_empty-clause-states : goal.returns-then-is_empty-clause-states
 returns-then-is_empty-clause-states c h =
-    let none : c.args.limit ≡ 0 = c.nothing.ensures.states h in
+    let none : c.args.limit ≡ 0 = c.no_words_within.ensures.states.0 h in
     let count : 1 ≡ c.args.limit + 1 = omega (arith, none) in
     subst (HasApart (SameReversedResidual c.args.d.now) (letters_of c.args.d.now)) count (HasApart-one (SameReversedResidual c.args.d.now) (letters_of c.args.d.now))

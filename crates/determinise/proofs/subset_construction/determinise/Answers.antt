@@ -8,8 +8,8 @@ use Rattle.determinise.specs.SubsetLaws.{start_is_state_set}
 use Rattle.determinise.proofs.SubsetLemmas.{key_accepts-start, Alike-lead, LeadAlike-states}
 use Rattle.determinise.proofs.subset_construction.determinise.Goals as goal
 
-pub explore-requires-clause-source : goal.explore-requires-clause-source
-explore-requires-clause-source c = (c.alphabet.ensures.table, start_is_state_set c.args.n.now c.alphabet.ensures.table)
+pub explore-requires-clause-graph : goal.explore-requires-clause-graph
+explore-requires-clause-graph c = (c.alphabet.ensures.table, start_is_state_set c.args.n.now c.alphabet.ensures.table)
 
 pub returns-clause-language : goal.returns-clause-language
 returns-clause-language c =

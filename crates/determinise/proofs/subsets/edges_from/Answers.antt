@@ -15,17 +15,17 @@ same e f = (e.letter == f.letter) && (e.target == f.target)
 
 pub returns-clause-ascending : goal.returns-clause-ascending
 returns-clause-ascending c =
-    subst (AllPairs IsBefore) (sym (dedup_is same c.sort.new.self.items c.dedup.new.self.items c.dedup.ensures.filtered))
-    (AllPairs-dedup same edges_tell c.sort.new.self.items c.in_ok-sort.ensures.sorted)
+    subst (AllPairs IsBefore) (sym (dedup_is same c.sort_unstable.new.self.items c.dedup.new.self.items c.dedup.ensures.filtered))
+    (AllPairs-dedup same edges_tell c.sort_unstable.new.self.items c.sort_unstable.ensures.sorted)
 
 pub returns-clause-members : goal.returns-clause-members
 returns-clause-members c edge =
-    let left : c.dedup.new.self.items ≡ dedup same c.sort.new.self.items = dedup_is same c.sort.new.self.items c.dedup.new.self.items c.dedup.ensures.filtered in
+    let left : c.dedup.new.self.items ≡ dedup same c.sort_unstable.new.self.items = dedup_is same c.sort_unstable.new.self.items c.dedup.new.self.items c.dedup.ensures.filtered in
     let all : c.loop-state.edges.items ≡ flat_map (edges_of c.args.nfa.now) c.args.set.now = c.loop-state.invariant ∙ ap (flat_map (edges_of c.args.nfa.now)) (take_all c.loop-state.state-index c.args.set.now (omega arith)) in
-    let moved = c.in_ok-sort.ensures.permutation in (
+    let moved = c.sort_unstable.ensures.permutation in (
       (λ there. Contains-from_flat_map (edges_of c.args.nfa.now) c.args.set.now edge
-          (subst (λ es. Contains es edge) all (Contains-permutation c.sort.new.self.items c.loop-state.edges.items edge (IsPermutation-sym c.loop-state.edges.items c.sort.new.self.items moved)
-          (Contains-from_dedup same c.sort.new.self.items edge (subst (λ es. Contains es edge) left there))))),
-      (λ found. subst (λ es. Contains es edge) (sym left) (Contains-dedup same edges_tell c.sort.new.self.items edge
-          (Contains-permutation c.loop-state.edges.items c.sort.new.self.items edge moved (subst (λ es. Contains es edge) (sym all) (Contains-flat_map (edges_of c.args.nfa.now) c.args.set.now found.0 edge found.1 found.2))))),
+          (subst (λ es. Contains es edge) all (Contains-permutation c.sort_unstable.new.self.items c.loop-state.edges.items edge (IsPermutation-sym c.loop-state.edges.items c.sort_unstable.new.self.items moved)
+          (Contains-from_dedup same c.sort_unstable.new.self.items edge (subst (λ es. Contains es edge) left there))))),
+      (λ found. subst (λ es. Contains es edge) (sym left) (Contains-dedup same edges_tell c.sort_unstable.new.self.items edge
+          (Contains-permutation c.loop-state.edges.items c.sort_unstable.new.self.items edge moved (subst (λ es. Contains es edge) (sym all) (Contains-flat_map (edges_of c.args.nfa.now) c.args.set.now found.0 edge found.1 found.2))))),
     )
