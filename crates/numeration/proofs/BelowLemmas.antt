@@ -1,6 +1,9 @@
 -- The words of one length that are less than a word, by its first digit.
-use Rattle.std.proofs.Common.{◌≡◌, ℕ, zero, suc, ◌+◌, ◌-◌, ◌<◌, ◌≤◌, Bool, true, false, cond, ◌&&◌, ◌||◌, nat_eq, List, [], ◌∷◌, length, refl, ap, sym, ◌∙◌, subst, arith, ◌⊎◌, inl, inr, count_by, IsTrue}
-use Rattle.std.proofs.lemmas.Bool.{true≢false, false≢true, cases_order, cases_Bool, lt-ltb, le-ltb, eq-eqb, ne_eqb, and_right}
+use Rattle.std.proofs.Common.{◌≡◌, ℕ, zero, suc, ◌+◌, ◌-◌, ◌<◌, ◌≤◌, Bool, true, false, cond, ◌&&◌, List, [], ◌∷◌, length, refl, ap, sym, ◌∙◌, subst, arith, ◌⊎◌, inl, inr, count_by, IsTrue, Ordering, Less, Equal, Greater, nat_cmp, is_lt}
+use Rattle.std.proofs.lemmas.Bool.{true≢false, false≢true, cases_order, cases_Bool, and_right}
+use Rattle.std.specs.Ordering.{ordering_then}
+use Rattle.std.specs.Cmp.{nat_cmp_is}
+use Rattle.std.specs.Cmp.Lexicographic.{slice_cmp}
 use Rattle.digit_tuple.specs.Letters.{IsWord}
 use Rattle.numeration.specs.Words.{words, is_less}
 use Rattle.numeration.proofs.CountLemmas.{sum_below, sum_below-same, sum_below-le, sum_below-stops, sum_below-place, count_by-words, count_by-same, count_by-none}
@@ -30,15 +33,13 @@ and_true false c holds = refl
 
 -- the first digits decide, where they differ
 pub less_first : (a b : ℕ) (w v : List ℕ) → a < b → is_less (a ∷ w) (b ∷ v) ≡ true
-less_first a b w v first = ap (λ (t : Bool). t || (nat_eq a b && is_less w v)) (lt-ltb a b first)
+less_first a b w v first = ap (λ (o : Ordering). is_lt (ordering_then o (slice_cmp nat_cmp w v))) (sym (nat_cmp_is a b Less first))
 
 pub less_same : (a b : ℕ) (w v : List ℕ) → a ≡ b → is_less (a ∷ w) (b ∷ v) ≡ is_less w v
-less_same a b w v same =
-    ap (λ (t : Bool). t || (nat_eq a b && is_less w v)) (le-ltb a b (omega (arith, same))) ∙ ap (λ (t : Bool). t && is_less w v) (eq-eqb a b same)
+less_same a b w v same = ap (λ (o : Ordering). is_lt (ordering_then o (slice_cmp nat_cmp w v))) (sym (nat_cmp_is a b Equal same))
 
 pub less_never : (a b : ℕ) (w v : List ℕ) → b < a → is_less (a ∷ w) (b ∷ v) ≡ false
-less_never a b w v above =
-    ap (λ (t : Bool). t || (nat_eq a b && is_less w v)) (le-ltb a b (omega (arith, above))) ∙ ap (λ (t : Bool). t && is_less w v) (ne_eqb a b (λ same. absurd (omega (arith, above, same))))
+less_never a b w v above = ap (λ (o : Ordering). is_lt (ordering_then o (slice_cmp nat_cmp w v))) (sym (nat_cmp_is a b Greater above))
 
 -- the words that begin with digits of a word, or less: first those after a lesser digit, then those after the same
 pub below-cons : (d : ℕ) (test : List ℕ → Bool) (b : ℕ) (u : List ℕ) → b < d → below d test (b ∷ u) ≡ led_below d test (length u) b + below d (after test b) u
@@ -73,7 +74,8 @@ below-less d test (b ∷ u) over valid =
 
 -- what is less has fewer words below it
 pub below-ordered : (d : ℕ) (test : List ℕ → Bool) (w v : List ℕ) → IsWord d w → IsWord d v → IsTrue (test w) → IsTrue (test v) → length w ≡ length v → is_less w v ≡ true → below d test w < below d test v
-below-ordered d test [] v first second valid also long less = absurd (false≢true less)
+below-ordered d test [] [] first second valid also long less = absurd (false≢true less)
+below-ordered d test [] (b ∷ v) first second valid also long less = absurd (omega (arith, long))
 below-ordered d test (a ∷ w) [] first second valid also long less = absurd (false≢true less)
 below-ordered d test (a ∷ w) (b ∷ v) first second valid also long less =
     let same_length : length w ≡ length v = omega (arith, long) in

@@ -1,6 +1,8 @@
 -- Words over digits, read from the most significant digit on, and the ranks that a language gives them.
 use Rattle.std.specs.Prelude.{◌≡◌, ℕ, zero, suc, ◌<◌, Bool, true, false, ◌&&◌, ◌||◌, nat_lt, nat_eq, List, [], ◌∷◌, ◌++◌, map, length, IsTrue, ◌↔◌}
 use Rattle.std.specs.List.{count_by}
+use Rattle.std.specs.Ordering.{nat_cmp, is_lt}
+use Rattle.std.specs.Cmp.Lexicographic.{slice_cmp}
 use Rattle.digit_tuple.specs.Letters.{IsWord}
 use Rattle.digit_tuple.specs.Paddings.{without_zeros, zeros}
 
@@ -25,11 +27,9 @@ is_plain [] = true
 is_plain (zero ∷ w) = false
 is_plain (suc a ∷ w) = true
 
--- of two words of one length: the first digit that differs is smaller in the first one
+-- lexicographic order: the first digit that differs is smaller in the first one of two words
 abbrev pub is_less : List ℕ → List ℕ → Bool
-is_less [] v = false
-is_less (a ∷ w) [] = false
-is_less (a ∷ w) (b ∷ v) = nat_lt a b || (nat_eq a b && is_less w v)
+is_less w v = is_lt (slice_cmp nat_cmp w v)
 
 -- radix order: shorter words first, and words of one length in lexicographic order
 abbrev pub is_before : List ℕ → List ℕ → Bool
