@@ -13,7 +13,7 @@ use Rattle.numeration.specs.Relations.{IsSum, IsAdderOf}
 use Rattle.digit_tuple.proofs.PaddingLemmas.{IsWord-in_order}
 use Rattle.base_k.specs.Positional.{base, value}
 use Rattle.base_k.specs.Carries.{next_carry}
-use Rattle.base_k.proofs.TruthLemmas.{iff_trans}
+use Rattle.digit_tuple.proofs.TruthLemmas.{iff_trans}
 use Rattle.base_k.proofs.ValueLemmas.{numeral_value, value_numeral, value_reverse}
 use Rattle.base_k.proofs.CarryLemmas.{Tracks, IsCarrying, msd_accepts, lsd_accepts}
 

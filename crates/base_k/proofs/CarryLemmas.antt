@@ -9,7 +9,7 @@ use Rattle.digit_tuple.specs.Deterministic.{Automaton, accepting_of, step_of, ac
 use Rattle.base_k.specs.Positional.{value}
 use Rattle.base_k.specs.Carries.{carry_in, carry_out}
 use Rattle.base_k.proofs.ValueLemmas.{value_up}
-use Rattle.base_k.proofs.TruthLemmas.{true_by, never_true, ever_true, iff_trans, iff_sym}
+use Rattle.digit_tuple.proofs.TruthLemmas.{true_by, never_true, ever_true, iff_trans, iff_sym}
 
 -- the digits of a letter on three tracks
 pub record Tracks : Type 0 where

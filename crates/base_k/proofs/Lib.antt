@@ -1,6 +1,4 @@
-mod TruthLemmas
 mod ValueLemmas
 mod CarryLemmas
 mod AdderLemmas
-mod EdgeLemmas
 mod TableLemmas

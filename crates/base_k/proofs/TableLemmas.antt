@@ -13,7 +13,8 @@ use Rattle.digit_tuple.proofs.DfaLemmas.{target_by-none}
 use Rattle.numeration.specs.Spelling.{letters_in}
 use Rattle.numeration.specs.Relations.{IsLanguageOf, IsAdderOf}
 use Rattle.base_k.specs.Positional.{are_digits, base}
-use Rattle.base_k.specs.Carries.{next_carry, carry_after, AreEdgesBy}
+use Rattle.digit_tuple.specs.EdgesBy.{AreEdgesBy}
+use Rattle.base_k.specs.Carries.{next_carry, carry_after}
 use Rattle.base_k.specs.BaseLaws.{digits_after}
 use Rattle.base_k.proofs.ValueLemmas.{digits_in_order}
 use Rattle.base_k.proofs.AdderLemmas.{three, tracks, first_small, second_small, third_small, carries_add}

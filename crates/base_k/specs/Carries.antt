@@ -1,10 +1,7 @@
 -- Carries of an addition in base k: at each place, x + y and the carry into the place is z and k times the carry out of it.
-use Rattle.std.specs.Prelude.{◌≡◌, ℕ, ◌+◌, ◌*◌, ◌/◌, ◌%◌, ◌<◌, nat_eq, List, Option, None, Some, cond}
-use Rattle.std.specs.List.{All, AllPairs}
-use Rattle.digit_tuple.specs.declared.edges.Edge.{Edge}
+use Rattle.std.specs.Prelude.{ℕ, ◌+◌, ◌*◌, ◌/◌, ◌%◌, nat_eq, Option, None, Some, cond}
 use Rattle.digit_tuple.specs.declared.direction.Direction.{Direction}
 use Rattle.digit_tuple.specs.declared.direction.Direction.TheVariants.{Msd, Lsd}
-use Rattle.digit_tuple.specs.Deterministic.{IsByEarlier, target_by}
 
 -- the carry that must come into a place, where this carry is to go out of it
 abbrev pub carry_in : ℕ → ℕ → ℕ → ℕ → ℕ → Option ℕ
@@ -23,9 +20,3 @@ next_carry Lsd k carry x y z = carry_out k carry x y z
 -- the carry after a letter of three tracks, of which the first changes slowest
 abbrev pub carry_after : Direction → ℕ → ℕ → ℕ → Option ℕ
 carry_after way k carry letter = next_carry way k carry (letter / (k * k)) (letter % (k * k) / k) (letter % (k * k) % k)
-
--- the edges of a state: by each letter below a number to where the function says, each target below a number
-pub record AreEdgesBy (target : ℕ → Option ℕ) (letters states : ℕ) (edges : List Edge) : Type 0 where
-  pub in_range : All (λ edge. (edge.letter < letters) × (edge.target < states)) edges
-  pub ascending : AllPairs IsByEarlier edges
-  pub leads : (a : ℕ) → a < letters → target_by edges a ≡ target a

@@ -1,17 +1,17 @@
 //! Automata of base k: the words over its digits, and additions with their carries.
 
 ghost use Rattle.std.specs.Prelude.{◌≡◌, ℕ, ◌*◌, ◌<◌, ◌≤◌, Some, nat_eq, IfSome, IfOk};
-ghost use Rattle.digit_tuple.specs.Letters.{IsAlphabet};
 ghost use Rattle.digit_tuple.specs.declared.direction.Direction.{Direction};
 ghost use Rattle.numeration.specs.Relations.{IsLanguageOf, IsAdderOf};
 ghost use Rattle.base_k.specs.Positional.{base};
-ghost use Rattle.base_k.specs.Carries.{carry_in, carry_out, next_carry, carry_after, AreEdgesBy};
+ghost use Rattle.digit_tuple.specs.EdgesBy.{AreEdgesBy};
+ghost use Rattle.base_k.specs.Carries.{carry_in, carry_out, next_carry, carry_after};
 
 use digit_tuple::alphabet::Alphabet;
 use digit_tuple::dfa::{Dfa, DfaState};
 use digit_tuple::direction::Direction;
 use digit_tuple::edges::Edge;
-use digit_tuple::faults::{OpFault, OutOfMemory};
+use digit_tuple::faults::OutOfMemory;
 use std::alloc::Global;
 
 /// The automaton of all words over the digits of a base, in either direction.
@@ -19,7 +19,7 @@ pub fn language_in(alloc: Global, k: u32) -> Result<Dfa, OutOfMemory>
     requires few { k ≤ 40 }
     ensures { IfOk result (λ dfa. (way : Direction) → IsLanguageOf way (base k) dfa) }
 {
-    let alphabet = alphabet_of(alloc, &[k])?;
+    let alphabet = Alphabet::fitting(alloc, &[k])?;
     let state = DfaState {
         accepting: true,
         edges: edges_home(alloc, k)?,
@@ -28,29 +28,17 @@ pub fn language_in(alloc: Global, k: u32) -> Result<Dfa, OutOfMemory>
 }
 
 /// The automaton of the triples of numbers of which the third is the sum of the others. Its states are
-/// the carries: read from the most significant digit the one that must come from the digits behind,
+/// the carries: read from the most significant digit the one that must come from the digits after,
 /// read from the least significant digit the one that came from the digits before.
 pub fn adder_in(alloc: Global, direction: Direction, k: u32) -> Result<Dfa, OutOfMemory>
     requires some { 2 ≤ k }
     requires few { k ≤ 40 }
     ensures { IfOk result (λ dfa. IsAdderOf direction (base k) dfa) }
 {
-    let alphabet = alphabet_of(alloc, &[k, k, k])?;
+    let alphabet = Alphabet::fitting(alloc, &[k, k, k])?;
     let none = carry_state(alloc, direction, k, 0)?;
     let one = carry_state(alloc, direction, k, 1)?;
     Dfa::from_states(alloc, alphabet, vec![in alloc; none, one]?)
-}
-
-// The letters of tracks of these sizes.
-fn alphabet_of(alloc: Global, sizes: &[u32]) -> Result<Alphabet, OutOfMemory>
-    requires { IsAlphabet sizes.now }
-    ensures { IfOk result (λ alphabet. alphabet ≡ sizes.now) }
-{
-    match Alphabet::new(alloc, sizes) {
-        Ok(alphabet) => Ok(alphabet),
-        Err(OpFault::Memory) => Err(OutOfMemory),
-        Err(_) => unreachable!(),
-    }
 }
 
 // Edges by each digit to the first state.

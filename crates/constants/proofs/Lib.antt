@@ -5,7 +5,6 @@ pub mod RowLemmas
 pub mod FrontLemmas
 pub mod PlaceLemmas
 pub mod ConstantWords
-pub mod AddedStates
 pub mod WordPathLemmas
 pub mod PathRuns
 pub mod ConstantKinds

@@ -8,7 +8,7 @@ use Rattle.digit_tuple.specs.declared.direction.Direction.TheVariants.{Msd, Lsd}
 use Rattle.digit_tuple.proofs.PaddingLemmas.{length-in_order}
 use Rattle.numeration.specs.Words.{is_plain}
 use Rattle.constants.specs.WordPaths.{IsPathTo, IsPaddingZero, IsPaddingPath, padding_front}
-use Rattle.constants.proofs.AddedStates.{states_of-added, accepting_of-kept, accepting_of-new, step_of-added}
+use Rattle.digit_tuple.proofs.AddedStates.{states_of-added, accepting_of-kept, accepting_of-new, step_of-added}
 
 -- a state more, to which the word's next letter leads
 path_more : (word : List ℕ) (i : ℕ) (b d : Automaton) → IsPathTo word i b → IsSet (with_state b (nat_eq (suc i) (length word))) d i (get_or word i 0) (suc i) → IsPathTo word (suc i) d

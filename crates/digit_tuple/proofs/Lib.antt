@@ -1,3 +1,4 @@
+pub mod TruthLemmas
 pub mod OrderLemmas
 pub mod ZipLemmas
 pub mod SetLemmas
@@ -17,7 +18,9 @@ pub mod ShortlexLemmas
 pub mod WordLemmas
 pub mod PaddingLemmas
 pub mod WidthLemmas
+pub mod EdgesByLemmas
 pub mod BuilderLemmas
+pub mod AddedStates
 pub mod NoWordLemmas
 pub mod NumberingLemmas
 pub mod KeySpanLemmas

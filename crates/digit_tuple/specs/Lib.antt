@@ -10,6 +10,7 @@ pub mod Automaton
 pub mod Rows
 pub mod Deterministic
 pub mod DfaRows
+pub mod EdgesBy
 pub mod Reversed
 pub mod AcceptingStates
 pub mod Width

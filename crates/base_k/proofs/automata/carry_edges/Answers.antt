@@ -1,7 +1,8 @@
 use Rattle.std.proofs.Common.{◌+◌, List, Vec, Global, refl, sym, ap, ◌∙◌, subst}
 use Rattle.digit_tuple.specs.declared.edges.Edge.{Edge}
-use Rattle.base_k.specs.Carries.{carry_after, AreEdgesBy}
-use Rattle.base_k.proofs.EdgeLemmas.{edges_more, edges_stay}
+use Rattle.digit_tuple.specs.EdgesBy.{AreEdgesBy}
+use Rattle.base_k.specs.Carries.{carry_after}
+use Rattle.digit_tuple.proofs.EdgesByLemmas.{edges_more, edges_stay}
 use Rattle.base_k.proofs.automata.carry_edges.Goals as goal
 use Rattle.base_k.proofs.automata.carry_edges.Goals.{in-Some+in_ok-push, in_default}
 

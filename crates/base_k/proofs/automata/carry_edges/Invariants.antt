@@ -1,4 +1,5 @@
-use Rattle.base_k.specs.Carries.{carry_after, AreEdgesBy}
+use Rattle.digit_tuple.specs.EdgesBy.{AreEdgesBy}
+use Rattle.base_k.specs.Carries.{carry_after}
 use Rattle.base_k.proofs.automata.carry_edges.Given as goal
 
 abbrev pub invariant-loop-letter : goal.invariant-loop-letter

@@ -1,7 +1,7 @@
 use Rattle.std.proofs.Common.{◌+◌, List, Some, refl, sym, subst, arith}
 use Rattle.digit_tuple.specs.declared.edges.Edge.{Edge}
-use Rattle.base_k.specs.Carries.{AreEdgesBy}
-use Rattle.base_k.proofs.EdgeLemmas.{edges_more}
+use Rattle.digit_tuple.specs.EdgesBy.{AreEdgesBy}
+use Rattle.digit_tuple.proofs.EdgesByLemmas.{edges_more}
 use Rattle.base_k.proofs.automata.edges_home.Goals as goal
 
 pub loop-letter-preserved : goal.loop-letter-preserved

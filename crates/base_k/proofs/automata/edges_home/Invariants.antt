@@ -1,5 +1,5 @@
 use Rattle.std.proofs.Common.{Some}
-use Rattle.base_k.specs.Carries.{AreEdgesBy}
+use Rattle.digit_tuple.specs.EdgesBy.{AreEdgesBy}
 use Rattle.base_k.proofs.automata.edges_home.Given as goal
 
 abbrev pub invariant-loop-letter : goal.invariant-loop-letter

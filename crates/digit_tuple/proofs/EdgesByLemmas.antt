@@ -7,7 +7,7 @@ use Rattle.std.proofs.lemmas.List.Quantifiers.{all_pairs_push}
 use Rattle.digit_tuple.specs.declared.edges.Edge.{Edge}
 use Rattle.digit_tuple.specs.Deterministic.{IsByEarlier, target_by}
 use Rattle.digit_tuple.proofs.DfaLemmas.{target_by-none, target_by-other, target_by-first}
-use Rattle.base_k.specs.Carries.{AreEdgesBy}
+use Rattle.digit_tuple.specs.EdgesBy.{AreEdgesBy}
 
 -- no edge yet
 pub no_edges : (target : ℕ → Option ℕ) (states : ℕ) → AreEdgesBy target 0 states []
