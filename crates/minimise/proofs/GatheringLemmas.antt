@@ -1,16 +1,12 @@
 -- Edges gathered by letter.
-use Rattle.std.proofs.Common.{◌≡◌, ◌==◌, ℕ, ◌<◌, List, [], ◌∷◌, filter, length, get_or, Some, ◌↔◌, refl, sym, ap, ◌∙◌, subst, eq-eqb, arith}
+use Rattle.std.proofs.Common.{◌≡◌, ◌==◌, ℕ, List, [], ◌∷◌, filter, get_or, Some, ◌↔◌, refl, sym, ap, ◌∙◌, subst, eq-eqb}
 use Rattle.std.specs.List.{All, Contains}
 use Rattle.std.proofs.lemmas.Bool.{eqb-true}
-use Rattle.std.proofs.lemmas.List.{get_or-map, length-map}
 use Rattle.digit_tuple.specs.declared.edges.Edge.{Edge}
-use Rattle.digit_tuple.specs.Keys.{Step}
-use Rattle.digit_tuple.specs.KeySteps.{step_in, steps_in}
-use Rattle.digit_tuple.specs.declared.source.KeyStep.{KeyStep}
+use Rattle.digit_tuple.specs.Keys.{KeyEdge}
 use Rattle.digit_tuple.proofs.FrontierLemmas.{key_by-at}
 use Rattle.digit_tuple.specs.Reversed.{edge_to}
-use Rattle.determinise.specs.Subsets.{some_set}
-use Rattle.determinise.specs.Groups.{targets_by, AreGroups}
+use Rattle.digit_tuple.specs.Groups.{some_set, targets_by, AreGroups}
 use Rattle.digit_tuple.proofs.MemberLemmas.{Contains-filter, Contains-from_filter, Contains-map, Contains-from_map}
 use Rattle.minimise.specs.Gathering.{IsGathered}
 
@@ -33,22 +29,19 @@ some_set-is xs [] same = absurd (cc)
 some_set-is xs (y ∷ ys) same = cc
 
 module _ (edges sorted : List Edge) (same : (e : Edge) → Contains sorted e ↔ Contains edges e) where
-  IsGathered-step : (s : Step) → (e : Edge) × Contains sorted e × (e.letter ≡ s.letter) → Some s.key ≡ some_set (targets_by sorted s.letter) → IsGathered edges s.letter s.key
-  IsGathered-step s from leads = record {
-    edge = (from.0.target, (same (edge_to s.letter from.0.target)).0 (subst (Contains sorted) (edge_to-is from.0 s.letter from.0.target from.2 refl) from.1));
+  IsGathered-group : (g : KeyEdge) → (e : Edge) × Contains sorted e × (e.letter ≡ g.letter) → Some g.key ≡ some_set (targets_by sorted g.letter) → IsGathered edges g.letter g.key
+  IsGathered-group g from leads = record {
+    edge = (from.0.target, (same (edge_to g.letter from.0.target)).0 (subst (Contains sorted) (edge_to-is from.0 g.letter from.0.target from.2 refl) from.1));
     targets = λ q. (
-      (λ there. (same (edge_to s.letter q)).0 (Contains-from_targets_by sorted s.letter q (subst (λ xs. Contains xs q) is there))),
-      (λ there. subst (λ xs. Contains xs q) (sym is) (Contains-targets_by sorted s.letter q ((same (edge_to s.letter q)).1 there))),
+      (λ there. (same (edge_to g.letter q)).0 (Contains-from_targets_by sorted g.letter q (subst (λ xs. Contains xs q) is there))),
+      (λ there. subst (λ xs. Contains xs q) (sym is) (Contains-targets_by sorted g.letter q ((same (edge_to g.letter q)).1 there))),
     );
   }
     where
-      is : s.key ≡ targets_by sorted s.letter
-      is = some_set-is s.key (targets_by sorted s.letter) leads
+      is : g.key ≡ targets_by sorted g.letter
+      is = some_set-is g.key (targets_by sorted g.letter) leads
 
   -- the groups of the edges in order
-  pub IsGathered-groups : (steps : List KeyStep) → AreGroups sorted (steps_in steps) → All (λ step. IsGathered edges step.letter step.key.items) steps
-  IsGathered-groups steps groups k d within =
-      let inside : k < length (steps_in steps) = omega (arith, within, length-map steps step_in) in
-      subst (λ (s : Step). IsGathered edges s.letter s.key) (get_or-map step_in steps k d (step_in d) within)
-      (IsGathered-step (get_or (steps_in steps) k (step_in d)) (groups.letters k (step_in d) inside)
-      (sym (key_by-at (steps_in steps) groups.ascending k (step_in d) inside) ∙ groups.keys (get_or (steps_in steps) k (step_in d)).letter))
+  pub IsGathered-groups : (groups : List KeyEdge) → AreGroups sorted groups → All (λ g. IsGathered edges g.letter g.key) groups
+  IsGathered-groups groups are k z within =
+      IsGathered-group (get_or groups k z) (are.letters k z within) (sym (key_by-at groups are.ascending k z within) ∙ are.keys (get_or groups k z).letter)

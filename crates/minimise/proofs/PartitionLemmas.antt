@@ -10,7 +10,6 @@ use Rattle.digit_tuple.specs.declared.edges.Edge.{Edge}
 use Rattle.digit_tuple.specs.Automaton as branching
 use Rattle.digit_tuple.specs.Automaton.{Branching, Leads}
 use Rattle.digit_tuple.specs.Deterministic.{Automaton, IsTable, letters_of, states_of, accepting_of, edges_of, step_of, target_by}
-use Rattle.digit_tuple.specs.declared.source.KeyStep.{KeyStep}
 use Rattle.digit_tuple.specs.Reversed.{IsReversal, edge_to}
 use Rattle.digit_tuple.specs.AcceptingStates.{AreAccepting}
 use Rattle.digit_tuple.proofs.MemberLemmas.{Contains-none, Contains-head, Contains-tail, Contains-cases, Contains-filter, Contains-from_filter, Contains-map, Contains-from_map, Contains-flat_map, Contains-from_flat_map}
@@ -18,10 +17,6 @@ use Rattle.minimise.specs.Classes.{class_of, next_of}
 use Rattle.minimise.specs.Gathering.{IsGathered, edges_by_class}
 use Rattle.minimise.specs.Partition.{IsCoarse, IsUnion, states_with, IsGiven, IsOneOf, AreParted, list_at, lists_in}
 use Rattle.minimise.proofs.SinkLemmas.{row_of, no_edges_past, not_accepting_past, accepts_from-next, next_within}
-
--- what holds of all parts holds of the one at a place
-pub part_at : (P : KeyStep → Type 0) (parts items : List KeyStep) (place : ℕ) (part : KeyStep) → All P parts → items ≡ parts → place < length items → part ≡ get_or items place part → P part
-part_at P parts items place part all same within is = subst P (sym is) (subst (All P) (sym same) all place part within)
 
 -- the items of a list of the code
 pub list_at-item : (lists : List (Vec ℕ Global)) (place : ℕ) (list : Vec ℕ Global) → place < length lists → list ≡ get_or lists place list → list_at (lists_in lists) place ≡ list.items

@@ -1,5 +1,5 @@
 -- The automaton whose states are classes is canonical.
-use Rattle.std.proofs.Common.{◌≡◌, ◌≢◌, ◌==◌, ℕ, ◌+◌, ◌<◌, ◌≤◌, Bool, true, false, List, [], ◌∷◌, ◌++◌, map, take, length, get_or, set, Option, None, Some, MatchOption, if◌then◌else◌, ◌⊎◌, inl, inr, refl, sym, ap, ◌∙◌, subst, arith, get_or-set_same, get_or-set_other, length-set}
+use Rattle.std.proofs.Common.{◌≡◌, ◌≢◌, ◌==◌, ℕ, ◌+◌, ◌<◌, ◌≤◌, Bool, true, false, List, [], ◌∷◌, ◌++◌, map, take, length, get_or, set, Option, None, Some, MatchOption, if◌then◌else◌, ◌⊎◌, inl, inr, refl, sym, ap, ◌∙◌, subst, append_assoc, arith, get_or-set_same, get_or-set_other, length-set}
 use Rattle.std.specs.List.{All}
 use Rattle.std.specs.Option.{option_map, option_map_or}
 use Rattle.std.proofs.lemmas.Bool.{cases_lt, cases_eq, eqb-true, eqb-false}
@@ -9,15 +9,13 @@ use Rattle.digit_tuple.specs.declared.edges.Edge.{Edge}
 use Rattle.digit_tuple.specs.Deterministic.{Automaton, IsTable, letters_of, states_of, step_of, edges_of, target_by, accepts_from}
 use Rattle.digit_tuple.specs.FirstWords.{IsNumberedByFirsts}
 use Rattle.digit_tuple.specs.Letters.{product, IsWord}
-use Rattle.digit_tuple.specs.Keys.{Step, AreSteps, key_by}
+use Rattle.digit_tuple.specs.Keys.{KeyEdge, AreKeyEdges, key_by}
 use Rattle.digit_tuple.specs.Explored.{IsExplored, key_at}
-use Rattle.digit_tuple.specs.KeySteps.{step_in, steps_in}
-use Rattle.digit_tuple.specs.declared.source.KeyStep.{KeyStep}
 use Rattle.minimise.specs.Residuals.{SameResidual, SameLanguage}
 use Rattle.minimise.specs.Canonical.{IsCanonical}
 use Rattle.minimise.specs.Classes.{AreResiduals, class_of, next_of, dead_class}
 use Rattle.minimise.specs.Signatures.{class_edges}
-use Rattle.minimise.specs.Quotient.{AreLeaders, IsQuotient, IsClass, leader_of, class_after, class_accepts, step_by}
+use Rattle.minimise.specs.Quotient.{AreLeaders, IsQuotient, IsClass, leader_of, class_after, class_accepts, key_edge}
 use Rattle.minimise.proofs.SinkLemmas.{sink_refuses, accepts_from-next, row_of, next_within}
 use Rattle.minimise.proofs.SignatureLemmas.{class_edge, class_edges-dead, class_edges-live, class_edges-all, class_edges-pairs, class_edges-lead}
 
@@ -47,28 +45,28 @@ AreLeaders-more classes old new count so_far inside is = record {
         before (inl earlier) at = (omega (arith, at, so_far.within q earlier), ap (class_of classes) at ∙ so_far.same q earlier)
         before (inr later) at = let same : q ≡ count = omega arith in absurd (other (ap (class_of classes) same))
 
--- steps by edges lead where the edges do
-pub key_by-edges : (es : List Edge) (a : ℕ) → key_by (map step_by es) a ≡ option_map (λ class. class ∷ []) (target_by es a)
+-- key edges lead where the edges do
+pub key_by-edges : (es : List Edge) (a : ℕ) → key_by (map key_edge es) a ≡ option_map (λ class. class ∷ []) (target_by es a)
 key_by-edges [] a = refl
 key_by-edges (e ∷ es) a = by (e.letter == a) (key_by-edges es a)
   where
-    by : (b : Bool) → key_by (map step_by es) a ≡ option_map (λ class. class ∷ []) (target_by es a)
-        → (if b then Some (e.target ∷ []) else key_by (map step_by es) a) ≡ option_map (λ class. class ∷ []) (if b then Some e.target else target_by es a)
+    by : (b : Bool) → key_by (map key_edge es) a ≡ option_map (λ class. class ∷ []) (target_by es a)
+        → (if b then Some (e.target ∷ []) else key_by (map key_edge es) a) ≡ option_map (λ class. class ∷ []) (if b then Some e.target else target_by es a)
     by true rest = refl
     by false rest = rest
 
--- the steps from a class
-pub AreSteps-class : (d : Automaton) (classes leaders key : List ℕ) → IsTable (letters_of d) d.states
-    → AreSteps (letters_of d) (class_after d classes leaders key) (map step_by (class_edges classes (dead_class d classes) (edges_of d (leader_of leaders key))))
-AreSteps-class d classes leaders key table = record {
+-- the key edges from a class
+pub AreKeyEdges-class : (d : Automaton) (classes leaders key : List ℕ) → IsTable (letters_of d) d.states
+    → AreKeyEdges (letters_of d) (class_after d classes leaders key) (map key_edge (class_edges classes (dead_class d classes) (edges_of d (leader_of leaders key))))
+AreKeyEdges-class d classes leaders key table = record {
   in_range = λ k z within.
-      let inside : k < length es = omega (arith, within, length-map es step_by) in
+      let inside : k < length es = omega (arith, within, length-map es key_edge) in
       let low : (get_or es k first).letter < letters_of d = class_edges-all classes (dead_class d classes) (λ a. a < letters_of d) (edges_of d q) (λ i y there. ((row_of d table q).in_range i y there).0) k first inside in
-      omega (arith, low, ap (λ (s : Step). s.letter) (get_or-map step_by es k first z inside));
+      omega (arith, low, ap (λ (k : KeyEdge). k.letter) (get_or-map key_edge es k first z inside));
   ascending = λ i j z before within.
-      let inside : j < length es = omega (arith, within, length-map es step_by) in
+      let inside : j < length es = omega (arith, within, length-map es key_edge) in
       let less : (get_or es i first).letter < (get_or es j first).letter = class_edges-pairs classes (dead_class d classes) (edges_of d q) (row_of d table q).ascending i j first before inside in
-      omega (arith, less, ap (λ (s : Step). s.letter) (get_or-map step_by es i first z (omega arith)), ap (λ (s : Step). s.letter) (get_or-map step_by es j first z inside));
+      omega (arith, less, ap (λ (k : KeyEdge). k.letter) (get_or-map key_edge es i first z (omega arith)), ap (λ (k : KeyEdge). k.letter) (get_or-map key_edge es j first z inside));
   lead = λ a small. key_by-edges es a ∙ ap (option_map (λ class. class ∷ [])) (class_edges-lead d classes (edges_of d q) a (row_of d table q).ascending);
 }
   where
@@ -124,7 +122,7 @@ module _ (d least : Automaton) (classes leaders : List ℕ) (quotient : IsQuotie
 
   residual : (w : List ℕ) (q : ℕ) → IsWord (letters_of d) w → q < states_of least → accepts_from least q w ≡ accepts_from d (state q) w
   residual [] q over within = explored.accepting q within
-  residual (a ∷ w) q over within = by (step_of least q a) (explored.steps q a within over.0) (λ t inside. residual w t over.1 inside) ∙ sym (accepts_from-next d (state q) a w)
+  residual (a ∷ w) q over within = by (step_of least q a) (explored.edges q a within over.0) (λ t inside. residual w t over.1 inside) ∙ sym (accepts_from-next d (state q) a w)
     where
       by : (o : Option ℕ) → MatchOption o (class_after d classes leaders (key_at keys q) a ≡ None) (λ t. (t < states_of least) × (class_after d classes leaders (key_at keys q) a ≡ Some (key_at keys t)))
           → ((t : ℕ) → t < states_of least → accepts_from least t w ≡ accepts_from d (state t) w) → option_map_or (λ p. accepts_from least p w) o false ≡ accepts_from d (next_of d (state q) a) w
@@ -150,7 +148,7 @@ module _ (d least : Automaton) (classes leaders : List ℕ) (quotient : IsQuotie
         let class : class_of (key_at keys p) 0 ≡ class_of (key_at keys q) 0 = sym one.itself ∙ (quotient.residuals (state p) (state q) (omega (arith, one.leader)) (omega (arith, two.leader))).1 residuals ∙ two.itself in
         explored.apart p q [] less (omega (arith, within, explored.count)) (one_number (key_at keys p) one.one ∙ ap (λ c. c ∷ []) class ∙ sym (one_number (key_at keys q) two.one));
     live = λ p a q within small leads dead.
-        let step = subst (λ (o : Option ℕ). MatchOption o (class_after d classes leaders (key_at keys p) a ≡ None) (λ t. (t < states_of least) × (class_after d classes leaders (key_at keys p) a ≡ Some (key_at keys t)))) leads (explored.steps p a within (letter a small)) in
+        let step = subst (λ (o : Option ℕ). MatchOption o (class_after d classes leaders (key_at keys p) a ≡ None) (λ t. (t < states_of least) × (class_after d classes leaders (key_at keys p) a ≡ Some (key_at keys t)))) leads (explored.edges p a within (letter a small)) in
         let some = class_after-some d classes leaders (key_at keys p) a (key_at keys q) step.1 in
         let at = class_at q step.0 in
         some.0 (ap (λ key. class_of key 0) some.1 ∙ sym at.itself
@@ -178,18 +176,14 @@ IsQuotient-read d items ls one two three first second third table width below re
       leaders_are = subst (λ (xs : List ℕ). AreLeaders xs ls (states_of d)) first leaders;
     }))
 
--- the next edge's step, if it has one
-module _ (classes : List ℕ) (dead : ℕ) (es : List Edge) (k : ℕ) (z : Edge) (within : k < length es) (old : List KeyStep) (so_far : steps_in old ≡ map step_by (class_edges classes dead (take k es))) where
-  pub steps_in-dead : class_of classes (get_or es k z).target ≡ dead → steps_in old ≡ map step_by (class_edges classes dead (take (k + 1) es))
-  steps_in-dead is = so_far ∙ ap (map step_by) (class_edges-dead classes dead es k z within is)
+-- the key edge of the next edge, if it leads to a class
+module _ (classes : List ℕ) (dead : ℕ) (es : List Edge) (k : ℕ) (z : Edge) (within : k < length es) (old now : List KeyEdge) (so_far : now ≡ old ++ map key_edge (class_edges classes dead (take k es))) where
+  pub key_edges-dead : class_of classes (get_or es k z).target ≡ dead → now ≡ old ++ map key_edge (class_edges classes dead (take (k + 1) es))
+  key_edges-dead is = so_far ∙ ap (λ (fs : List Edge). old ++ map key_edge fs) (class_edges-dead classes dead es k z within is)
 
-  pub steps_in-live : (new : List KeyStep) (step : KeyStep) → new ≡ old ++ step ∷ [] → step.letter ≡ (get_or es k z).letter → step.key.items ≡ class_of classes (get_or es k z).target ∷ [] → class_of classes (get_or es k z).target ≢ dead
-      → steps_in new ≡ map step_by (class_edges classes dead (take (k + 1) es))
-  steps_in-live new step pushed letter key other =
-      ap steps_in pushed ∙ map-append step_in old (step ∷ []) ∙ ap (λ (ss : List Step). ss ++ step_in step ∷ []) so_far
-      ∙ ap (λ (s : Step). map step_by (class_edges classes dead (take k es)) ++ s ∷ []) same
-      ∙ sym (map-append step_by (class_edges classes dead (take k es)) (class_edge classes (get_or es k z) ∷ []))
-      ∙ ap (map step_by) (class_edges-live classes dead es k z within other)
-    where
-      same : step_in step ≡ step_by (class_edge classes (get_or es k z))
-      same = ap (λ (n : ℕ). let s : Step = record { letter = n; key = step.key.items } in s) letter ∙ ap (λ (ns : List ℕ). let s : Step = record { letter = (get_or es k z).letter; key = ns } in s) key
+  pub key_edges-live : (new : List KeyEdge) → new ≡ now ++ key_edge (class_edge classes (get_or es k z)) ∷ [] → class_of classes (get_or es k z).target ≢ dead → new ≡ old ++ map key_edge (class_edges classes dead (take (k + 1) es))
+  key_edges-live new pushed other =
+      pushed ∙ ap (λ (ks : List KeyEdge). ks ++ key_edge (class_edge classes (get_or es k z)) ∷ []) so_far
+      ∙ append_assoc old (map key_edge (class_edges classes dead (take k es))) (key_edge (class_edge classes (get_or es k z)) ∷ [])
+      ∙ ap (λ (ks : List KeyEdge). old ++ ks) (sym (map-append key_edge (class_edges classes dead (take k es)) (class_edge classes (get_or es k z) ∷ []))
+      ∙ ap (map key_edge) (class_edges-live classes dead es k z within other))

@@ -1,5 +1,5 @@
 -- Signatures of states.
-use Rattle.std.proofs.Common.{◌≡◌, ◌≢◌, ◌==◌, ℕ, suc, ◌+◌, ◌<◌, Bool, true, false, List, [], ◌∷◌, ◌++◌, take, length, get_or, Option, None, Some, unwrap_or, if◌then◌else◌, ◌⊎◌, inl, inr, refl, sym, ap, ◌∙◌, eq-eqb, append_assoc, arith}
+use Rattle.std.proofs.Common.{◌≡◌, ◌≢◌, ◌==◌, ℕ, suc, ◌+◌, ◌<◌, Bool, true, false, List, [], ◌∷◌, ◌++◌, take, length, get_or, Option, None, Some, unwrap_or, if◌then◌else◌, ◌⊎◌, inl, inr, refl, sym, ap, ◌∙◌, eq-eqb, arith}
 use Rattle.std.specs.List.{All, AllPairs}
 use Rattle.std.proofs.lemmas.Bool.{cases_eq, eqb-true, ne_eqb}
 use Rattle.std.proofs.lemmas.List.{take_more, append-nil}
@@ -60,17 +60,8 @@ numbers_in-tells (e ∷ es) (f ∷ fs) same =
     ap (λ (g : Edge). g ∷ es) head ∙ ap (λ (gs : List Edge). f ∷ gs) (numbers_in-tells es fs left)
 
 -- the numbers of the next edge
-module _ (classes : List ℕ) (dead : ℕ) (es : List Edge) (k : ℕ) (z : Edge) (within : k < length es) (x y : ℕ) (old : List ℕ) (so_far : old ≡ x ∷ y ∷ numbers_in (class_edges classes dead (take k es))) where
-  pub numbers_in-dead : class_of classes (get_or es k z).target ≡ dead → old ≡ x ∷ y ∷ numbers_in (class_edges classes dead (take (k + 1) es))
-  numbers_in-dead is = so_far ∙ ap (λ (fs : List Edge). x ∷ y ∷ numbers_in fs) (class_edges-dead classes dead es k z within is)
-
-  pub numbers_in-live : (mid new : List ℕ) → class_of classes (get_or es k z).target ≢ dead → mid ≡ old ++ (get_or es k z).letter ∷ [] → new ≡ mid ++ class_of classes (get_or es k z).target ∷ []
-      → new ≡ x ∷ y ∷ numbers_in (class_edges classes dead (take (k + 1) es))
-  numbers_in-live mid new other one two =
-      two ∙ ap (λ ns. ns ++ class_of classes (get_or es k z).target ∷ []) (one ∙ ap (λ ns. ns ++ (get_or es k z).letter ∷ []) so_far)
-      ∙ ap (λ ns. x ∷ y ∷ ns) (append_assoc (numbers_in (class_edges classes dead (take k es))) ((get_or es k z).letter ∷ []) (class_of classes (get_or es k z).target ∷ [])
-      ∙ sym (numbers_in-append (class_edges classes dead (take k es)) (class_edge classes (get_or es k z) ∷ []))
-      ∙ ap numbers_in (class_edges-live classes dead es k z within other))
+pub numbers_in-more : (es : List Edge) (k : ℕ) (z : Edge) → k < length es → numbers_in (take (k + 1) es) ≡ numbers_in (take k es) ++ (get_or es k z).letter ∷ (get_or es k z).target ∷ []
+numbers_in-more es k z within = ap numbers_in (take_more es k z within) ∙ numbers_in-append (take k es) (get_or es k z ∷ [])
 
 -- what holds of the letters still holds
 pub class_edges-all : (classes : List ℕ) (dead : ℕ) (P : ℕ → Type 0) (es : List Edge) → All (λ e. P e.letter) es → All (λ e. P e.letter) (class_edges classes dead es)

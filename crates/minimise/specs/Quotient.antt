@@ -3,7 +3,7 @@ use Rattle.std.specs.Prelude.{◌≡◌, ℕ, ◌+◌, ◌<◌, ◌≤◌, Bool,
 use Rattle.std.specs.Option.{option_map}
 use Rattle.digit_tuple.specs.Deterministic.{Automaton, IsTable, letters_of, states_of, accepting_of}
 use Rattle.digit_tuple.specs.declared.edges.Edge.{Edge}
-use Rattle.digit_tuple.specs.Keys.{Step}
+use Rattle.digit_tuple.specs.Keys.{KeyEdge}
 use Rattle.minimise.specs.Classes.{AreResiduals, class_of, next_of, live_class}
 
 -- the first states of a table have states of their classes in the list, at their classes
@@ -39,6 +39,6 @@ class_after d classes leaders key a = option_map (λ class. class ∷ []) (live_
 abbrev pub class_accepts : Automaton → List ℕ → List ℕ → Bool
 class_accepts d leaders key = accepting_of d (leader_of leaders key)
 
--- the step by an edge to a class
-abbrev pub step_by : Edge → Step
-step_by edge = record { letter = edge.letter; key = edge.target ∷ [] }
+-- the key edge that an edge to a class stands for
+abbrev pub key_edge : Edge → KeyEdge
+key_edge edge = record { letter = edge.letter; key = edge.target ∷ [] }

@@ -13,35 +13,35 @@ use digit_tuple::alphabet::Alphabet;
 use digit_tuple::dfa::Dfa;
 use digit_tuple::exploration::explore;
 use digit_tuple::faults::OpFault;
-use digit_tuple::source::Source;
+use digit_tuple::key_graph::KeyGraph;
 use digit_tuple::stepped::Stepped;
 use std::alloc::Global;
 
-/// The canonical automaton of the words that lead to accepting keys of the source. The width is the
+/// The canonical automaton of the words that lead to accepting keys of the graph. The width is the
 /// number of kinds of words, where two are alike that lead to one key, or both to none. `States`
 /// comes exactly where the width passes the limit, and `Letters` never. Memory may also run out
 /// where 2^32 - 1 states are not enough.
-pub fn explore_canonical<S: Source>(
+pub fn explore_canonical<G: KeyGraph>(
     alloc: Global,
-    source: &S,
+    graph: &G,
     alphabet: Alphabet,
     limit: u32,
 ) -> Result<Stepped<Dfa>, OpFault>
-    requires source { S.is_source source.now }
-    requires letters { S.letters source.now ≡ product alphabet }
+    requires graph { G.is_graph graph.now }
+    requires letters { G.letters graph.now ≡ product alphabet }
     ensures sizes { IfOk result (λ stepped. stepped.result.sizes ≡ alphabet) }
     ensures canonical { IfOk result (λ stepped. IsCanonical stepped.result) }
     ensures language { IfOk result (λ stepped. (w : List ℕ) → IsWord (product alphabet) w
-        → accepts_of stepped.result w ≡ key_accepts (S.after source.now) (S.accepts source.now) (S.start source.now) w) }
+        → accepts_of stepped.result w ≡ key_accepts (G.after graph.now) (G.accepts graph.now) (G.start graph.now) w) }
     ensures width { IfOk result (λ stepped.
-        HasWidth (LeadAlike (S.after source.now) (S.start source.now)) (product alphabet) stepped.width) }
+        HasWidth (LeadAlike (G.after graph.now) (G.start graph.now)) (product alphabet) stepped.width) }
     ensures size { IfOk result (λ stepped. states_of stepped.result ≤ stepped.width) }
     ensures within { IfOk result (λ stepped. stepped.width ≤ limit) }
     ensures states { IsErrOf result OpFault.States
-        → HasApart (LeadAlike (S.after source.now) (S.start source.now)) (product alphabet) (limit + 1) }
+        → HasApart (LeadAlike (G.after graph.now) (G.start graph.now)) (product alphabet) (limit + 1) }
     ensures no_letters { ¬ IsErrOf result OpFault.Letters }
 {
-    let explored = explore(alloc, source, alphabet, limit)?;
+    let explored = explore(alloc, graph, alphabet, limit)?;
     let result = canonical(alloc, &explored.result)?;
     Ok(Stepped {
         result,

@@ -11,8 +11,9 @@ ghost use Rattle.digit_tuple.specs.Deterministic.{states_of};
 ghost use Rattle.minimise.specs.Classes.{AreResiduals};
 ghost use Rattle.minimise.specs.Refinement.{AreRefined};
 
+use crate::class_row::ClassRow;
 use crate::partition::parted;
-use crate::signatures::signature;
+use crate::signatures::write_signature;
 use digit_tuple::dfa::Dfa;
 use digit_tuple::faults::OutOfMemory;
 use digit_tuple::numbering::Numbering;
@@ -53,14 +54,16 @@ fn refined(alloc: Global, dfa: &Dfa, classes: &[u32]) -> Result<Classes, OutOfMe
 {
     let mut signatures = Numbering::new(alloc);
     let mut numbers = Vec::with_capacity(alloc, classes.len())?;
+    let mut row = ClassRow::new(alloc);
+    let mut signature = Vec::new(alloc);
     let states = dfa.states();
     for state in 0..states {
-        let signature = signature(alloc, dfa, classes, state)?;
-        let number = signatures.number_of(signature)?;
+        write_signature(dfa, classes, state, &mut row, &mut signature)?;
+        let number = signatures.number_of(&signature)?;
         numbers.push(number as u32)?;
     }
-    let sink = vec![in alloc; 0, classes[states as usize]]?;
-    let number = signatures.number_of(sink)?;
+    write_signature(dfa, classes, states, &mut row, &mut signature)?;
+    let number = signatures.number_of(&signature)?;
     numbers.push(number as u32)?;
     Ok(Classes {
         numbers,

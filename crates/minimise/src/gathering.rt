@@ -1,54 +1,60 @@
 //! Sets of states, gathered by the letters that lead from them, and by their classes.
 
-ghost use Rattle.std.specs.Prelude.{◌<◌, length, IfOk};
+ghost use Rattle.std.specs.Prelude.{◌<◌, length, OnOk};
 ghost use Rattle.std.specs.List.{All, flat_map};
 ghost use Rattle.digit_tuple.specs.Automaton.{edges_of, states_of};
 ghost use Rattle.minimise.specs.Gathering.{IsGathered, edges_by_class};
 
-use determinise::groups::grouped;
 use digit_tuple::edges::Edge;
 use digit_tuple::faults::OutOfMemory;
+use digit_tuple::groups::group_into;
+use digit_tuple::key_edges::KeyEdges;
 use digit_tuple::nfa::Nfa;
-use digit_tuple::source::KeyStep;
-use std::alloc::Global;
 
-/// Where the edges from the states of the set lead, for each letter that one of them has.
-pub fn targets_by_letter(alloc: Global, nfa: &Nfa, set: &[u32]) -> Result<Vec<KeyStep>, OutOfMemory>
+/// Writes where the edges from the states of the set lead, for each letter that one of them has. The
+/// buffer of edges may hold anything.
+pub fn targets_by_letter(
+    nfa: &Nfa,
+    set: &[u32],
+    edges: &mut Vec<Edge>,
+    out: &mut KeyEdges,
+) -> Result<(), OutOfMemory>
     requires { All (λ q. q < states_of nfa.now) set.now }
-    ensures { IfOk result (λ parts. All (λ part. IsGathered (flat_map (edges_of nfa.now) set.now) part.letter part.key.items) parts.items) }
+    ensures { OnOk result (All (λ part. IsGathered (flat_map (edges_of nfa.now) set.now) part.letter part.key) out.new) }
 {
-    let mut edges = Vec::new(alloc);
+    edges.clear();
     for state in set {
         edges.extend_from_slice(nfa.edges(*state))?;
     }
-    gathered(alloc, edges)
+    gather(edges, out)
 }
 
-/// The states of the set by their classes, which stand for letters.
+/// Writes the states of the set by their classes, which stand for letters. The buffer of edges may
+/// hold anything.
 pub fn states_by_class(
-    alloc: Global,
     classes: &[u32],
     set: &[u32],
-) -> Result<Vec<KeyStep>, OutOfMemory>
+    edges: &mut Vec<Edge>,
+    out: &mut KeyEdges,
+) -> Result<(), OutOfMemory>
     requires { All (λ q. q < length classes.now) set.now }
-    ensures { IfOk result (λ parts. All (λ part. IsGathered (edges_by_class classes.now set.now) part.letter part.key.items) parts.items) }
+    ensures { OnOk result (All (λ part. IsGathered (edges_by_class classes.now set.now) part.letter part.key) out.new) }
 {
-    let mut edges = Vec::with_capacity(alloc, set.len())?;
+    edges.clear();
     for state in set {
         edges.push(Edge {
             letter: classes[*state as usize],
             target: *state,
         })?;
     }
-    gathered(alloc, edges)
+    gather(edges, out)
 }
 
-// The targets of the edges, by letter.
-fn gathered(alloc: Global, edges: Vec<Edge>) -> Result<Vec<KeyStep>, OutOfMemory>
-    ensures { IfOk result (λ parts. All (λ part. IsGathered edges.items part.letter part.key.items) parts.items) }
+// Writes the targets of the edges, by letter.
+fn gather(edges: &mut Vec<Edge>, out: &mut KeyEdges) -> Result<(), OutOfMemory>
+    ensures { OnOk result (All (λ part. IsGathered edges.old.items part.letter part.key) out.new) }
 {
-    let mut ordered = edges;
-    ordered.sort()?;
-    ordered.dedup();
-    grouped(alloc, &ordered)
+    edges.sort()?;
+    edges.dedup();
+    group_into(edges, out)
 }

@@ -10,6 +10,9 @@ mod gathering;
 /// Classes of states, parted by Hopcroft's algorithm.
 mod partition;
 
+/// The edges of a state between classes.
+mod class_row;
+
 /// What tells states of one class apart.
 mod signatures;
 

@@ -20,7 +20,9 @@ ghost use Rattle.minimise.specs.Partition.{IsCoarse, IsUnion, IsGiven, IsOneOf, 
 use crate::gathering::{states_by_class, targets_by_letter};
 use digit_tuple::accepting_states::accepting_states;
 use digit_tuple::dfa::Dfa;
+use digit_tuple::edges::Edge;
 use digit_tuple::faults::OutOfMemory;
+use digit_tuple::key_edges::KeyEdges;
 use digit_tuple::nfa::Nfa;
 use digit_tuple::reversed::reversed;
 use std::alloc::Global;
@@ -35,11 +37,12 @@ pub fn parted(alloc: Global, dfa: &Dfa) -> Result<Vec<u32>, OutOfMemory>
     let turned = reversed(alloc, dfa)?;
     let accepting = accepting_states(alloc, dfa)?;
     let mut partition = Partition::new(alloc, dfa)?;
-    partition.split(alloc, dfa, 0, &accepting)?;
+    partition.split(dfa, 0, &accepting)?;
+    let mut buffers = Buffers::new(alloc);
     // Each class but the sink's makes one set pending, so there are no more sets than states.
     for _ in 0..dfa.states() {
         match partition.pending.pop() {
-            Some(set) => partition.part_by(alloc, dfa, &turned, &set)?,
+            Some(set) => partition.part_by(dfa, &turned, &set, &mut buffers)?,
             None => return Ok(partition.classes),
         }
     }
@@ -49,6 +52,7 @@ pub fn parted(alloc: Global, dfa: &Dfa) -> Result<Vec<u32>, OutOfMemory>
 /// The partition while it is refined.
 #[derive(Drop)]
 pub struct Partition {
+    alloc: Global,
     // The class of each state, and last that of the sink, which is 0.
     classes: Vec<u32>,
     // How many states each class has, the sink among them.
@@ -69,6 +73,7 @@ impl Partition {
         let mut members = Vec::new(alloc);
         members.push(Vec::new(alloc))?;
         Ok(Partition {
+            alloc,
             classes: vec![in alloc; 0; count]?,
             sizes: vec![in alloc; count]?,
             members,
@@ -79,44 +84,49 @@ impl Partition {
     // Parts classes by whether letters lead into the set.
     fn part_by(
         &mut self,
-        alloc: Global,
         dfa: &Dfa,
         turned: &Nfa,
         set: &[u32],
+        buffers: &mut Buffers,
     ) -> Result<(), OutOfMemory>
         requires partition { IsPartition dfa.now self.old }
         requires turned { IsReversal dfa.now turned.now }
         requires set { IsUnion dfa.now set.now }
         ensures { OnOk result (IsPartition dfa.now self.new) }
     {
-        let sources = targets_by_letter(alloc, turned, set)?;
-        for source in &sources {
-            self.part(alloc, dfa, &source.key)?;
+        let Buffers {
+            edges,
+            sources,
+            parts,
+        } = buffers;
+        targets_by_letter(turned, set, edges, sources)?;
+        for place in 0..sources.len() {
+            self.part(dfa, sources.key(place), edges, parts)?;
         }
         Ok(())
     }
 
-    // Parts classes by whether states are in the set.
-    fn part(&mut self, alloc: Global, dfa: &Dfa, set: &[u32]) -> Result<(), OutOfMemory>
+    // Parts classes by whether states are in the set. The buffers may hold anything.
+    fn part(
+        &mut self,
+        dfa: &Dfa,
+        set: &[u32],
+        edges: &mut Vec<Edge>,
+        parts: &mut KeyEdges,
+    ) -> Result<(), OutOfMemory>
         requires partition { IsPartition dfa.now self.old }
         requires set { IsUnion dfa.now set.now }
         ensures { OnOk result (IsPartition dfa.now self.new) }
     {
-        let parts = states_by_class(alloc, &self.classes, set)?;
-        for part in &parts {
-            self.split(alloc, dfa, part.letter, &part.key)?;
+        states_by_class(&self.classes, set, edges, parts)?;
+        for place in 0..parts.len() {
+            self.split(dfa, parts.letter(place), parts.key(place))?;
         }
         Ok(())
     }
 
     // Gives states of a class a new one, unless the class has no others.
-    fn split(
-        &mut self,
-        alloc: Global,
-        dfa: &Dfa,
-        class: u32,
-        states: &[u32],
-    ) -> Result<(), OutOfMemory>
+    fn split(&mut self, dfa: &Dfa, class: u32, states: &[u32]) -> Result<(), OutOfMemory>
         requires partition { IsPartition dfa.now self.old }
         requires class { class < length self.old.members.items }
         requires states { IsUnion dfa.now states.now }
@@ -133,10 +143,29 @@ impl Partition {
         self.sizes[class as usize] = left;
         self.sizes.push(states.len())?;
         let members = &self.members[class as usize];
-        let set = smaller(alloc, &self.classes, class, members, left, states)?;
-        self.members.push(Vec::from_slice(alloc, states)?)?;
+        let set = smaller(self.alloc, &self.classes, class, members, left, states)?;
+        self.members.push(Vec::from_slice(self.alloc, states)?)?;
         self.pending.push(set)?;
         Ok(())
+    }
+}
+
+// Buffers that are used again.
+#[derive(Drop)]
+struct Buffers {
+    edges: Vec<Edge>,
+    sources: KeyEdges,
+    parts: KeyEdges,
+}
+
+impl Buffers {
+    // Empty ones.
+    fn new(alloc: Global) -> Self {
+        Buffers {
+            edges: Vec::new(alloc),
+            sources: KeyEdges::new(alloc),
+            parts: KeyEdges::new(alloc),
+        }
     }
 }
 

@@ -1,17 +1,18 @@
-//! The automaton whose states are classes, as a source of keys.
+//! The automaton whose states are classes, as a graph of keys.
 
-ghost use Rattle.std.specs.Prelude.{◌≡◌, ◌+◌, ◌<◌, ◌≤◌, [], ◌∷◌, length, map, IfOk};
+ghost use Rattle.std.specs.Prelude.{◌≡◌, ◌+◌, ◌<◌, ◌≤◌, ◌++◌, [], ◌∷◌, length, map, IfOk, OnOk};
 ghost use Rattle.std.specs.List.{All};
-ghost use Rattle.digit_tuple.specs.Deterministic.{letters_of, states_of, edges_of};
-ghost use Rattle.digit_tuple.specs.KeySteps.{steps_in};
-ghost use Rattle.minimise.specs.Classes.{class_of, dead_class};
+ghost use Rattle.digit_tuple.specs.Deterministic.{letters_of, states_of};
+ghost use Rattle.minimise.specs.Classes.{class_of};
 ghost use Rattle.minimise.specs.Signatures.{class_edges};
-ghost use Rattle.minimise.specs.Quotient.{AreLeaders, IsQuotient, IsClass, class_after, class_accepts, step_by};
+ghost use Rattle.minimise.specs.Quotient.{AreLeaders, IsQuotient, IsClass, class_after, class_accepts, key_edge};
 ghost use Rattle.minimise.specs.QuotientLaws.{start_is_class, class_after_is_class};
 
 use digit_tuple::dfa::Dfa;
+use digit_tuple::edges::Edge;
 use digit_tuple::faults::OutOfMemory;
-use digit_tuple::source::{KeyStep, Source};
+use digit_tuple::key_edges::KeyEdges;
+use digit_tuple::key_graph::KeyGraph;
 use std::alloc::Global;
 
 /// The classes of an automaton's states and its sink, and a state of each class. A key is a class
@@ -23,30 +24,33 @@ pub struct Quotient<'a> {
     pub leaders: &'a [u32],
 }
 
-impl Source for Quotient<'_> {
-    ghost letters = { λ s. letters_of s.dfa.now };
+impl KeyGraph for Quotient<'_> {
+    ghost letters = { λ g. letters_of g.dfa.now };
 
-    ghost is_source = { λ s. IsQuotient s.dfa.now s.classes.now s.leaders.now };
+    ghost is_graph = { λ g. IsQuotient g.dfa.now g.classes.now g.leaders.now };
 
-    ghost is_key = { λ s. IsClass s.dfa.now s.classes.now s.leaders.now };
+    ghost is_key = { λ g. IsClass g.dfa.now g.classes.now g.leaders.now };
 
-    ghost start = { λ s. class_of s.classes.now 0 ∷ [] };
+    ghost start = { λ g. class_of g.classes.now 0 ∷ [] };
 
-    ghost after = { λ s. class_after s.dfa.now s.classes.now s.leaders.now };
+    ghost after = { λ g. class_after g.dfa.now g.classes.now g.leaders.now };
 
-    ghost accepts = { λ s. class_accepts s.dfa.now s.leaders.now };
+    ghost accepts = { λ g. class_accepts g.dfa.now g.leaders.now };
 
-    ghost start_is_key = { λ s source. start_is_class s.dfa.now s.classes.now s.leaders.now source };
+    ghost start_is_key = { λ g quotient. start_is_class g.dfa.now g.classes.now g.leaders.now quotient };
 
-    ghost after_is_key = { λ s key letter source is_class small. class_after_is_class s.dfa.now s.classes.now s.leaders.now source key letter is_class };
+    ghost after_is_key = { λ g key letter quotient is_class small. class_after_is_class g.dfa.now g.classes.now g.leaders.now quotient key letter is_class };
 
     fn first_key(&self, alloc: Global) -> Result<Vec<u32>, OutOfMemory> {
         Ok(vec![in alloc; self.classes[0]]?)
     }
 
-    fn steps(&self, alloc: Global, key: &[u32]) -> Result<Vec<KeyStep>, OutOfMemory> {
+    fn edges(&self, alloc: Global, key: &[u32], out: &mut KeyEdges) -> Result<(), OutOfMemory> {
         let state = self.leaders[key[0] as usize];
-        class_steps(alloc, self.dfa, self.classes, state)
+        let mut edges = Vec::new(alloc);
+        self.dfa.edges_into(state, &mut edges)?;
+        let dead = self.classes[self.dfa.states() as usize];
+        add_key_edges(&edges, self.classes, dead, out)
     }
 
     fn is_accepting(&self, key: &[u32]) -> bool {
@@ -54,30 +58,23 @@ impl Source for Quotient<'_> {
     }
 }
 
-// The steps from a state to the classes other than the dead one.
-fn class_steps(
-    alloc: Global,
-    dfa: &Dfa,
+// Adds the edges to classes other than the dead one, each with its class for a key.
+fn add_key_edges(
+    edges: &[Edge],
     classes: &[u32],
-    state: u32,
-) -> Result<Vec<KeyStep>, OutOfMemory>
-    requires width { length classes.now ≡ states_of dfa.now + 1 }
-    requires state { state < states_of dfa.now }
-    ensures { IfOk result (λ steps. steps_in steps.items ≡ map step_by (class_edges classes.now (dead_class dfa.now classes.now) (edges_of dfa.now state))) }
+    dead: u32,
+    out: &mut KeyEdges,
+) -> Result<(), OutOfMemory>
+    requires { All (λ edge. edge.target < length classes.now) edges.now }
+    ensures { OnOk result (out.new ≡ out.old ++ map key_edge (class_edges classes.now dead edges.now)) }
 {
-    let dead = classes[dfa.states() as usize];
-    let mut steps = Vec::new(alloc);
-    for edge in dfa.edges(state) {
+    for edge in edges {
         let class = classes[edge.target as usize];
         if class != dead {
-            let key = vec![in alloc; class]?;
-            steps.push(KeyStep {
-                letter: edge.letter,
-                key,
-            })?;
+            out.push(edge.letter, &[class])?;
         }
     }
-    Ok(steps)
+    Ok(())
 }
 
 /// A state of each class, at its class. The numbers of classes that only the sink has stand for nothing.

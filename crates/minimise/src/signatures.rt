@@ -1,34 +1,34 @@
 //! What tells states of one class apart.
 
-ghost use Rattle.std.specs.Prelude.{◌≡◌, ◌+◌, ◌<◌, length, IfOk};
+ghost use Rattle.std.specs.Prelude.{◌≡◌, ◌+◌, ◌≤◌, length, OnOk};
 ghost use Rattle.digit_tuple.specs.Deterministic.{states_of};
 ghost use Rattle.minimise.specs.Signatures.{signature_of};
 
+use crate::class_row::ClassRow;
+use crate::sink::is_accepting;
 use digit_tuple::dfa::Dfa;
 use digit_tuple::faults::OutOfMemory;
-use std::alloc::Global;
 
-/// A state's signature: whether it accepts, its class, and its edges to classes other than the dead one.
-pub fn signature(
-    alloc: Global,
+/// Writes the signature of a state or the sink: whether it accepts, its class, and its edges to classes
+/// other than the dead one. The buffers may hold anything.
+pub fn write_signature(
     dfa: &Dfa,
     classes: &[u32],
     state: u32,
-) -> Result<Vec<u32>, OutOfMemory>
+    row: &mut ClassRow,
+    signature: &mut Vec<u32>,
+) -> Result<(), OutOfMemory>
     requires width { length classes.now ≡ states_of dfa.now + 1 }
-    requires state { state < states_of dfa.now }
-    ensures { IfOk result (λ signature. signature.items ≡ signature_of dfa.now classes.now state) }
+    requires state { state ≤ states_of dfa.now }
+    ensures { OnOk result (signature.new.items ≡ signature_of dfa.now classes.now state) }
 {
-    let dead = classes[dfa.states() as usize];
-    let mut signature = Vec::new(alloc);
-    signature.push(u32::from(dfa.accepting(state)))?;
+    row.read(dfa, classes, state)?;
+    signature.clear();
+    signature.push(u32::from(is_accepting(dfa, state)))?;
     signature.push(classes[state as usize])?;
-    for edge in dfa.edges(state) {
-        let class = classes[edge.target as usize];
-        if class != dead {
-            signature.push(edge.letter)?;
-            signature.push(class)?;
-        }
+    for edge in row.as_slice() {
+        signature.push(edge.letter)?;
+        signature.push(edge.target)?;
     }
-    Ok(signature)
+    Ok(())
 }

@@ -2,8 +2,8 @@ use Rattle.std.proofs.Common.{◌∙◌}
 use Rattle.minimise.proofs.QuotientLemmas.{IsQuotient-read, SameLanguage-explored, IsCanonical-explored}
 use Rattle.minimise.proofs.canonical.canonical.Goals as goal
 
-pub explore-requires-clause-source : goal.explore-requires-clause-source
-explore-requires-clause-source c =
+pub explore-requires-clause-graph : goal.explore-requires-clause-graph
+explore-requires-clause-graph c =
     let made = c.in_ok-classes.ensures in
     IsQuotient-read c.args.d.now c.in_ok-classes.classes.items c.in_ok-leaders.leaders.items c.deref.result.now c.deref-2.result.now c.deref-3.result.now c.deref.ensures.value c.deref-2.ensures.value c.deref-3.ensures.value
     c.alphabet.ensures.table made.width made.below made.residuals c.in_ok-leaders.ensures

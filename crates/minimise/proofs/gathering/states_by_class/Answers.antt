@@ -1,4 +1,4 @@
-use Rattle.std.proofs.Common.{◌≡◌, ◌∷◌, ◌++◌, ℕ, List, IfOk, [], get_or, sym, ap, ◌∙◌, subst, arith}
+use Rattle.std.proofs.Common.{◌≡◌, ◌∷◌, ◌++◌, ℕ, List, OnOk, [], get_or, sym, ap, ◌∙◌, subst, arith}
 use Rattle.std.specs.List.{All}
 use Rattle.std.proofs.lemmas.List.{take_all, map_more}
 use Rattle.digit_tuple.specs.declared.edges.Edge.{Edge}
@@ -16,4 +16,4 @@ loop-state-preserved c =
 pub returns : goal.returns
 returns c =
     let all : c.loop-state.edges.items ≡ edges_by_class c.args.classes.now c.args.set.now = c.loop-state.invariant ∙ ap (edges_by_class c.args.classes.now) (take_all c.loop-state.state-index c.args.set.now (omega arith)) in
-    subst (λ (es : List Edge). IfOk c.gathered.result (λ parts. All (λ part. IsGathered es part.letter part.key.items) parts.items)) all c.gathered.ensures
+    subst (λ (es : List Edge). OnOk c.gather.result (All (λ part. IsGathered es part.letter part.key) c.gather.new.out)) all c.gather.ensures

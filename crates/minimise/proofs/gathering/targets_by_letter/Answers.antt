@@ -1,4 +1,4 @@
-use Rattle.std.proofs.Common.{◌≡◌, List, IfOk, ap, ◌∙◌, subst, arith}
+use Rattle.std.proofs.Common.{◌≡◌, List, OnOk, ap, ◌∙◌, subst, arith}
 use Rattle.std.specs.List.{All, flat_map}
 use Rattle.std.proofs.lemmas.List.{take_all}
 use Rattle.digit_tuple.specs.declared.edges.Edge.{Edge}
@@ -9,4 +9,4 @@ use Rattle.minimise.proofs.gathering.targets_by_letter.Goals as goal
 pub returns : goal.returns
 returns c =
     let all : c.loop-state.edges.items ≡ flat_map (edges_of c.args.nfa.now) c.args.set.now = c.loop-state.invariant ∙ ap (flat_map (edges_of c.args.nfa.now)) (take_all c.loop-state.state-index c.args.set.now (omega arith)) in
-    subst (λ (es : List Edge). IfOk c.gathered.result (λ parts. All (λ part. IsGathered es part.letter part.key.items) parts.items)) all c.gathered.ensures
+    subst (λ (es : List Edge). OnOk c.gather.result (All (λ part. IsGathered es part.letter part.key) c.gather.new.out)) all c.gather.ensures

@@ -1,26 +1,28 @@
-use Rattle.std.proofs.Common.{List, ℕ, length, sym, subst, arith}
+use Rattle.std.proofs.Common.{◌<◌, List, ℕ, length, sym, subst, arith}
 use Rattle.std.proofs.lemmas.List.{length-map}
-use Rattle.digit_tuple.specs.declared.source.KeyStep.{KeyStep}
+use Rattle.digit_tuple.specs.Keys.{edge_at, no_edge}
 use Rattle.minimise.specs.Gathering.{IsGathered, edges_by_class}
 use Rattle.minimise.specs.Partition.{IsUnion, lists_in}
-use Rattle.minimise.proofs.PartitionLemmas.{part_at, IsUnion-class, class_below}
+use Rattle.minimise.proofs.PartitionLemmas.{IsUnion-class, class_below}
 use Rattle.minimise.proofs.partition.Partition.part.Goals as goal
 
-gathered : (c : goal.After-deref-in-loop-part) → IsGathered (edges_by_class c.args.self.now.classes.items c.args.set.now) c.part-item.result.letter c.part-item.result.key.items
+gathered : (c : goal.After-key) → IsGathered (edges_by_class c.args.self.now.classes.items c.args.set.now) (edge_at c.states_by_class.new.out c.loop-place.place).letter (edge_at c.states_by_class.new.out c.loop-place.place).key
 gathered c =
-    subst (λ (classes : List ℕ). IsGathered (edges_by_class classes c.args.set.now) c.part-item.result.letter c.part-item.result.key.items) c.deref.ensures.value
-    (part_at (λ (s : KeyStep). IsGathered (edges_by_class c.deref.result.now c.args.set.now) s.letter s.key.items) c.in_ok-parts.parts.items c.deref-part-items.result.now c.loop-part.part-index c.part-item.result c.in_ok-parts.ensures
-    c.deref-part-items.ensures.value c.loop-part-test.true c.part-item.is)
+    let parts = c.states_by_class.new.out in
+    let place = c.loop-place.place in
+    let within : place < length parts = omega (arith, c.len-place-end.ensures) in
+    subst (λ (classes : List ℕ). IsGathered (edges_by_class classes c.args.set.now) (edge_at parts place).letter (edge_at parts place).key) c.deref.ensures.value (c.in_ok-states_by_class.ensures place no_edge within)
 
 pub split-requires-clause-states : goal.split-requires-clause-states
 split-requires-clause-states c =
     let d = c.args.dfa.now in
-    subst (IsUnion d) (sym c.deref-in-loop-part.ensures.value)
-    (IsUnion-class d c.args.self.now.classes.items c.requires.partition.coarse c.args.set.now c.requires.set c.part-item.result.letter c.part-item.result.key.items (gathered c))
+    let part = edge_at c.states_by_class.new.out c.loop-place.place in
+    subst (IsUnion d) (sym c.key.ensures) (IsUnion-class d c.args.self.now.classes.items c.requires.partition.coarse c.args.set.now c.requires.set part.letter part.key (gathered c))
 
 pub split-requires-clause-class : goal.split-requires-clause-class
 split-requires-clause-class c =
     let d = c.args.dfa.now in
     let p = c.args.self.now in
-    let low = class_below d p.classes.items c.requires.partition.coarse c.args.set.now c.requires.set c.part-item.result.letter c.part-item.result.key.items (gathered c) (length (lists_in p.members.items)) c.requires.partition.below in
-    omega (arith, low, length-map p.members.items (λ v. v.items), c.loop-part.invariant.grown)
+    let part = edge_at c.states_by_class.new.out c.loop-place.place in
+    let low = class_below d p.classes.items c.requires.partition.coarse c.args.set.now c.requires.set part.letter part.key (gathered c) (length (lists_in p.members.items)) c.requires.partition.below in
+    omega (arith, low, c.letter.ensures, length-map p.members.items (λ v. v.items), c.loop-place.invariant.grown)

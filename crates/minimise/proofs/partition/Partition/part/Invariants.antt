@@ -2,8 +2,8 @@ use Rattle.std.proofs.Common.{◌≤◌, length}
 use Rattle.minimise.specs.Partition.{IsPartition}
 use Rattle.minimise.proofs.partition.Partition.part.Given as goal
 
-abbrev pub invariant-loop-part : goal.invariant-loop-part
-invariant-loop-part l = record {
+abbrev pub invariant-loop-place : goal.invariant-loop-place
+invariant-loop-place l = record {
   partition : IsPartition l.dfa l.self;
   grown : length l.fn.self.members.items ≤ length l.self.members.items;
 }

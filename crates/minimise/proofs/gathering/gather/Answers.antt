@@ -1,30 +1,28 @@
 use Rattle.std.proofs.Common.{◌≡◌, ◌==◌, ◌&&◌, Bool, ◌↔◌, List, sym, subst}
-use Rattle.std.specs.List.{All, AllPairs, Contains, dedup}
-use Rattle.std.proofs.lemmas.Result.{IfOk-weaker}
+use Rattle.std.specs.List.{AllPairs, Contains, dedup}
+use Rattle.std.proofs.lemmas.Result.{on_ok_weaker}
 use Rattle.std.proofs.lemmas.List.Filters.{dedup_is}
 use Rattle.std.proofs.lemmas.List.Kept.{Contains-from_dedup}
 use Rattle.std.proofs.lemmas.List.Sorted.{Contains-permutation, IsPermutation-sym}
 use Rattle.digit_tuple.specs.declared.edges.Edge.{Edge}
 use Rattle.digit_tuple.specs.Automaton.{IsBefore}
-use Rattle.digit_tuple.specs.KeySteps.{steps_in}
-use Rattle.determinise.specs.Groups.{AreGroups}
+use Rattle.digit_tuple.specs.Groups.{AreGroups}
 use Rattle.digit_tuple.proofs.EdgeLemmas.{AllPairs-dedup, Contains-dedup, edges_tell}
-use Rattle.minimise.specs.Gathering.{IsGathered}
 use Rattle.minimise.proofs.GatheringLemmas.{IsGathered-groups}
-use Rattle.minimise.proofs.gathering.gathered.Goals as goal
+use Rattle.minimise.proofs.gathering.gather.Goals as goal
 
 abbrev same : Edge → Edge → Bool
 same e f = (e.letter == f.letter) && (e.target == f.target)
 
-pub grouped-requires : goal.grouped-requires
-grouped-requires c =
+pub group_into-requires : goal.group_into-requires
+group_into-requires c =
     subst (AllPairs IsBefore) (sym c.deref.ensures.value)
     (subst (AllPairs IsBefore) (sym (dedup_is same c.sort.new.self.items c.dedup.new.self.items c.dedup.ensures.filtered))
     (AllPairs-dedup same edges_tell c.sort.new.self.items c.in_ok-sort.ensures.sorted))
 
 pub returns : goal.returns
 returns c =
-    let edges = c.args.edges.items in
+    let edges = c.args.edges.now.items in
     let sorted = c.sort.new.self.items in
     let left : c.dedup.new.self.items ≡ dedup same sorted = dedup_is same sorted c.dedup.new.self.items c.dedup.ensures.filtered in
     let moved = c.in_ok-sort.ensures.permutation in
@@ -32,6 +30,6 @@ returns c =
       (λ there. Contains-permutation sorted edges e (IsPermutation-sym edges sorted moved) (Contains-from_dedup same sorted e (subst (λ (es : List Edge). Contains es e) left there))),
       (λ there. subst (λ (es : List Edge). Contains es e) (sym left) (Contains-dedup same edges_tell sorted e (Contains-permutation edges sorted e moved there))),
     ) in
-    IfOk-weaker c.grouped.result (λ steps. AreGroups c.deref.result.now (steps_in steps.items)) (λ steps. All (λ step. IsGathered c.args.edges.items step.letter step.key.items) steps.items)
-    (λ steps groups. IsGathered-groups edges c.dedup.new.self.items equal steps.items (subst (λ (es : List Edge). AreGroups es (steps_in steps.items)) c.deref.ensures.value groups))
-    c.grouped.ensures
+    on_ok_weaker c.group_into.result
+    (λ groups. IsGathered-groups edges c.dedup.new.self.items equal c.group_into.new.out (subst (λ (es : List Edge). AreGroups es c.group_into.new.out) c.deref.ensures.value groups))
+    c.group_into.ensures
