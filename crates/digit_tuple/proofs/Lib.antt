@@ -17,6 +17,7 @@ pub mod AcceptedLemmas
 pub mod ShortlexLemmas
 pub mod WordLemmas
 pub mod PaddingLemmas
+pub mod PigeonLemmas
 pub mod WidthLemmas
 pub mod EdgesByLemmas
 pub mod BuilderLemmas

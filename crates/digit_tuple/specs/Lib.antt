@@ -22,5 +22,6 @@ pub mod StepResults
 pub mod Keys
 pub mod KeySpans
 pub mod Groups
+pub mod ExploredWidth
 pub mod Explored
 pub mod NoWords

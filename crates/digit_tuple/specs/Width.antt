@@ -14,3 +14,9 @@ pub record HasApart (alike : List ℕ → List ℕ → Type 0) (letters k : ℕ)
 pub record HasWidth (alike : List ℕ → List ℕ → Type 0) (letters k : ℕ) : Type 0 where
   pub some : HasApart alike letters k
   pub whole : (w : List ℕ) → IsWord letters w → Any (alike w) some.words
+
+-- each word is alike to itself, and two words are alike that are alike to a third, in each order
+pub record IsEquivalence (alike : List ℕ → List ℕ → Type 0) : Type 0 where
+  pub reflexive : (w : List ℕ) → alike w w
+  pub symmetric : (w v : List ℕ) → alike w v → alike v w
+  pub transitive : (u v w : List ℕ) → alike u v → alike v w → alike u w

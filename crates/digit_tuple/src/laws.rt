@@ -2,6 +2,7 @@
 
 ghost use Rattle.digit_tuple.specs.Letters.{LettersTellDigits, DigitsHaveLetters, LettersHaveDigits};
 ghost use Rattle.digit_tuple.specs.Tuples.{TuplesTellLetters, LettersTellTuples, LettersHaveTuples};
+ghost use Rattle.digit_tuple.specs.ExploredWidth.{LeadAlikeIsEquivalence, OneExploredWidth, ExploredWidthExcludes};
 
 /// Two lists of digits on the same tracks with the same letter are equal.
 pub fn letters_tell_digits()
@@ -31,4 +32,20 @@ pub fn letters_tell_tuples()
 /// Each letter of the alphabet stands for a tuple.
 pub fn letters_have_tuples()
     ensures { LettersHaveTuples }
+{}
+
+/// Words that lead to one key, or to none, are of one kind: they are alike as equals are.
+pub fn kinds_are_classes()
+    ensures { LeadAlikeIsEquivalence }
+{}
+
+/// The width of an exploration is one number.
+pub fn exploration_has_one_width()
+    ensures { OneExploredWidth }
+{}
+
+/// Where an exploration has a width, no more words than that are apart: so it is never refused under
+/// a limit that the width is within.
+pub fn width_excludes_refusal()
+    ensures { ExploredWidthExcludes }
 {}

@@ -1,59 +1,13 @@
--- No more words are apart than a width counts, and the states of a canonical automaton have words that are apart.
-use Rattle.std.proofs.Common.{◌≡◌, ◌≢◌, ℕ, suc, ◌<◌, ◌≤◌, true, false, List, [], ◌∷◌, ◌++◌, length, get_or, sym, ap, ◌∙◌, subst, arith}
-use Rattle.std.specs.Prelude.{eqb}
-use Rattle.std.specs.List.{AllByRecursion, IsDistinct, list_any}
+-- The states of a canonical automaton have words that are apart.
+use Rattle.std.proofs.Common.{◌≡◌, ℕ, ◌<◌, false, List, [], ◌++◌, get_or, sym, ap, ◌∙◌, subst, arith}
 use Rattle.std.specs.Option.{option_map_or}
-use Rattle.std.proofs.lemmas.Bool.{eqb-true, false_from_ne_true}
 use Rattle.std.proofs.lemmas.List.{get_or_default}
-use Rattle.std.proofs.lemmas.List.Folds.{Any-from_list_any}
-use Rattle.std.proofs.lemmas.Map.Steps.{length-le_from_distinct_below}
 use Rattle.digit_tuple.specs.Deterministic.{Automaton, letters_of, states_of, accepts_from, accepts_of}
 use Rattle.digit_tuple.specs.Letters.{IsWord}
-use Rattle.digit_tuple.specs.Width.{HasApart, HasWidth}
+use Rattle.digit_tuple.specs.Width.{HasApart}
 use Rattle.digit_tuple.proofs.WordLemmas.{accepts_from-append}
+pub use Rattle.digit_tuple.proofs.WidthLemmas.{apart_within_width}
 use Rattle.minimise.specs.Canonical.{IsCanonical}
-use Rattle.minimise.proofs.PigeonLemmas.{choose}
-
--- numbers below m of which no two are equal are at most m
-others : (x : ℕ) (xs : List ℕ) → ((j : ℕ) → j < length xs → x ≢ get_or xs j 0) → AllByRecursion (λ y. eqb x y ≡ false) xs
-others x [] apart = tt
-others x (y ∷ xs) apart = (false_from_ne_true (eqb x y) (λ is. apart 0 (omega arith) (eqb-true x y is)), others x xs (λ j within. apart (suc j) (omega arith)))
-
-distinct : (xs : List ℕ) → ((i j : ℕ) → i < j → j < length xs → get_or xs i 0 ≢ get_or xs j 0) → IsDistinct eqb xs
-unfolding IsDistinct
-distinct [] apart = tt
-distinct (x ∷ xs) apart = (others x xs (λ j within. apart 0 (suc j) (omega arith) (omega arith)), distinct xs (λ i j before within. apart (suc i) (suc j) (omega arith) (omega arith)))
-
-few_below : (m : ℕ) (xs : List ℕ) → ((i : ℕ) → i < length xs → get_or xs i 0 < m) → ((i j : ℕ) → i < j → j < length xs → get_or xs i 0 ≢ get_or xs j 0) → length xs ≤ m
-few_below m xs below apart = length-le_from_distinct_below xs m (distinct xs apart) member
-  where
-    member : (q : ℕ) → list_any (eqb q) xs ≡ true → q < m
-    member q is =
-        let found = Any-from_list_any (eqb q) xs is in
-        let same : q ≡ found.1 = eqb-true q found.1 found.4 in
-        let at : get_or xs found.0 0 ≡ found.1 = get_or_default xs found.0 0 found.1 found.2 ∙ found.3 in
-        omega (arith, below found.0 found.2, at, same)
-
--- words that are apart are no more than those of a width, by a relation of one value
-pub apart_within_width : (R : List ℕ → List ℕ → Type 0) (letters k m : ℕ) → ((w v u : List ℕ) → R w u → R v u → R w v) → HasApart R letters k → HasWidth R letters m → k ≤ m
-apart_within_width R letters k m shared apart width =
-    let P : ℕ → ℕ → Type 0 = λ q j. (j < m) × R (get_or apart.words q []) (get_or width.some.words j []) in
-    let xs = choose P k found in
-    omega (arith, xs.1, few_below m xs.0 (λ i within. (xs.2 i (omega (arith, xs.1))).0) (λ i j before within same. by xs.0 xs.1 xs.2 i j before within same))
-  where
-    found : (q : ℕ) → q < k → (j : ℕ) × ((j < m) × R (get_or apart.words q []) (get_or width.some.words j []))
-    found q within =
-        let any = width.whole (get_or apart.words q []) (apart.over q [] (omega (arith, apart.count))) in
-        let at : get_or width.some.words any.0 [] ≡ any.1 = get_or_default width.some.words any.0 [] any.1 any.2 ∙ any.3 in
-        (any.0, (omega (arith, any.2, width.some.count), subst (R (get_or apart.words q [])) (sym at) any.4))
-
-    by : (xs : List ℕ) → length xs ≡ k → ((q : ℕ) → q < k → (get_or xs q 0 < m) × R (get_or apart.words q []) (get_or width.some.words (get_or xs q 0) []))
-        → (i j : ℕ) → i < j → j < length xs → get_or xs i 0 ≢ get_or xs j 0
-    by xs count are i j before within same =
-        let one = (are i (omega (arith, count))).1 in
-        let two = (are j (omega (arith, count))).1 in
-        let Q : ℕ → Type 0 = λ p. R (get_or apart.words i []) (get_or width.some.words p []) in
-        apart.apart i j [] before (omega (arith, count, apart.count)) (shared (get_or apart.words i []) (get_or apart.words j []) (get_or width.some.words (get_or xs j 0) []) (subst Q same one) two)
 
 -- the first words of a canonical automaton's states are apart by each relation that the language keeps
 pub canonical_apart : (d : Automaton) → IsCanonical d → (R : List ℕ → List ℕ → Type 0)

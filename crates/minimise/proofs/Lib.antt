@@ -1,7 +1,6 @@
 pub mod OrderLemmas
 pub mod EdgeLemmas
 pub mod CanonicalLemmas
-pub mod PigeonLemmas
 pub mod SinkLemmas
 pub mod SignatureLemmas
 pub mod RefiningLemmas

@@ -8,7 +8,7 @@ use Rattle.minimise.specs.Residuals.{SameResidual}
 use Rattle.minimise.specs.Classes.{class_of, next_of, AreResiduals}
 use Rattle.minimise.specs.Refinement.{AreAlike, AreCounted, AreRefined}
 use Rattle.minimise.specs.Partition.{IsCoarse}
-use Rattle.minimise.proofs.PigeonLemmas.{StandsIn, onto_least, onto_one, choose}
+use Rattle.digit_tuple.proofs.PigeonLemmas.{StandsIn, onto_least, onto_one, choose}
 use Rattle.minimise.proofs.SinkLemmas.{accepts_from-next, next_within}
 
 -- classes that part no states with one residual language

@@ -1,9 +1,12 @@
--- Lists in which each number below a bound stands.
-use Rattle.std.proofs.Common.{◌≡◌, ◌≢◌, ℕ, zero, suc, ◌+◌, ◌<◌, ◌≤◌, List, [], ◌∷◌, ◌++◌, length, get_or, ◌⊎◌, inl, inr, refl, sym, ap, ◌∙◌, subst, arith}
-use Rattle.std.specs.List.{remove}
-use Rattle.std.proofs.lemmas.Bool.{cases_order, cases_lt}
-use Rattle.std.proofs.lemmas.List.{length_push, get_or_push, get_or_append_left}
+-- Lists of numbers below a bound: those in which each stands, and those in which none stands twice.
+use Rattle.std.proofs.Common.{◌≡◌, ◌≢◌, ℕ, zero, suc, ◌+◌, ◌<◌, ◌≤◌, true, false, List, [], ◌∷◌, ◌++◌, length, get_or, ◌⊎◌, inl, inr, refl, sym, ap, ◌∙◌, subst, arith}
+use Rattle.std.specs.Prelude.{eqb}
+use Rattle.std.specs.List.{AllByRecursion, IsDistinct, list_any, remove}
+use Rattle.std.proofs.lemmas.Bool.{cases_order, cases_lt, eqb-true, false_from_ne_true}
+use Rattle.std.proofs.lemmas.List.{length_push, get_or_default, get_or_push, get_or_append_left}
+use Rattle.std.proofs.lemmas.List.Folds.{Any-from_list_any}
 use Rattle.std.proofs.lemmas.List.Edits.{length-remove, get_or-remove_below, get_or-remove_above}
+use Rattle.std.proofs.lemmas.Map.Steps.{length-le_from_distinct_below}
 
 -- the number stands in the list
 abbrev pub StandsIn : List ℕ → ℕ → Type 0
@@ -71,3 +74,24 @@ choose P (suc n) some =
     by xs size all x here k inside (inr more) =
         let is : n ≡ k = omega arith in
         subst (P k) (sym (get_or_push xs x 0 k (size ∙ is))) (subst (λ m. P m x) is here)
+
+-- the numbers are none of the others
+others : (x : ℕ) (xs : List ℕ) → ((j : ℕ) → j < length xs → x ≢ get_or xs j 0) → AllByRecursion (λ y. eqb x y ≡ false) xs
+others x [] apart = tt
+others x (y ∷ xs) apart = (false_from_ne_true (eqb x y) (λ is. apart 0 (omega arith) (eqb-true x y is)), others x xs (λ j within. apart (suc j) (omega arith)))
+
+distinct : (xs : List ℕ) → ((i j : ℕ) → i < j → j < length xs → get_or xs i 0 ≢ get_or xs j 0) → IsDistinct eqb xs
+unfolding IsDistinct
+distinct [] apart = tt
+distinct (x ∷ xs) apart = (others x xs (λ j within. apart 0 (suc j) (omega arith) (omega arith)), distinct xs (λ i j before within. apart (suc i) (suc j) (omega arith) (omega arith)))
+
+-- numbers below m of which no two are equal are at most m
+pub few_below : (m : ℕ) (xs : List ℕ) → ((i : ℕ) → i < length xs → get_or xs i 0 < m) → ((i j : ℕ) → i < j → j < length xs → get_or xs i 0 ≢ get_or xs j 0) → length xs ≤ m
+few_below m xs below apart = length-le_from_distinct_below xs m (distinct xs apart) member
+  where
+    member : (q : ℕ) → list_any (eqb q) xs ≡ true → q < m
+    member q is =
+        let found = Any-from_list_any (eqb q) xs is in
+        let same : q ≡ found.1 = eqb-true q found.1 found.4 in
+        let at : get_or xs found.0 0 ≡ found.1 = get_or_default xs found.0 0 found.1 found.2 ∙ found.3 in
+        omega (arith, below found.0 found.2, at, same)
