@@ -21,6 +21,17 @@ pub record Overflows (letters : ℕ) (after : ℕ → Option (List ℕ)) (old ne
   pub are : AreKeyEdges letters after key_edges
   pub some : NumbersSome key_edges old new count
 
+-- the state of a key, as it is written
+pub IsStateFrom-written : (letters : ℕ) (after : List ℕ → ℕ → Option (List ℕ)) (accepts : List ℕ → Bool) (old new : List (List ℕ)) (at key : List ℕ) (key_edges : List KeyEdge) (accepting : Bool) (edges : List Edge) → key ≡ at
+    → AreKeyEdges letters (after key) key_edges → AreNumbered key_edges edges old new → accepting ≡ accepts key → IsStateFrom letters (after at) (accepts at) old new (record { accepting = accepting; edges = edges })
+IsStateFrom-written letters after accepts old new at key key_edges accepting edges same are numbered is =
+    record { key_edges = key_edges; are = subst (λ k. AreKeyEdges letters (after k) key_edges) same are; numbered = numbered; accepting_is = is ∙ ap accepts same }
+
+pub Overflows-written : (letters : ℕ) (after : List ℕ → ℕ → Option (List ℕ)) (old new : List (List ℕ)) (at key : List ℕ) (key_edges : List KeyEdge) (count : ℕ) → key ≡ at
+    → AreKeyEdges letters (after key) key_edges → NumbersSome key_edges old new count → Overflows letters (after at) old new count
+Overflows-written letters after old new at key key_edges count same are some =
+    record { key_edges = key_edges; are = subst (λ k. AreKeyEdges letters (after k) key_edges) same are; some = some }
+
 -- one more edge
 pub AreNumbered-push : (key_edges : List KeyEdge) (edges : List Edge) (old mid new : List (List ℕ)) (from : KeyEdge) (edge : Edge) → AreNumbered key_edges edges old mid → edge.letter ≡ from.letter → IsNumbered mid new from.key edge.target
     → AreNumbered (key_edges ++ from ∷ []) (edges ++ edge ∷ []) old new

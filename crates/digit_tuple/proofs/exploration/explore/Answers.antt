@@ -8,9 +8,9 @@ use Rattle.digit_tuple.specs.FirstWords.{IsNumberedByFirsts}
 use Rattle.digit_tuple.specs.Letters.{IsWord}
 use Rattle.digit_tuple.specs.Width.{HasApart, HasWidth}
 use Rattle.digit_tuple.specs.declared.dfa.DfaState.{DfaState}
-use Rattle.digit_tuple.specs.Keys.{AreKeyEdges, LeadAlike, key_accepts}
+use Rattle.digit_tuple.specs.Keys.{LeadAlike, key_accepts}
 use Rattle.digit_tuple.specs.Explored.{NumbersSome, key_at, IsExplored}
-use Rattle.digit_tuple.proofs.KeyEdgeLemmas.{IsStateFrom, first_numbered, length-are_numbered}
+use Rattle.digit_tuple.proofs.KeyEdgeLemmas.{IsStateFrom-written, Overflows-written, first_numbered, length-are_numbered}
 use Rattle.digit_tuple.proofs.FrontierLemmas.{All-state_from, IsFrontier-start}
 use Rattle.digit_tuple.proofs.ExploredLemmas.{IsExploring, IsExploring-start, IsExploring-pushed, IsExploring-refused, IsExploring-gap, HasApart-firsts, IsTable-explored, IsExplored-done, IsNumberedByFirsts-done, HasWidth-done, accepts_of-explored}
 use Rattle.digit_tuple.proofs.exploration.explore.Goals as goal
@@ -44,23 +44,20 @@ returns-in_err-edges-2-clause-states g c h =
     let s = c.args.graph.now in
     let p = c.len-in-explore-2.result in
     let at : p ≡ length (states_in c.explore.rows.items) = omega (arith, c.len-in-explore-2.ensures, length-map c.explore.rows.items state_in, c.explore.rows.ok) in
-    let are : AreKeyEdges (g.G.KeyGraph.letters s) (g.G.KeyGraph.after s (key_at c.explore.keys p)) c.edges.new.out =
-    subst (λ (key : List ℕ). AreKeyEdges (g.G.KeyGraph.letters s) (g.G.KeyGraph.after s key) c.edges.new.out) c.key-key.ensures c.in_ok-edges.ensures in
     let e = c.from_residual-in_err-edges-2.ensures in
     let some : NumbersSome c.edges.new.out c.explore.keys c.number_edges.new.keys (c.args.limit + 1) = search rules in
     IsExploring-refused (g.G.KeyGraph.letters s) (g.G.KeyGraph.start s) (g.G.KeyGraph.after s) (g.G.KeyGraph.accepts s) c.explore.keys c.number_edges.new.keys c.explore.rows.items c.explore.gap p (c.args.limit + 1)
-    c.explore.invariant.exploring at (omega arith) (record { key_edges = c.edges.new.out; are = are; some = some })
+    c.explore.invariant.exploring at (omega arith)
+    (Overflows-written (g.G.KeyGraph.letters s) (g.G.KeyGraph.after s) c.explore.keys c.number_edges.new.keys (key_at c.explore.keys p) c.key-key.result.now c.edges.new.out (c.args.limit + 1) c.key-key.ensures c.in_ok-edges.ensures some)
 
 pub returns-then-len-limit-clause-states : goal.returns-then-len-limit-clause-states
 returns-then-len-limit-clause-states g c h =
     let s = c.args.graph.now in
     let p = c.len-in-explore-2.result in
     let at : p ≡ length (states_in c.explore.rows.items) = omega (arith, c.len-in-explore-2.ensures, length-map c.explore.rows.items state_in, c.explore.rows.ok) in
-    let are : AreKeyEdges (g.G.KeyGraph.letters s) (g.G.KeyGraph.after s (key_at c.explore.keys p)) c.edges.new.out =
-    subst (λ (key : List ℕ). AreKeyEdges (g.G.KeyGraph.letters s) (g.G.KeyGraph.after s key) c.edges.new.out) c.key-key.ensures c.in_ok-edges.ensures in
     let row : DfaState = record { accepting = c.is_accepting-accepting.result; edges = c.in_ok-edges-2.edges } in
-    let from : IsStateFrom (g.G.KeyGraph.letters s) (g.G.KeyGraph.after s (key_at c.explore.keys p)) (g.G.KeyGraph.accepts s (key_at c.explore.keys p)) c.explore.keys c.number_edges.new.keys (state_in row) =
-    record { key_edges = c.edges.new.out; are = are; numbered = c.in_ok-edges-2.ensures.edges; accepting_is = c.is_accepting-accepting.ensures ∙ ap (g.G.KeyGraph.accepts s) c.key-key.ensures } in
+    let from = IsStateFrom-written (g.G.KeyGraph.letters s) (g.G.KeyGraph.after s) (g.G.KeyGraph.accepts s) c.explore.keys c.number_edges.new.keys (key_at c.explore.keys p) c.key-key.result.now c.edges.new.out row.accepting row.edges.items
+    c.key-key.ensures c.in_ok-edges.ensures c.in_ok-edges-2.ensures.edges c.is_accepting-accepting.ensures in
     let now = IsExploring-pushed (g.G.KeyGraph.letters s) (g.G.KeyGraph.start s) (g.G.KeyGraph.after s) (g.G.KeyGraph.accepts s) c.explore.keys c.number_edges.new.keys c.explore.rows.items c.push.new.self.items row c.explore.gap c.if-len-letters.gap p
     c.explore.invariant.exploring at (omega arith) from c.in_ok-push.ensures.items
     (elim c.if-len-letters.branch [
@@ -75,11 +72,9 @@ explore-preserved g c =
     let s = c.args.graph.now in
     let p = c.len-in-explore-2.result in
     let at : p ≡ length (states_in c.explore.rows.items) = omega (arith, c.len-in-explore-2.ensures, length-map c.explore.rows.items state_in, c.explore.rows.ok) in
-    let are : AreKeyEdges (g.G.KeyGraph.letters s) (g.G.KeyGraph.after s (key_at c.explore.keys p)) c.edges.new.out =
-    subst (λ (key : List ℕ). AreKeyEdges (g.G.KeyGraph.letters s) (g.G.KeyGraph.after s key) c.edges.new.out) c.key-key.ensures c.in_ok-edges.ensures in
     let row : DfaState = record { accepting = c.is_accepting-accepting.result; edges = c.in_ok-edges-2.edges } in
-    let from : IsStateFrom (g.G.KeyGraph.letters s) (g.G.KeyGraph.after s (key_at c.explore.keys p)) (g.G.KeyGraph.accepts s (key_at c.explore.keys p)) c.explore.keys c.number_edges.new.keys (state_in row) =
-    record { key_edges = c.edges.new.out; are = are; numbered = c.in_ok-edges-2.ensures.edges; accepting_is = c.is_accepting-accepting.ensures ∙ ap (g.G.KeyGraph.accepts s) c.key-key.ensures } in
+    let from = IsStateFrom-written (g.G.KeyGraph.letters s) (g.G.KeyGraph.after s) (g.G.KeyGraph.accepts s) c.explore.keys c.number_edges.new.keys (key_at c.explore.keys p) c.key-key.result.now c.edges.new.out row.accepting row.edges.items
+    c.key-key.ensures c.in_ok-edges.ensures c.in_ok-edges-2.ensures.edges c.is_accepting-accepting.ensures in
     let now = IsExploring-pushed (g.G.KeyGraph.letters s) (g.G.KeyGraph.start s) (g.G.KeyGraph.after s) (g.G.KeyGraph.accepts s) c.explore.keys c.number_edges.new.keys c.explore.rows.items c.push.new.self.items row c.explore.gap c.if-len-letters.gap p
     c.explore.invariant.exploring at (omega arith) from c.in_ok-push.ensures.items
     (elim c.if-len-letters.branch [
