@@ -1,4 +1,4 @@
-//! Texts and their trees. A tree is written with each part in parentheses, and each atom in braces behind its system.
+//! Texts and their trees. A tree is written with each part in parentheses, and each atom in braces after its system.
 
 use formula_parse::parse;
 use formula_parse::tree::{Connective, Fact, Formula, Index, Quantifier, Relation, Sign, Term};
@@ -199,7 +199,7 @@ fn write_formula(alloc: Global, formula: &Formula, out: &mut String) -> Result<(
     }
 }
 
-const TREES: [(&str, &str); 41] = [
+const TREES: [(&str, &str); 50] = [
     // A quantifier takes all that follows.
     ("Ax Ey x=y+y", "(Ax (Ey {msd_2 x=(y+y)}))"),
     (
@@ -228,6 +228,14 @@ const TREES: [(&str, &str); 41] = [
         "({msd_2 x=1} & ({msd_2 y=2} | {msd_2 z=3}))",
     ),
     ("2*x+3*y=z", "{msd_2 ((2*x)+(3*y))=z}"),
+    (
+        "x=1 => y=2 <=> y=2 => x=1",
+        "(({msd_2 x=1} => {msd_2 y=2}) <=> ({msd_2 y=2} => {msd_2 x=1}))",
+    ),
+    (
+        "(x=1 | y=2) & z=3",
+        "(({msd_2 x=1} | {msd_2 y=2}) & {msd_2 z=3})",
+    ),
     // From the left.
     ("x-1+y-2=z", "{msd_2 (((x-1)+y)-2)=z}"),
     ("x-(1+y)=z", "{msd_2 (x-(1+y))=z}"),
@@ -270,6 +278,9 @@ const TREES: [(&str, &str); 41] = [
     ("Ex ?lsd_2 x=1", "(Ex (?lsd_2 {lsd_2 x=1}))"),
     ("~?lsd_3 ~x=1", "(~(?lsd_3 (~{lsd_3 x=1})))"),
     // Parentheses of a term and of a formula.
+    ("((x)+y)=z", "{msd_2 (x+y)=z}"),
+    ("((2))*x=2", "{msd_2 (2*x)=2}"),
+    ("2*3=6", "{msd_2 (2*3)=6}"),
     ("((x)+y=z)", "{msd_2 (x+y)=z}"),
     ("(((x=y)))", "{msd_2 x=y}"),
     ("2*(x+y)=z", "{msd_2 (2*(x+y))=z}"),
@@ -277,14 +288,18 @@ const TREES: [(&str, &str); 41] = [
     ("2*x*3=z", "{msd_2 (2*x*3)=z}"),
     // Letters, words and calls.
     ("@-1!=T[0][1]", "{msd_2 @-1!=T[0][1]}"),
+    ("@ - 1 != T[0][1]", "{msd_2 @-1!=T[0][1]}"),
+    ("T[0]=@2147483647", "{msd_2 T[0]=@2147483647}"),
     ("T[0]=@-2147483648", "{msd_2 T[0]=@-2147483648}"),
     ("T[x][y]<U[z]", "{msd_2 T[x][y]<U[z]}"),
     ("$f(x,2*y)", "{msd_2 $f(x,(2*y))}"),
     ("$Even()", "{msd_2 $Even()}"),
+    ("$A (2*x) | x<=3", "({msd_2 $A((2*x))} | {msd_2 x<=3})"),
     // Relations, names and numerals.
     ("x<=y", "{msd_2 x<=y}"),
     ("x>y", "{msd_2 x>y}"),
     ("x!=y", "{msd_2 x!=y}"),
+    ("\tx =\r\n1 ", "{msd_2 x=1}"),
     ("x_1 >= 007", "{msd_2 x_1>=7}"),
     ("18446744073709551615<x", "{msd_2 18446744073709551615<x}"),
 ];

@@ -2,7 +2,7 @@
 
 use crate::rows::Row;
 
-pub static COMMANDS: [Row; 49] = [
+pub static COMMANDS: [Row; 50] = [
     Row {
         script: "prove a;",
         printed: "error 1: F01 Command\n",
@@ -345,5 +345,12 @@ pub static COMMANDS: [Row; 49] = [
         code: 1,
         name: "",
         text: "",
+    },
+    Row {
+        script: "reg ab {0,1} \"0*1\";\n\nreg a {0,1} \"02\";prove \"a;\";\nreg c {0};\nreg ab {0,1} \"1\" ;reg",
+        printed: "error 3: F04 Number in regex at 1\nerror 3: F01 Command\nerror 4: F02 Syntax in command at 9\nerror 5: F02 Syntax in command at 3\n",
+        code: 1,
+        name: "ab",
+        text: "{0,1}\n\n0 0\n1 -> 1\n\n1 1\n",
     },
 ];

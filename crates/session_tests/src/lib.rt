@@ -6,6 +6,10 @@
 #[cfg(test)]
 mod whole;
 
+// one command, without a script around it
+#[cfg(test)]
+mod one_command;
+
 // scripts with what they print, their status and what they store
 #[cfg(test)]
 mod rows;

@@ -39,9 +39,9 @@ fn a_command_has_at_most_65536_bytes(rt: HostRuntime) -> Result<(), Fail> {
     Ok(())
 }
 
-// A command that is too long is answered, and so is the one behind it.
+// A command that is too long is answered, and so is the one after it.
 #[test]
-fn a_run_goes_on_behind_a_long_command(rt: HostRuntime) -> Result<(), Fail> {
+fn a_run_goes_on_after_a_long_command(rt: HostRuntime) -> Result<(), Fail> {
     let mut script = command_of(rt.alloc(), COMMAND_LIMIT + 1)?;
     script.extend_from_slice(b"\nx;reg a {0} \"0\":")?;
     let left = run_script(rt.alloc(), &script, &SURE)?;
