@@ -8,11 +8,11 @@ use Rattle.wal_outside.specs.Views.{SourceView}
 use Rattle.script_cut.specs.Asking.{calls_after, Gives, AreAsked}
 use Rattle.script_cut.specs.Passing.{AllGave, AsksOnce}
 
-consumes-none : (told : Option (List ℕ)) → Consumes told told []
+pub consumes-none : (told : Option (List ℕ)) → Consumes told told []
 consumes-none None = tt
 consumes-none (Some xs) = refl
 
-consumes-then : (told mid now : Option (List ℕ)) (a b : List ℕ) → Consumes told mid a → Consumes mid now b → Consumes told now (a ++ b)
+pub consumes-then : (told mid now : Option (List ℕ)) (a b : List ℕ) → Consumes told mid a → Consumes mid now b → Consumes told now (a ++ b)
 consumes-then None mid now a b p q = tt
 consumes-then (Some xs) None now a b p q = absurd p
 consumes-then (Some xs) (Some ys) None a b p q = absurd q

@@ -61,6 +61,10 @@ some_at_end (b ∷ bs) given (x ∷ xs) starts split = omega arith
 within_of : (old : Kept) (told : SourceView) (new : Kept) (now : SourceView) (passed : List ℕ) (p : Passes old told new now passed) → IsBounded p.pieces new → p.pieces ≢ [] → length (old.held ++ concat p.pieces) ≤ old.room + 1
 within_of old told new now passed p bounded some = rw (p.split, length-append passed new.held) (omega (arith, p.room_is, bounded some))
 
+-- with each byte that is passed one less may be
+room_of : (old : Kept) (told : SourceView) (new : Kept) (now : SourceView) (passed : List ℕ) (p : Passes old told new now passed) → new.room + length (old.held ++ concat p.pieces) ≡ old.room + length new.held
+room_of old told new now passed p = rw (p.split, length-append passed new.held) (omega (arith, p.room_is))
+
 -- a text starts as each front of it does
 starts-append : (xs ys : List ℕ) → Starts xs → Starts (xs ++ ys)
 starts-append [] ys starts = absurd starts
@@ -86,6 +90,7 @@ pub record HasFound (old : Kept) (told : SourceView) (new : Kept) (now : SourceV
   pub given : Gives told pieces now
   pub asked : AreAsked HasNoCommand old.held pieces
   pub within : pieces ≢ [] → length (old.held ++ concat pieces) ≤ old.room + 1
+  pub room : new.room + length (old.held ++ concat pieces) ≡ old.room + length new.held
   pub last : new.over ≡ true → HasGivenAll now.left
   pub text : List ℕ
   pub len_is : len ≡ length text
@@ -149,6 +154,7 @@ found_command old mid new told between now len shown over p q =
       given = whole.given;
       asked = asked_both old mid new told between now p at.gave (record { all = p.gaps; closed = at.closed }) at.starts q.passes.pieces q.asked;
       within = within_of old told new now _ whole (bounded-then p.passes.pieces q.passes.pieces mid new (q.text ++ q.end) p.bounded q.bounded q.passes.split q.passes.room_is);
+      room = room_of old told new now _ whole;
       last = λ is. absurd (not_both new.over behind.over is);
       text = q.text;
       len_is = scanned.len_is;
@@ -176,6 +182,7 @@ found_open old mid new told between now len over p q =
       given = whole.given;
       asked = asked_both old mid new told between now p at.gave (record { all = p.gaps; closed = at.closed }) at.starts q.passes.pieces q.asked;
       within = within_of old told new now _ whole (bounded-then p.passes.pieces q.passes.pieces mid new (q.text ++ q.end) p.bounded q.bounded q.passes.split q.passes.room_is);
+      room = room_of old told new now _ whole;
       last = λ is. all.ended;
       text = q.text;
       len_is = scanned.len_is;
@@ -194,6 +201,7 @@ cut_command old new told now shown line len text kept f few is =
       given = f.given;
       asked = f.asked;
       within = f.within;
+      room = f.room;
       ended = λ begun over. f.last over;
       item = λ more may. (rw same (f.next more may), rw same (omega (arith, f.len_is)));
       failed = λ is. cc;
@@ -205,6 +213,7 @@ cut_syntax old new told now line len f few = record {
   given = f.given;
   asked = f.asked;
   within = f.within;
+  room = f.room;
   ended = λ begun over. f.last over;
   item = λ more may. (f.text, f.next more may, f.len_is, few);
   failed = λ is. cc;
@@ -216,6 +225,7 @@ cut_long old new told now ended line len f many = record {
   given = f.given;
   asked = f.asked;
   within = f.within;
+  room = f.room;
   ended = λ begun over. f.last over;
   item = λ more may. (f.text, ended, f.next more may, omega (arith, f.len_is));
   failed = λ is. cc;
@@ -232,6 +242,7 @@ cut_stop old new told now passed faults.Failed over p asked bounded none stops =
   given = p.given;
   asked = asked;
   within = within_of old told new now passed p bounded;
+  room = room_of old told new now passed p;
   ended = λ begun is. absurd (not_both new.over stops.1 is);
   item = λ more may. tt;
   failed = λ is. record { none = rw (p.split, stops.0, append-nil passed) none; within = rw (p.split, stops.0, append-nil passed) (omega (arith, p.room_is)) };
@@ -241,6 +252,7 @@ cut_stop old new told now passed (faults.ScriptLimit line) over p asked bounded 
   given = p.given;
   asked = asked;
   within = within_of old told new now passed p bounded;
+  room = room_of old told new now passed p;
   ended = λ begun is. absurd (not_both new.over stops.3 is);
   item = λ more may. (
     record { left = []; room = 0; line = line + 0 },
@@ -267,6 +279,7 @@ cut_stop old new told now passed faults.Memory over p asked bounded none stops =
   given = p.given;
   asked = asked;
   within = within_of old told new now passed p bounded;
+  room = room_of old told new now passed p;
   ended = λ begun is. absurd (not_both new.over stops is);
   item = λ more may. tt;
   failed = λ is. cc;
@@ -335,6 +348,7 @@ cut_end old new told now begun p = record {
   given = p.passes.given;
   asked = asked_so _ HasNoCommand old.held p.passes.pieces (λ bytes gaps. inl gaps) p.asked;
   within = within_of old told new now p.before p.passes p.bounded;
+  room = room_of old told new now p.before p.passes;
   ended = λ was is. p.stops.ended;
   item = λ more may.
       let left : (place_of old (concat p.passes.pieces ++ more)).left ≡ p.before =

@@ -44,12 +44,14 @@ pub record HasFailed (old : Kept) (given : List ℕ) : Type 0 where
 -- One call. The source gave pieces, each in a call of its own. Whatever comes after the bytes that were held and those that were given, the
 -- item is the next one of all these bytes, and what is left is what stands after it. Each call of the source but the last gave bytes, and
 -- before the last one no command had its terminator in what was held and given; so no call is made once a whole command is there or the
--- source has ended. Where calls are made, at most one byte past those that may be passed is held and given.
+-- source has ended. Where calls are made, at most one byte past those that may be passed is held and given; and with each byte that is passed
+-- one less may be.
 pub record HasCut (old : Kept) (told : SourceView) (result : Result Cut CutFault) (new : Kept) (now : SourceView) : Type 0 where
   pub pieces : List (List ℕ)
   pub given : Gives told pieces now
   pub asked : AreAsked HasNoCommand old.held pieces
   pub within : pieces ≢ [] → length (old.held ++ concat pieces) ≤ old.room + 1
+  pub room : new.room + length (old.held ++ concat pieces) ≡ old.room + length new.held
   pub ended : old.over ≡ false → new.over ≡ true → HasGivenAll now.left
   pub item : (more : List ℕ) → MayCome new.over now.left more → GivesItem (place_of old (concat pieces ++ more)) result (place_of new more)
   pub failed : result ≡ Err faults.Failed → HasFailed old (concat pieces)

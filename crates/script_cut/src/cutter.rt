@@ -99,7 +99,7 @@ impl Cutter {
     pub fn cut<S: Source>(&mut self, from: &mut S) -> Result<Cut, CutFault>
         ensures cut { HasCut self.old (S.view from.old) result self.new (S.view from.new) }
         ensures last { EndsScript result self.new }
-        ensures again { self.old.over ≡ true → (result ≡ Ok End) × (self.new.over ≡ true) }
+        ensures again { self.old.over ≡ true → (result ≡ Ok End) × ((self.new.over ≡ true) × (from.new ≡ from.old)) }
         ensures still { (from.new ≡ from.old) ⊎ HasNoCommand self.old.held }
         ensures bound { length (kept_bytes self.new) ≤ 65537 }
         ensures faults { CountsFault (is_failed_cut result) (S.view from.old).faults (S.view from.new).faults }
