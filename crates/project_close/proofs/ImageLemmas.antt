@@ -19,12 +19,14 @@ use Rattle.digit_tuple.proofs.DfaLemmas.{row_at}
 use Rattle.digit_tuple.proofs.PartLemmas.{get_or-parts, letter_part-below}
 use Rattle.digit_tuple.proofs.RangeLemmas.{All-range}
 use Rattle.digit_tuple.proofs.TableLemmas.{from_state}
+use Rattle.digit_tuple.specs.AcceptingStates.{AreAccepting}
 use Rattle.digit_tuple.specs.Reversed.{IsReversal, branch_at, edge_to}
 use Rattle.digit_tuple.proofs.MemberLemmas.{Contains-map, Contains-from_map}
 use Rattle.digit_tuple.proofs.ReversedLemmas.{contains_from_target_by, target_by-contains}
-use Rattle.minimise.proofs.SinkLemmas.{no_edges_past, not_accepting_past}
+use Rattle.minimise.proofs.SinkLemmas.{no_edges_past}
 use Rattle.project_close.specs.Image.{AreRelabelled, IsEnd, IsImage, part_at, relabelled_edge}
-use Rattle.project_close.specs.ZeroClosure.{AreFlagged, IsOverFlagged, IsReached, flag_at}
+use Rattle.project_close.specs.ZeroClosure.{IsOverFlagged, IsReached, flag_at}
+use Rattle.project_close.proofs.SinkLeads.{accepting_within}
 use Rattle.project_close.proofs.ZeroClosureLemmas.{IsReached-more}
 
 -- a state from which a letter leads is there
@@ -37,20 +39,6 @@ step_state d p a q step = by (cases_lt p (states_of d))
       where
         empty : (es : List Edge) → es ≡ [] → ¬ Contains es (edge_to a q)
         empty es none there = omega (arith, there.1, ap (λ (xs : List Edge). length xs) none)
-
--- flags of the accepting states
-pub flag_at-accepting : (d : Automaton) (flags : List Bool) → flags ≡ map (accepting_of d) (range_with_len 0 (states_of d)) → (q : ℕ) → flag_at flags q ≡ accepting_of d q
-flag_at-accepting d flags are q = ap (λ (fs : List Bool). get_or fs q false) are ∙ by (cases_lt q (states_of d))
-  where
-    by : (q < states_of d) ⊎ (states_of d ≤ q) → get_or (map (accepting_of d) (range_with_len 0 (states_of d))) q false ≡ accepting_of d q
-    by (inl less) = get_or-map-range_with_len (accepting_of d) 0 (states_of d) q q false less (omega arith)
-    by (inr past) = get_or_past (map (accepting_of d) (range_with_len 0 (states_of d))) q false (omega (arith, past, length-map-range_with_len (accepting_of d) 0 (states_of d))) ∙ sym (not_accepting_past d q past)
-
--- one more flag
-pub flags-more : (d : Automaton) (flags new : List Bool) (state : ℕ) (flag : Bool) → flags ≡ map (accepting_of d) (range_with_len 0 state) → flag ≡ accepting_of d state → new ≡ flags ++ flag ∷ []
-    → new ≡ map (accepting_of d) (range_with_len 0 (state + 1))
-flags-more d flags new state flag are is pushed =
-    pushed ∙ ap (λ fs. fs ++ flag ∷ []) are ∙ ap (λ b. map (accepting_of d) (range_with_len 0 state) ++ b ∷ []) is ∙ sym (map-range_with_len_more (accepting_of d) 0 state state (omega arith))
 
 -- rows for the states below a number
 pub record AreImageRows (d : Automaton) (accepting : List Bool) (parts : List ℕ) (rows : List Branch) (count : ℕ) : Type 0 where
@@ -248,19 +236,7 @@ module _ (d : Automaton) (places : List ℕ) (turned : Branching) (reversal : Is
 
 -- so the search from the accepting states finds them
 pub IsEnd-reached : (d : Automaton) (places parts : List ℕ) → parts ≡ parts_of_letters d.sizes places → (turned : Branching) → IsReversal d turned
-    → (accepting : List Bool) → ((q : ℕ) → flag_at accepting q ≡ accepting_of d q) → (last : List ℕ) → AreFlagged accepting last
-    → (zero_is : List Bool) → zero_is ≡ map (λ n. n == 0) parts → (q : ℕ) → IsReached turned zero_is last q ↔ IsEnd Lsd d places q
-IsEnd-reached d places parts are turned reversal accepting flags last flagged zero_is zeros_are q =
+    → (last : List ℕ) → AreAccepting d last → (zero_is : List Bool) → zero_is ≡ map (λ n. n == 0) parts → (q : ℕ) → IsReached turned zero_is last q ↔ IsEnd Lsd d places q
+IsEnd-reached d places parts are turned reversal last accepting zero_is zeros_are q =
     subst (λ (fs : List Bool). IsReached turned fs last q ↔ IsEnd Lsd d places q) (sym (zeros_are ∙ ap (λ (ps : List ℕ). map (λ n. n == 0) ps) are))
-    (ends_at d places turned reversal last (λ p. ((λ there. sym (flags p) ∙ (flagged.members p).0 there), (λ is. (flagged.members p).1 (flags p ∙ is)))) q)
-
--- the flagged states are states
-pub flagged_in_range : (d : Automaton) (accepting : List Bool) → ((q : ℕ) → flag_at accepting q ≡ accepting_of d q) → (last : List ℕ) → AreFlagged accepting last → All (λ q. q < states_of d) last
-flagged_in_range d accepting flags last flagged k z within = by (get_or last k z) (sym (flags (get_or last k z)) ∙ (flagged.members (get_or last k z)).0 (All-contains_itself last k z within))
-  where
-    by : (q : ℕ) → accepting_of d q ≡ true → q < states_of d
-    by q is = one (cases_lt q (states_of d))
-      where
-        one : (q < states_of d) ⊎ (states_of d ≤ q) → q < states_of d
-        one (inl less) = less
-        one (inr past) = absurd (true≢false (sym is ∙ not_accepting_past d q past))
+    (ends_at d places turned reversal last (λ p. ((λ there. ((accepting.members p).0 there).1), (λ is. (accepting.members p).1 (accepting_within d p is, is)))) q)

@@ -1,8 +1,7 @@
 -- Pairs of states that words lead to without their trailing zeros and with them.
-use Rattle.std.proofs.Common.{◌≡◌, ℕ, zero, suc, ◌<◌, Bool, true, false, List, [], ◌∷◌, ◌++◌, reverse, filter, slice_index, Option, Some, ◌↔◌, IsTrue, refl, sym, ap, ◌∙◌, arith}
-use Rattle.std.specs.List.{Contains, range_with_len}
+use Rattle.std.proofs.Common.{◌≡◌, ℕ, zero, suc, ◌<◌, Bool, true, false, List, [], ◌∷◌, ◌++◌, reverse, slice_index, Option, Some, ◌↔◌, IsTrue, refl, sym, ap, ◌∙◌, arith}
 use Rattle.std.specs.Option.{option_map_or}
-use Rattle.std.proofs.lemmas.List.FromFn.{length-range_with_len, get_or-range_with_len}
+use Rattle.digit_tuple.specs.AcceptingStates.{AreAccepting}
 use Rattle.digit_tuple.specs.Automaton.{Branching}
 use Rattle.digit_tuple.specs.Deterministic.{Automaton, letters_of, states_of, accepting_of, accepts_of, run_of}
 use Rattle.digit_tuple.specs.Keys.{LeadAlike, key_accepts, key_run}
@@ -11,7 +10,6 @@ use Rattle.digit_tuple.specs.Paddings.{zeros, strip}
 use Rattle.digit_tuple.specs.declared.direction.Direction.TheVariants.{Lsd}
 use Rattle.digit_tuple.proofs.KeyLemmas.{key_accepts-run}
 use Rattle.digit_tuple.specs.Reversed.{IsReversal}
-use Rattle.digit_tuple.proofs.MemberLemmas.{Contains-filter, Contains-from_filter}
 use Rattle.determinise.proofs.ReversalLemmas as reversal
 use Rattle.minimise.specs.Canonical.{IsCanonical}
 use Rattle.minimise.specs.Classes.{next_of, first_of}
@@ -23,9 +21,6 @@ use Rattle.digit_tuple.proofs.AcceptedLemmas.{accepted_over}
 use Rattle.digit_tuple.proofs.PaddingLemmas.{strip-zeros, zeros_at_end, IsWord-strip, reverse-zeros}
 use Rattle.project_close.proofs.TrimmedWords.{with_front, trimmed, strip-trimmed}
 use Rattle.project_close.proofs.SinkLeads.{accepts_of-lead, accepting_within, within_from_lead, run_from_lead, lead_from_run, lead-append}
-
-Contains-range : (n q : ℕ) → q < n → Contains (range_with_len 0 n) q
-Contains-range n q within = (q, omega (arith, length-range_with_len 0 n), get_or-range_with_len 0 n q q within ∙ omega arith)
 
 -- where a letter leads, as of a source
 abbrev pub pair_step : Automaton → List ℕ → ℕ → Option (List ℕ)
@@ -101,8 +96,8 @@ module _ (d : Automaton) (canonical : IsCanonical d) where
                   ∙ padded.3,
             )
 
-  module _ (n : Branching) (turned : IsReversal d n) (flags : List Bool)
-      (reached : (q : ℕ) → (flag_at flags q ≡ true) ↔ IsReached n (true ∷ []) (filter (accepting_of d) (range_with_len 0 (states_of d))) q) where
+  module _ (n : Branching) (turned : IsReversal d n) (last : List ℕ) (are : AreAccepting d last) (flags : List Bool)
+      (reached : (q : ℕ) → (flag_at flags q ≡ true) ↔ IsReached n (true ∷ []) last q) where
     -- over the zero letter alone
     all_zeros : (w : List ℕ) → IsOverFlagged (true ∷ []) w → (k : ℕ) × (w ≡ zeros k)
     all_zeros [] over = (0, refl)
@@ -117,20 +112,20 @@ module _ (d : Automaton) (canonical : IsCanonical d) where
     pub AreFinal-reached : AreFinal d flags
     AreFinal-reached q = ((λ is. forth ((reached q).0 is)), (λ found. (reached q).1 (back found)))
       where
-        forth : IsReached n (true ∷ []) (filter (accepting_of d) (range_with_len 0 (states_of d))) q → (k : ℕ) × (accepting_of d (lead d q (zeros k)) ≡ true)
+        forth : IsReached n (true ∷ []) last q → (k : ℕ) × (accepting_of d (lead d q (zeros k)) ≡ true)
         forth found =
-            let accepting = (Contains-from_filter (accepting_of d) (range_with_len 0 (states_of d)) found.0 found.1).1 in
+            let accepting = ((are.members found.0).0 found.1).1 in
             let word = all_zeros found.2.0 found.2.1 in
             let run = reversal.run_of-path d canonical.table n turned found.2.0 found.0 q found.2.2 in
             let back : run_of d q (zeros word.0) ≡ Some found.0 = ap (run_of d q) (sym (reverse-zeros word.0) ∙ ap reverse (sym word.1)) ∙ run in
             (word.0, ap (accepting_of d) (lead_from_run d (zeros word.0) q found.0 back) ∙ accepting)
 
-        back : (k : ℕ) × (accepting_of d (lead d q (zeros k)) ≡ true) → IsReached n (true ∷ []) (filter (accepting_of d) (range_with_len 0 (states_of d))) q
+        back : (k : ℕ) × (accepting_of d (lead d q (zeros k)) ≡ true) → IsReached n (true ∷ []) last q
         back found =
             let p = lead d q (zeros found.0) in
             let inside = accepting_within d p found.1 in
             let run : run_of d q (reverse (zeros found.0)) ≡ Some p = ap (run_of d q) (reverse-zeros found.0) ∙ run_from_lead d (zeros found.0) q p inside refl in (
               p,
-              Contains-filter (accepting_of d) (range_with_len 0 (states_of d)) p (Contains-range (states_of d) p inside) found.1,
+              (are.members p).1 (inside, found.1),
               (zeros found.0, zeros_flagged found.0, reversal.path_from_run d canonical.table n turned (zeros found.0) p q (within_from_lead d (zeros found.0) q found.1) run),
             )

@@ -1,12 +1,13 @@
 -- Where words lead, with the sink, and the runs and paths that lead there.
-use Rattle.std.proofs.Common.{◌≡◌, ◌==◌, ℕ, ◌<◌, ◌≤◌, Bool, true, false, not, ◌&&◌, List, [], ◌∷◌, ◌++◌, map, length, Option, None, Some, unwrap_or, ◌⊎◌, inl, inr, refl, sym, ap, ◌∙◌, subst, true≢false, arith, if◌then◌else◌}
-use Rattle.std.specs.List.{Contains}
+use Rattle.std.proofs.Common.{◌≡◌, ◌==◌, ℕ, ◌<◌, ◌≤◌, Bool, true, false, not, ◌&&◌, List, [], ◌∷◌, ◌++◌, map, length, get_or, Option, None, Some, unwrap_or, ◌⊎◌, inl, inr, refl, sym, ap, ◌∙◌, subst, true≢false, arith, if◌then◌else◌}
+use Rattle.std.specs.List.{All, Contains}
 use Rattle.std.specs.Option.{option_and_then, option_map_or}
 use Rattle.std.proofs.lemmas.Bool.{cases_lt}
 use Rattle.std.proofs.lemmas.Option.{none-some, same_Some}
 use Rattle.std.proofs.lemmas.List.{get_or-map, get_or_past, length-map}
-use Rattle.std.proofs.lemmas.List.Elements.{All-contains, All-from_get_or}
+use Rattle.std.proofs.lemmas.List.Elements.{All-contains_itself, All-from_get_or}
 use Rattle.digit_tuple.specs.declared.edges.Edge.{Edge}
+use Rattle.digit_tuple.specs.AcceptingStates.{AreAccepting}
 use Rattle.digit_tuple.specs.Automaton as branching
 use Rattle.digit_tuple.specs.Automaton.{Branch, Branching, IsBefore, IsBranchTable, Leads, Path, no_branch}
 use Rattle.digit_tuple.specs.Deterministic.{Automaton, IsTable, no_state, state_of, letters_of, states_of, accepting_of, edges_of, step_of, target_by, run_of, accepts_from, accepts_of}
@@ -52,6 +53,10 @@ module _ (d : Automaton) where
       by : (q < states_of d) ⊎ (states_of d ≤ q) → q < states_of d
       by (inl within) = within
       by (inr past) = absurd (true≢false (sym is ∙ not_accepting_past d q past))
+
+  -- accepting states are states
+  pub AreAccepting-in_range : (set : List ℕ) → AreAccepting d set → All (λ q. q < states_of d) set
+  AreAccepting-in_range set are k z within = ((are.members (get_or set k z)).0 (All-contains_itself set k z within)).0
 
   -- what leads to an accepting state is a state
   pub within_from_lead : (w : List ℕ) (q : ℕ) → accepting_of d (lead d q w) ≡ true → q < states_of d

@@ -10,7 +10,8 @@ ghost use Rattle.digit_tuple.specs.Parts.{parts_of_letters, picked};
 ghost use Rattle.project_close.specs.Image.{AreFirst, AreRelabelled, IsEnd, IsImage, ReadsProjection};
 ghost use Rattle.project_close.specs.ZeroClosure.{flag_at};
 
-use crate::zero_closure::{flagged, reached, zero_closure};
+use crate::zero_closure::{reached, zero_closure};
+use digit_tuple::accepting_states::{accepting_flags, accepting_states};
 use digit_tuple::alphabet::Alphabet;
 use digit_tuple::dfa::Dfa;
 use digit_tuple::direction::Direction;
@@ -66,10 +67,12 @@ fn image(
 {
     let states = d.states();
     let mut rows = Vec::with_capacity(alloc, states as usize)?;
+    let mut row = Vec::new(alloc);
     for state in 0..states {
+        d.edges_into(state, &mut row)?;
         rows.push(NfaState {
             accepting: accepting[state as usize],
-            edges: relabelled(alloc, d.edges(state), parts)?,
+            edges: relabelled(alloc, &row, parts)?,
         })?;
     }
     Nfa::from_states(alloc, alphabet, rows)
@@ -105,29 +108,15 @@ fn ends(
     ensures ends { (places : List ℕ) → parts.now ≡ parts_of_letters d.now.sizes places
         → IfOk result (λ flags. (q : ℕ) → (flag_at flags.items q ≡ true) ↔ IsEnd direction d.now places q) }
 {
-    let accepting = accepting_flags(alloc, d)?;
     match direction {
-        Direction::Msd => Ok(accepting),
+        Direction::Msd => accepting_flags(alloc, d),
         Direction::Lsd => {
             let turned = reversed(alloc, d)?;
             let zero = zero_flags(alloc, parts)?;
-            let last = flagged(alloc, &accepting)?;
+            let last = accepting_states(alloc, d)?;
             reached(alloc, &turned, &zero, &last)
         }
     }
-}
-
-// For each state whether it accepts.
-fn accepting_flags(alloc: Global, d: &Dfa) -> Result<Vec<bool>, OutOfMemory>
-    ensures size { IfOk result (λ flags. length flags.items ≡ states_of d.now) }
-    ensures flags { IfOk result (λ flags. (q : ℕ) → flag_at flags.items q ≡ accepting_of d.now q) }
-{
-    let states = d.states();
-    let mut flags = Vec::with_capacity(alloc, states as usize)?;
-    for state in 0..states {
-        flags.push(d.accepting(state))?;
-    }
-    Ok(flags)
 }
 
 // For each number whether it is 0.

@@ -14,6 +14,7 @@ ghost use Rattle.project_close.specs.PaddedPairs.{AreFinalFlags, IsPair, twice, 
 ghost use Rattle.project_close.specs.ZeroClosure.{flag_at};
 
 use crate::zero_closure::reached;
+use digit_tuple::accepting_states::accepting_states;
 use digit_tuple::dfa::Dfa;
 use digit_tuple::faults::{OpFault, OutOfMemory};
 use digit_tuple::reversed::reversed;
@@ -94,19 +95,6 @@ fn final_flags(alloc: Global, a: &Dfa) -> Result<Vec<bool>, OutOfMemory>
     let turned = reversed(alloc, a)?;
     let accepting = accepting_states(alloc, a)?;
     reached(alloc, &turned, &[true], &accepting)
-}
-
-// The states that accept, in order.
-fn accepting_states(alloc: Global, d: &Dfa) -> Result<Vec<u32>, OutOfMemory>
-    ensures { IfOk result (λ set. set.items ≡ filter (accepting_of d.now) (range_with_len 0 (states_of d.now))) }
-{
-    let mut set = Vec::new(alloc);
-    for state in 0..d.states() {
-        if d.accepting(state) {
-            set.push(state)?;
-        }
-    }
-    Ok(set)
 }
 
 /// The closure under trailing zeros. `pad` says more.

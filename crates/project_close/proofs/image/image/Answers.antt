@@ -21,7 +21,7 @@ loop-state-preserved c =
     let pushed : branches_in c.push.new.self.items ≡ rows ++ row ∷ [] = ap branches_in c.in_ok-push.ensures.items ∙ map-append branch_in c.loop-state.rows.items _ in
     subst (λ (bs : List Branch). AreImageRows d flags parts bs (state + 1)) (sym pushed)
     (AreImageRows-push d flags parts rows state row c.loop-state.invariant refl
-    (subst (λ (es : List Edge). AreRelabelled parts es c.in_ok-relabelled.field-0.items) c.edges.ensures.edges c.in_ok-relabelled.ensures))
+    (subst (λ (es : List Edge). AreRelabelled parts es c.in_ok-relabelled.field-0.items) (c.deref.ensures.value ∙ c.in_ok-edges_into.ensures.edges) c.in_ok-relabelled.ensures))
 
 pub from_states-requires : goal.from_states-requires
 from_states-requires c =
