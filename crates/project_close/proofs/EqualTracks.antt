@@ -16,7 +16,7 @@ use Rattle.digit_tuple.proofs.PartLemmas.{digits_of-fit, code_of-digits_of, part
 use Rattle.minimise.specs.Tracked.{NamedAutomaton}
 use Rattle.project_close.specs.Restriction.{name_for, names_for, track_word, word_with, HasEqualTracks}
 use Rattle.project_close.specs.StayingTracks.{staying_sizes}
-use Rattle.project_close.proofs.SubstitutionLemmas.{picked_under}
+use Rattle.project_close.proofs.SubstitutionLemmas.{picked_under, track_digit}
 use Rattle.project_close.proofs.RestrictionLemmas.{HaveTwoTracks, name_for-other, passes, length-names_for, IsSubstitution-restriction, sizes_under-restriction}
 
 -- where names stand among names, whose places are given: their places
@@ -38,17 +38,6 @@ picked_places names some all there = ext_get_or 0 (picked (places_of some all) (
         ∙ get_or-map (place_of names) some (place_of some (get_or all i [])) [] 0 spot.0
         ∙ ap (place_of names) spot.1
         ∙ sym (get_or-map (place_of names) all i [] 0 within)
-
--- names that are distinct stand at the places in order
-pub places_of-themselves : (names : List (List ℕ)) → AreDistinct names → places_of names names ≡ range_with_len 0 (length names)
-places_of-themselves names distinct =
-    ext_get_or 0 (places_of names names) (range_with_len 0 (length names)) (length-map names (place_of names) ∙ sym (length-range_with_len 0 (length names)))
-    (λ i inside. let within : i < length names = omega (arith, inside, length-map names (place_of names)) in
-    get_or-map (place_of names) names i [] 0 within ∙ place_of-is names (get_or names i []) i distinct within refl ∙ sym (get_or-range_with_len 0 (length names) i 0 within ∙ omega arith))
-
--- the digit on one track
-track_digit : (sizes : List ℕ) (p a : ℕ) → letter_part sizes (p ∷ []) a ≡ get_or (digits_of sizes a) p 0
-track_digit sizes p a = omega arith
 
 module _ (a : NamedAutomaton) (kept dropped : List ℕ) (two : HaveTwoTracks a kept dropped) where
   abbrev rest : List (List ℕ)

@@ -15,7 +15,8 @@ use Rattle.digit_tuple.specs.Paddings.{zeros, without_zeros}
 use Rattle.digit_tuple.specs.declared.direction.Direction.TheVariants.{Msd}
 use Rattle.digit_tuple.proofs.KeyLemmas.{key_accepts-run, key_run-keeps}
 use Rattle.digit_tuple.proofs.WordLemmas.{IsWord-append}
-use Rattle.determinise.specs.Subsets.{IsStateSet, set_after, some_set, targets_of, has_accepting}
+use Rattle.digit_tuple.specs.Groups.{some_set}
+use Rattle.determinise.specs.Subsets.{IsStateSet, set_after, targets_of, has_accepting}
 use Rattle.determinise.specs.SubsetLaws.{after_is_state_set}
 use Rattle.digit_tuple.proofs.MemberLemmas.{Contains-none, list_any-contains, contains_from_list_any}
 use Rattle.determinise.proofs.SubsetLemmas.{set_of, key_run-members, same_set}

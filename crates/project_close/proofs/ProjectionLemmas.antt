@@ -42,30 +42,6 @@ use Rattle.project_close.specs.StayingTracks.{staying_places}
 use Rattle.project_close.specs.ZeroClosure.{flag_at}
 use Rattle.project_close.proofs.ImageLemmas.{path_of_word, word_of_path}
 
--- an automaton accepts nothing whose initial state refuses and has no edges
-pub nothing_from : (d : Automaton) → accepting_of d 0 ≡ false → length (edges_of d 0) ≡ 0 → IsDead d 0
-nothing_from d none size [] over = none
-nothing_from d none size (a ∷ w) over = ap (λ (es : List Edge). option_map_or (λ p. accepts_from d p w) (target_by es a) false) (nil_of_length (edges_of d 0) size)
-  where
-    nil_of_length : (es : List Edge) → length es ≡ 0 → es ≡ []
-    nil_of_length [] zero_is = refl
-    nil_of_length (e ∷ es) zero_is = absurd (omega arith)
-
--- and a canonical one accepts some word otherwise
-pub nothing_to : (d : Automaton) → IsCanonical d → accepting_of d 0 ≡ false → IsDead d 0 → length (edges_of d 0) ≡ 0
-nothing_to d canonical none dead = by (length (edges_of d 0) == 0) refl
-  where
-    place : (q : ℕ) → first_of d ≡ q → IsPlace d q
-    place q is = subst (IsPlace d) is (first_place d canonical)
-
-    alive : (q : ℕ) → q ≡ 0 → ¬ IsPlace d q
-    alive q is (inl sink) = omega (arith, is, sink, canonical.table.initial)
-    alive q is (inr found) = found.1 (subst (λ p. IsDead d p) (sym is) dead)
-
-    by : (b : Bool) → (length (edges_of d 0) == 0) ≡ b → length (edges_of d 0) ≡ 0
-    by true is = eqb-true (length (edges_of d 0)) 0 is
-    by false is = absurd (alive 0 refl (place 0 (ap (λ a. if not a && (length (edges_of d 0) == 0) then states_of d else 0) none ∙ ap (λ b. if b then states_of d else 0) is)))
-
 -- a word whose part is two words in turn is two words with these parts
 pub record IsParted (sizes places x u v : List ℕ) : Type 0 where
   pub front : List ℕ
@@ -89,12 +65,12 @@ part_split sizes places (b ∷ x) (a ∷ u) v is =
     }
 
 module _ (d : Automaton) (places : List ℕ) where
-  -- a word with a part that is read first, and then one with the part w, spell w
-  pub spells_append : (direction : Direction) (w x y : List ℕ) → HasPart direction d places [] x → part d.sizes places y ≡ w → HasPart direction d places w (x ++ y)
-  spells_append Msd w x y begins is = (begins.0, part-append d.sizes places x y ∙ ap (λ v. v ++ part d.sizes places y) (begins.1 ∙ append-nil (zeros begins.0)) ∙ ap (λ v. zeros begins.0 ++ v) is)
-  spells_append Lsd w x y begins is = part-append d.sizes places x y ∙ ap (λ v. v ++ part d.sizes places y) begins ∙ is
+  -- a word with a part that is read first, and then one with the part w, have the part w
+  pub HasPart-append : (direction : Direction) (w x y : List ℕ) → HasPart direction d places [] x → part d.sizes places y ≡ w → HasPart direction d places w (x ++ y)
+  HasPart-append Msd w x y begins is = (begins.0, part-append d.sizes places x y ∙ ap (λ v. v ++ part d.sizes places y) (begins.1 ∙ append-nil (zeros begins.0)) ∙ ap (λ v. zeros begins.0 ++ v) is)
+  HasPart-append Lsd w x y begins is = part-append d.sizes places x y ∙ ap (λ v. v ++ part d.sizes places y) begins ∙ is
 
-  -- a word that spells w begins with such a part
+  -- a word with the part w begins with such a word
   pub record IsBegun (direction : Direction) (w x : List ℕ) : Type 0 where
     pub front : List ℕ
     pub back : List ℕ
@@ -102,11 +78,11 @@ module _ (d : Automaton) (places : List ℕ) where
     pub begins : HasPart direction d places [] front
     pub part_is : part d.sizes places back ≡ w
 
-  pub spells_split : (direction : Direction) (w x : List ℕ) → HasPart direction d places w x → IsBegun direction w x
-  spells_split Msd w x spells =
-      let parted = part_split d.sizes places x (zeros spells.0) w spells.1 in
-      record { front = parted.front; back = parted.back; is = parted.is; begins = (spells.0, parted.front_part ∙ sym (append-nil (zeros spells.0))); part_is = parted.back_part }
-  spells_split Lsd w x spells = record { front = []; back = x; is = refl; begins = refl; part_is = spells }
+  pub HasPart-split : (direction : Direction) (w x : List ℕ) → HasPart direction d places w x → IsBegun direction w x
+  HasPart-split Msd w x has_part =
+      let parted = part_split d.sizes places x (zeros has_part.0) w has_part.1 in
+      record { front = parted.front; back = parted.back; is = parted.is; begins = (has_part.0, parted.front_part ∙ sym (append-nil (zeros has_part.0))); part_is = parted.back_part }
+  HasPart-split Lsd w x has_part = record { front = []; back = x; is = refl; begins = refl; part_is = has_part }
 
 module _ (d : Automaton) where
   -- a run over two words
@@ -135,12 +111,12 @@ module _ (d : Automaton) where
       by None is = absurd (true≢false (sym accepts ∙ after_none x u is))
       by (Some q) is = (q, is, sym (after_run x u q is) ∙ accepts)
 
--- a word that spells w leads to the state
+-- a word with the part w leads to the state
 abbrev pub LeadsTo : Automaton → List ℕ → Direction → List ℕ → ℕ → Type 0
 LeadsTo d places direction w q = (x : List ℕ) × IsWord (letters_of d) x × HasPart direction d places w x × (run_of d 0 x ≡ Some q)
 
 module _ (d : Automaton) (places : List ℕ) where
-  -- w is in the projection where a word that spells it leads to a state at which a word may end
+  -- w is in the projection where a word with that part leads to a state at which a word may end
   pub in_from_end : (direction : Direction) (w : List ℕ) (q : ℕ) → LeadsTo d places direction w q → IsEnd direction d places q → InProjection d places direction w
   in_from_end Msd w q leads end =
       (leads.2.0, (leads.0, leads.1, leads.2.1, accepts_from-run d 0 leads.0 ∙ ap (λ (o : Option ℕ). option_map_or (accepting_of d) o false) leads.3 ∙ end))
@@ -174,7 +150,7 @@ module _ (d : Automaton) (canonical : IsCanonical d) (live : ¬ IsDead d 0) (pla
 
   -- the residuals after words are the states that they lead to, but the empty one
   pub residuals_from_states : (w v : List ℕ) → ((q : ℕ) → LeadsTo d places direction w q → LeadsTo d places direction v q) → HaveResiduals d places direction w v
-  residuals_from_states w v over x inside spells some = by (run_of d 0 x) refl
+  residuals_from_states w v over x inside has_part some = by (run_of d 0 x) refl
     where
       same_after : (y : List ℕ) (q : ℕ) → run_of d 0 x ≡ Some q → run_of d 0 y ≡ Some q → SameAfter d x y
       same_after y q one two u more = after_run d x u q one ∙ sym (after_run d y u q two)
@@ -182,7 +158,7 @@ module _ (d : Automaton) (canonical : IsCanonical d) (live : ¬ IsDead d 0) (pla
       by : (o : Option ℕ) → run_of d 0 x ≡ o → (y : List ℕ) × IsWord (letters_of d) y × HasPart direction d places v y × SameAfter d x y
       by None is = absurd (some (λ u more. after_none d x u is))
       by (Some q) is =
-          let leads = over q (x, inside, spells, is) in
+          let leads = over q (x, inside, has_part, is) in
           (leads.0, leads.1, leads.2, same_after leads.0 q is leads.3)
 
   pub states_from_residuals : (w v : List ℕ) → HaveResiduals d places direction w v → (q : ℕ) → LeadsTo d places direction w q → LeadsTo d places direction v q
@@ -197,11 +173,11 @@ module _ (d : Automaton) (canonical : IsCanonical d) (live : ¬ IsDead d 0) (pla
       some empty = alive (λ u more. sym (after_run d leads.0 u q leads.3) ∙ empty u more)
 
       by : (y : List ℕ) → IsWord (letters_of d) y → HasPart direction d places v y → SameAfter d leads.0 y → (o : Option ℕ) → run_of d 0 y ≡ o → LeadsTo d places direction v q
-      by y over spells same None is = absurd (alive (λ u more. sym (after_run d leads.0 u q leads.3) ∙ same u more ∙ after_none d y u is))
-      by y over spells same (Some r) is =
+      by y over has_part same None is = absurd (alive (λ u more. sym (after_run d leads.0 u q leads.3) ∙ same u more ∙ after_none d y u is))
+      by y over has_part same (Some r) is =
           let one : q ≡ r = one_state d canonical q r (run_within d leads.0 0 q canonical.table canonical.table.initial leads.3) (run_within d y 0 r canonical.table canonical.table.initial is)
           (λ u more. sym (after_run d leads.0 u q leads.3) ∙ same u more ∙ after_run d y u r is) in
-          (y, over, spells, is ∙ ap Some (sym one))
+          (y, over, has_part, is ∙ ap Some (sym one))
 
 module _ (d : Automaton) (places sizes : List ℕ) (ends : List Bool) (n : Branching) (image : IsImage d ends (parts_of_letters d.sizes places) sizes n) (table : IsBranchTable (branching.letters_of n) n.states) where
   -- reading begins where words lead that are read first
@@ -234,17 +210,17 @@ module _ (d : Automaton) (places sizes : List ℕ) (ends : List Bool) (n : Branc
   IsStateSet-first Lsd first are = subst (IsStateSet n) (sym are) (start_is_state_set n table)
 
   module _ (direction : Direction) (first : List ℕ) (are : AreFirst direction n first) where
-    -- the states that a word leads to are those that words that spell it lead to
+    -- the states that a word leads to are those that words with that part lead to
     pub members_to : (w : List ℕ) (q : ℕ) → Contains (set_of n table (key_run (set_after n) first w)) q → LeadsTo d places direction w q
     members_to w q there =
         let found = (key_run-members n table w first q).0 there in
         let begun = first_to direction first are found.0 found.1 in
         let x = word_of_path d ends places sizes n image w found.0 q found.2 in
-        (begun.0 ++ x.0, IsWord-append (letters_of d) begun.0 x.0 begun.1 x.1, spells_append d places direction w begun.0 x.0 begun.2 x.2, run_join d begun.0 x.0 0 found.0 q begun.3 x.3)
+        (begun.0 ++ x.0, IsWord-append (letters_of d) begun.0 x.0 begun.1 x.1, HasPart-append d places direction w begun.0 x.0 begun.2 x.2, run_join d begun.0 x.0 0 found.0 q begun.3 x.3)
 
     pub members_from : (w : List ℕ) (q : ℕ) → LeadsTo d places direction w q → Contains (set_of n table (key_run (set_after n) first w)) q
     members_from w q leads =
-        let split = spells_split d places direction w leads.0 leads.2 in
+        let split = HasPart-split d places direction w leads.0 leads.2 in
         let over : IsWord (letters_of d) (split.front ++ split.back) = subst (IsWord (letters_of d)) split.is leads.1 in
         let run = run_part d split.front split.back 0 q (ap (run_of d 0) (sym split.is) ∙ leads.3) in
         (key_run-members n table w first q).1 (
@@ -304,8 +280,8 @@ reads_made d places direction sizes parts ends n first sizes_are parts_are image
 }
 
 module _ (d : Automaton) (places : List ℕ) (direction : Direction) (n : Branching) (first : List ℕ) (reads : ReadsProjection d places direction n first) where
-  pub reads_source : IsBranchTable (branching.letters_of n) n.states × IsStateSet n first
-  reads_source = (reads.table, IsStateSet-first d places (picked places d.sizes) reads.ends n reads.image reads.table direction first reads.first_are)
+  pub reads_graph : IsBranchTable (branching.letters_of n) n.states × IsStateSet n first
+  reads_graph = (reads.table, IsStateSet-first d places (picked places d.sizes) reads.ends n reads.image reads.table direction first reads.first_are)
 
   pub reads_letters : (sizes : List ℕ) → sizes ≡ picked places d.sizes → product sizes ≡ branching.letters_of n
   reads_letters sizes are = ap product (are ∙ sym reads.image.sizes_are)
@@ -314,16 +290,14 @@ module _ (d : Automaton) (places : List ℕ) (direction : Direction) (n : Branch
   reads_language w = key_accepts-projection d places (picked places d.sizes) reads.ends n reads.image reads.table direction first reads.first_are reads.ends_are w
 
   module _ (canonical : IsCanonical d) (live : ¬ IsDead d 0) (letters : ℕ) (same : letters ≡ branching.letters_of n) where
-    pub reads_width : (k : ℕ) → HasWidth (LeadAlike (set_after n) first) (branching.letters_of n) k → HasWidth (ProjectionAlike d places direction) letters k
-    reads_width k width = HasWidth-same (LeadAlike (set_after n) first) (ProjectionAlike d places direction) letters k
+    pub reads_width : (k : ℕ) → HasWidth (LeadAlike (set_after n) first) letters k → HasWidth (ProjectionAlike d places direction) letters k
+    reads_width k = HasWidth-same (LeadAlike (set_after n) first) (ProjectionAlike d places direction) letters k
         (λ w v over too lead. ProjectionAlike-lead d places (picked places d.sizes) reads.ends n reads.image reads.table direction first reads.first_are canonical live w v lead)
         (λ w v over too alike. LeadAlike-projection d places (picked places d.sizes) reads.ends n reads.image reads.table direction first reads.first_are canonical live w v (subst (λ l. IsWord l w) same over) (subst (λ l. IsWord l v) same too) alike)
-        (subst (λ l. HasWidth (LeadAlike (set_after n) first) l k) (sym same) width)
 
-    pub reads_apart : (k : ℕ) → HasApart (LeadAlike (set_after n) first) (branching.letters_of n) k → HasApart (ProjectionAlike d places direction) letters k
-    reads_apart k apart = HasApart-same (LeadAlike (set_after n) first) (ProjectionAlike d places direction) letters k
+    pub reads_apart : (k : ℕ) → HasApart (LeadAlike (set_after n) first) letters k → HasApart (ProjectionAlike d places direction) letters k
+    reads_apart k = HasApart-same (LeadAlike (set_after n) first) (ProjectionAlike d places direction) letters k
         (λ w v over too alike. LeadAlike-projection d places (picked places d.sizes) reads.ends n reads.image reads.table direction first reads.first_are canonical live w v (subst (λ l. IsWord l w) same over) (subst (λ l. IsWord l v) same too) alike)
-        (subst (λ l. HasApart (LeadAlike (set_after n) first) l k) (sym same) apart)
 
 -- the projection of the language without words has none, and no word has a residual
 module _ (d : Automaton) (dead : IsDead d 0) (places : List ℕ) (direction : Direction) where
@@ -331,7 +305,7 @@ module _ (d : Automaton) (dead : IsDead d 0) (places : List ℕ) (direction : Di
   none_in_projection w inside = true≢false (sym inside.1.3 ∙ dead inside.1.0 inside.1.1)
 
   no_residuals : (w v : List ℕ) → HaveResiduals d places direction w v
-  no_residuals w v x over spells some = absurd (some (λ u more. dead (x ++ u) (IsWord-append (letters_of d) x u over more)))
+  no_residuals w v x over has_part some = absurd (some (λ u more. dead (x ++ u) (IsWord-append (letters_of d) x u over more)))
 
   pub ProjectionAlike-dead : (w v : List ℕ) → ProjectionAlike d places direction w v
   ProjectionAlike-dead w v = record { forth = no_residuals w v; back = no_residuals v w }

@@ -1,9 +1,11 @@
 -- Pairs of states as keys of the closure under trailing zeros: where the word leads without its trailing zeros, and
--- where it leads with them. The sink is the number past the states.
-use Rattle.std.specs.Prelude.{◌≡◌, ◌==◌, ℕ, zero, suc, ◌≤◌, ◌↔◌, Bool, true, false, not, ◌&&◌, List, [], ◌∷◌, length, slice_index, if◌then◌else◌}
+-- where it leads with them. The sink is the number past the states. Two sinks are no key but the first.
+use Rattle.std.specs.Prelude.{◌≡◌, ◌==◌, ℕ, zero, suc, ◌≤◌, ◌↔◌, Bool, true, false, not, ◌&&◌, List, [], ◌∷◌, filter, map, length, slice_index, Option, None, Some, MatchOption, ⊤, if◌then◌else◌}
 use Rattle.std.proofs.Common.{refl, arith}
 use Rattle.digit_tuple.specs.Deterministic.{Automaton, IsTable, states_of, letters_of, accepting_of, edges_of}
+use Rattle.digit_tuple.specs.Keys.{KeyEdge}
 use Rattle.digit_tuple.specs.Paddings.{zeros}
+use Rattle.digit_tuple.specs.declared.edges.Edge.{Edge}
 use Rattle.minimise.specs.Classes.{next_of, first_of}
 use Rattle.minimise.proofs.LeadLemmas.{lead}
 use Rattle.minimise.proofs.SinkLemmas.{next_within}
@@ -22,10 +24,35 @@ pub record AreFinalFlags (d : Automaton) (flags : List Bool) : Type 0 where
 abbrev pub twice : ℕ → List ℕ
 twice q = q ∷ q ∷ []
 
+-- whether both are the sink
+abbrev pub are_sinks : Automaton → ℕ → ℕ → Bool
+are_sinks d p q = (p == states_of d) && (q == states_of d)
+
+-- the pair of two states, unless both are the sink
+abbrev pub some_pair : Automaton → ℕ → ℕ → Option (List ℕ)
+some_pair d p q = if are_sinks d p q then None else Some (p ∷ q ∷ [])
+
 -- where a letter leads: zeros may be trailing ones, and after other letters none trail
-abbrev pub pair_after : Automaton → List ℕ → ℕ → List ℕ
-pair_after d key zero = slice_index key 0 ∷ next_of d (slice_index key 1) 0 ∷ []
-pair_after d key (suc a) = twice (next_of d (slice_index key 1) (suc a))
+abbrev pub pair_after : Automaton → List ℕ → ℕ → Option (List ℕ)
+pair_after d key zero = some_pair d (slice_index key 0) (next_of d (slice_index key 1) 0)
+pair_after d key (suc a) = some_pair d (next_of d (slice_index key 1) (suc a)) (next_of d (slice_index key 1) (suc a))
+
+-- the edge from a pair by the zero letter, if there is such a letter, and it does not lead to two sinks
+abbrev pub edges_by_zero : Automaton → ℕ → List ℕ → List KeyEdge
+edges_by_zero d zero key = []
+edges_by_zero d (suc letters) key = if are_sinks d (slice_index key 0) (next_of d (slice_index key 1) 0) then [] else (record { letter = 0; key = slice_index key 0 ∷ next_of d (slice_index key 1) 0 ∷ [] }) ∷ []
+
+-- the letter of the edge is not zero
+abbrev pub is_by_other : Edge → Bool
+is_by_other edge = not (edge.letter == 0)
+
+-- the edge leads to the pair of its target
+abbrev pub pair_edge : Edge → KeyEdge
+pair_edge edge = record { letter = edge.letter; key = twice edge.target }
+
+-- the edges from a pair by other letters than zero, which are those of its second state
+abbrev pub edges_by_others : List Edge → List KeyEdge
+edges_by_others edges = map pair_edge (filter is_by_other edges)
 
 -- two states, each of which may be the sink
 pub record IsPair (d : Automaton) (key : List ℕ) : Type 0 where
@@ -45,7 +72,15 @@ first_within d = by (not (accepting_of d 0) && (length (edges_of d 0) == 0))
 pub first_is_pair : (d : Automaton) → IsPair d (twice (first_of d))
 first_is_pair d = record { count = refl; stripped = first_within d; whole = first_within d }
 
+some_pair_is_pair : (d : Automaton) (p q : ℕ) → p ≤ states_of d → q ≤ states_of d → MatchOption (some_pair d p q) ⊤ (IsPair d)
+some_pair_is_pair d p q stripped whole = by (are_sinks d p q)
+  where
+    by : (b : Bool) → MatchOption (if b then None else Some (p ∷ q ∷ [])) ⊤ (IsPair d)
+    by true = tt
+    by false = record { count = refl; stripped = stripped; whole = whole }
+
 -- what a letter leads to
-pub pair_after_is_pair : (d : Automaton) → IsTable (letters_of d) d.states → (key : List ℕ) (a : ℕ) → IsPair d key → IsPair d (pair_after d key a)
-pair_after_is_pair d table key zero is = record { count = refl; stripped = is.stripped; whole = next_within d table (slice_index key 1) 0 }
-pair_after_is_pair d table key (suc a) is = record { count = refl; stripped = next_within d table (slice_index key 1) (suc a); whole = next_within d table (slice_index key 1) (suc a) }
+pub pair_after_is_pair : (d : Automaton) → IsTable (letters_of d) d.states → (key : List ℕ) (a : ℕ) → IsPair d key → MatchOption (pair_after d key a) ⊤ (IsPair d)
+pair_after_is_pair d table key zero is = some_pair_is_pair d (slice_index key 0) (next_of d (slice_index key 1) 0) is.stripped (next_within d table (slice_index key 1) 0)
+pair_after_is_pair d table key (suc a) is =
+    some_pair_is_pair d (next_of d (slice_index key 1) (suc a)) (next_of d (slice_index key 1) (suc a)) (next_within d table (slice_index key 1) (suc a)) (next_within d table (slice_index key 1) (suc a))

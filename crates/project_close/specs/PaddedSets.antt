@@ -1,11 +1,11 @@
 -- Sets of states as keys of the closure under leading zeros. The empty list stands for the first set, after zeros alone.
-use Rattle.std.specs.Prelude.{◌≡◌, ◌==◌, ℕ, zero, suc, ◌<◌, ◌↔◌, Bool, not, List, [], ◌∷◌, ◌++◌, filter, Option, None, Some, MatchOption, ⊤}
+use Rattle.std.specs.Prelude.{◌≡◌, ◌==◌, ℕ, zero, suc, ◌<◌, ◌↔◌, Bool, not, List, [], ◌∷◌, Option, None, Some, MatchOption, ⊤}
 use Rattle.std.proofs.Common.{arith}
 use Rattle.std.specs.List.{All, AllPairs, Contains}
 use Rattle.digit_tuple.specs.Automaton as branching
 use Rattle.digit_tuple.specs.Automaton.{Branching}
 use Rattle.digit_tuple.specs.Deterministic.{Automaton, states_of}
-use Rattle.digit_tuple.specs.Keys.{Step}
+use Rattle.digit_tuple.specs.Keys.{KeyEdge}
 use Rattle.digit_tuple.specs.Paddings.{zeros}
 use Rattle.determinise.specs.Subsets.{IsStateSet, set_after, has_accepting}
 use Rattle.determinise.specs.SubsetLaws.{after_is_state_set}
@@ -33,18 +33,14 @@ abbrev pub padded_accepts : Branching → List ℕ → List ℕ → Bool
 padded_accepts n first [] = has_accepting n first
 padded_accepts n first (q ∷ qs) = has_accepting n (q ∷ qs)
 
--- the step by the zero letter to the empty list, if there is such a letter
-abbrev pub zero_steps : ℕ → List Step
-zero_steps zero = []
-zero_steps (suc letters) = (record { letter = 0; key = [] }) ∷ []
+-- the edge by the zero letter to the empty list, if there is such a letter
+abbrev pub edges_by_zero : ℕ → List KeyEdge
+edges_by_zero zero = []
+edges_by_zero (suc letters) = (record { letter = 0; key = [] }) ∷ []
 
--- the letter of the step is not zero
-abbrev pub is_by_other : Step → Bool
-is_by_other step = not (step.letter == 0)
-
--- that step, and those by other letters
-abbrev pub zero_first : ℕ → List Step → List Step
-zero_first letters steps = zero_steps letters ++ filter is_by_other steps
+-- the letter of the edge is not zero
+abbrev pub is_by_other : KeyEdge → Bool
+is_by_other edge = not (edge.letter == 0)
 
 -- the empty list
 pub nothing_is_state_list : (n : Branching) → IsStateList n []

@@ -1,9 +1,10 @@
 -- The projection of a language to some of its tracks.
-use Rattle.std.specs.Prelude.{◌≡◌, ◌++◌, ℕ, List, IsTrue}
+use Rattle.std.specs.Prelude.{◌≡◌, ◌++◌, ◌<◌, ℕ, List, IsTrue}
 use Rattle.digit_tuple.specs.Deterministic.{Automaton, letters_of, accepts_of}
 use Rattle.digit_tuple.specs.Letters.{IsWord}
 use Rattle.digit_tuple.specs.Paddings.{zeros, padded}
 use Rattle.digit_tuple.specs.Parts.{part}
+use Rattle.digit_tuple.specs.Width.{HasApart, HasWidth}
 use Rattle.digit_tuple.specs.declared.direction.Direction.{Direction}
 use Rattle.digit_tuple.specs.declared.direction.Direction.TheVariants.{Msd, Lsd}
 use Rattle.minimise.specs.Residuals.{IsEmptyAfter, SameAfter}
@@ -19,12 +20,17 @@ abbrev pub HasPart : Direction → Automaton → List ℕ → List ℕ → List 
 HasPart Msd d places w x = (k : ℕ) × (part d.sizes places x ≡ zeros k ++ w)
 HasPart Lsd d places w x = part d.sizes places x ≡ w
 
--- each residual after a word that spells w, but the empty one, is the residual after a word that spells v
+-- each residual after a word with the part w, but the empty one, is the residual after a word with the part v
 abbrev pub HaveResiduals : Automaton → List ℕ → Direction → List ℕ → List ℕ → Type 0
 HaveResiduals d places direction w v = (x : List ℕ) → IsWord (letters_of d) x → HasPart direction d places w x → ¬ IsEmptyAfter d x
     → (y : List ℕ) × IsWord (letters_of d) y × HasPart direction d places v y × SameAfter d x y
 
--- the sets of residuals after the words that spell w, and after those that spell v, are the same but for the empty residual
+-- the sets of residuals after the words with the part w, and after those with the part v, are the same but for the empty residual
 pub record ProjectionAlike (d : Automaton) (places : List ℕ) (direction : Direction) (w v : List ℕ) : Type 0 where
   pub forth : HaveResiduals d places direction w v
   pub back : HaveResiduals d places direction v w
+
+-- The width of a projection is one number, and no more words than that have sets of residuals that differ: it excludes a refusal.
+abbrev pub OneProjectionWidth : Type 0
+OneProjectionWidth = (d : Automaton) (places : List ℕ) (direction : Direction) (letters k : ℕ) → HasWidth (ProjectionAlike d places direction) letters k
+    → ((j : ℕ) → HasWidth (ProjectionAlike d places direction) letters j → j ≡ k) × ((j : ℕ) → k < j → ¬ HasApart (ProjectionAlike d places direction) letters j)

@@ -2,6 +2,12 @@
 //! tracks: under new names, and with two tracks as one.
 #![tactic(auto)]
 
+/// Sizes of some of the tracks.
+mod track_sizes;
+
+/// Whether canonical automata accept no word.
+mod emptiness;
+
 /// The states that zero letters lead to.
 pub mod zero_closure;
 
@@ -26,11 +32,14 @@ pub mod padding;
 /// Automata that read the parts of letters.
 mod part_reading;
 
-/// Automata whose tracks stand under other names.
-mod substitution;
+/// Automata whose tracks stand under other names, of which some may be the same.
+pub mod substitution;
 
 /// Automata with new names for their tracks.
 pub mod renaming;
 
 /// Automata on the words of which two tracks are equal.
 pub mod restriction;
+
+/// Laws of widths.
+pub mod laws;

@@ -1,32 +1,32 @@
 //! Closure under leading zeros.
 
-ghost use Rattle.std.specs.Prelude.{◌≡◌, ℕ, ◌+◌, ◌≤◌, ◌<◌, ◌↔◌, [], List, map, IfOk, IsTrue};
+ghost use Rattle.std.specs.Prelude.{◌≡◌, ℕ, ◌+◌, ◌≤◌, ◌++◌, ◌<◌, ◌↔◌, [], List, filter, IfOk, OnOk, IsTrue};
 ghost use Rattle.std.specs.List.{All};
 ghost use Rattle.std.specs.Result.{IsErrOf};
 ghost use Rattle.digit_tuple.specs.Automaton as branching;
 ghost use Rattle.digit_tuple.specs.Automaton.{IsBranchTable};
 ghost use Rattle.digit_tuple.specs.Deterministic.{accepts_of, letters_of, states_of};
-ghost use Rattle.digit_tuple.specs.Keys.{AreSteps};
-ghost use Rattle.digit_tuple.specs.KeySteps.{steps_in};
+ghost use Rattle.digit_tuple.specs.Keys.{AreKeyEdges};
 ghost use Rattle.digit_tuple.specs.Letters.{IsWord};
 ghost use Rattle.digit_tuple.specs.Width.{HasApart, HasWidth};
 ghost use Rattle.digit_tuple.specs.declared.direction.Direction.TheVariants.{Msd};
 ghost use Rattle.determinise.specs.Subsets.{set_after, has_accepting};
 ghost use Rattle.minimise.specs.Canonical.{IsCanonical};
 ghost use Rattle.project_close.specs.Padding.{IsPadded, PaddedAlike};
-ghost use Rattle.project_close.specs.PaddedSets.{IsStateList, AreFirst, padded_after, padded_accepts, zero_steps, zero_first, nothing_is_state_list, padded_after_is_state_list};
+ghost use Rattle.project_close.specs.PaddedSets.{IsStateList, AreFirst, padded_after, padded_accepts, edges_by_zero, is_by_other, nothing_is_state_list, padded_after_is_state_list};
 ghost use Rattle.project_close.specs.SameBranching.{branching_as};
 
+use crate::emptiness::accepts_nothing;
 use crate::same_branching::same_branching;
 use crate::zero_closure::zero_closure;
 use determinise::subsets::Subsets;
 use digit_tuple::dfa::Dfa;
 use digit_tuple::faults::{OpFault, OutOfMemory};
+use digit_tuple::key_edges::KeyEdges;
+use digit_tuple::key_graph::KeyGraph;
 use digit_tuple::nfa::Nfa;
-use digit_tuple::source::{KeyStep, Source};
 use digit_tuple::stepped::Stepped;
 use minimise::canonical_exploration::explore_canonical;
-use minimise::sink::first_state;
 use std::alloc::Global;
 
 /// The sets of states that words without their leading zeros lead to, from the states of a first set,
@@ -38,10 +38,10 @@ struct PaddedSets<'a> {
     first: &'a [u32],
 }
 
-impl Source for PaddedSets<'_> {
+impl KeyGraph for PaddedSets<'_> {
     ghost letters = { λ s. branching.letters_of s.nfa.now };
 
-    ghost is_source = { λ s. IsBranchTable (branching.letters_of s.nfa.now) s.nfa.now.states × IsStateList s.nfa.now s.first.now };
+    ghost is_graph = { λ s. IsBranchTable (branching.letters_of s.nfa.now) s.nfa.now.states × IsStateList s.nfa.now s.first.now };
 
     ghost is_key = { λ s. IsStateList s.nfa.now };
 
@@ -51,19 +51,19 @@ impl Source for PaddedSets<'_> {
 
     ghost accepts = { λ s. padded_accepts s.nfa.now s.first.now };
 
-    ghost start_is_key = { λ s source. nothing_is_state_list s.nfa.now };
+    ghost start_is_key = { λ s graph. nothing_is_state_list s.nfa.now };
 
-    ghost after_is_key = { λ s key letter source is_list small. padded_after_is_state_list s.nfa.now s.first.now key letter };
+    ghost after_is_key = { λ s key letter graph is_list small. padded_after_is_state_list s.nfa.now s.first.now key letter };
 
     fn first_key(&self, alloc: Global) -> Result<Vec<u32>, OutOfMemory> {
         Ok(Vec::new(alloc))
     }
 
-    fn steps(&self, alloc: Global, key: &[u32]) -> Result<Vec<KeyStep>, OutOfMemory> {
+    fn edges(&self, alloc: Global, key: &[u32], out: &mut KeyEdges) -> Result<(), OutOfMemory> {
         if key.is_empty() {
-            first_steps(alloc, self.nfa, self.first)
+            first_edges(alloc, self.nfa, self.first, out)
         } else {
-            set_steps(alloc, self.nfa, key)
+            set_edges(alloc, self.nfa, key, out)
         }
     }
 
@@ -84,54 +84,58 @@ fn any_accepting(nfa: &Nfa, set: &[u32]) -> bool
     set.iter().any(|state| nfa.is_accepting(*state))
 }
 
-// The steps after zeros alone: zeros stay, and the other letters lead from the first set on.
-fn first_steps(alloc: Global, nfa: &Nfa, first: &[u32]) -> Result<Vec<KeyStep>, OutOfMemory>
+// Writes the edges after zeros alone: zeros stay, and the other letters lead from the first set on.
+fn first_edges(
+    alloc: Global,
+    nfa: &Nfa,
+    first: &[u32],
+    out: &mut KeyEdges,
+) -> Result<(), OutOfMemory>
     requires table { IsBranchTable (branching.letters_of nfa.now) nfa.now.states }
     requires first { IsStateList nfa.now first.now }
-    ensures { IfOk result (λ steps. AreSteps (branching.letters_of nfa.now) (padded_after nfa.now first.now []) (steps_in steps.items)) }
+    requires empty { out.old ≡ [] }
+    ensures { OnOk result (AreKeyEdges (branching.letters_of nfa.now) (padded_after nfa.now first.now []) out.new) }
 {
-    let others = set_steps(alloc, nfa, first)?;
-    with_zero(alloc, nfa.alphabet().letters(), others)
+    let mut others = KeyEdges::new(alloc);
+    set_edges(alloc, nfa, first, &mut others)?;
+    push_by_zero(nfa.alphabet().letters(), out)?;
+    push_by_others(&others, out)
 }
 
-// The steps, but by the zero letter one to the empty list.
-fn with_zero(alloc: Global, letters: u32, others: Vec<KeyStep>) -> Result<Vec<KeyStep>, OutOfMemory>
-    ensures { IfOk result (λ steps. steps_in steps.items ≡ zero_first letters (steps_in others.items)) }
+// Adds the edge by the zero letter to the empty list, if there is such a letter.
+fn push_by_zero(letters: u32, out: &mut KeyEdges) -> Result<(), OutOfMemory>
+    ensures { OnOk result (out.new ≡ out.old ++ edges_by_zero letters) }
 {
-    let mut steps = zero_step(alloc, letters)?;
-    for step in others {
-        if step.letter != 0 {
-            steps.push(step)?;
+    if letters == 0 {
+        return Ok(());
+    }
+    out.push(0, &[])
+}
+
+// Adds the edges that are by other letters.
+fn push_by_others(edges: &KeyEdges, out: &mut KeyEdges) -> Result<(), OutOfMemory>
+    ensures { OnOk result (out.new ≡ out.old ++ filter is_by_other edges.now) }
+{
+    for place in 0..edges.len() {
+        if edges.letter(place) != 0 {
+            out.push(edges.letter(place), edges.key(place))?;
         }
     }
-    Ok(steps)
+    Ok(())
 }
 
-// The step by the zero letter to the empty list, if there is such a letter.
-fn zero_step(alloc: Global, letters: u32) -> Result<Vec<KeyStep>, OutOfMemory>
-    ensures { IfOk result (λ steps. steps_in steps.items ≡ zero_steps letters) }
-{
-    let mut steps = Vec::new(alloc);
-    if letters > 0 {
-        steps.push(KeyStep {
-            letter: 0,
-            key: Vec::new(alloc),
-        })?;
-    }
-    Ok(steps)
-}
-
-// The steps from a set.
-fn set_steps(alloc: Global, nfa: &Nfa, set: &[u32]) -> Result<Vec<KeyStep>, OutOfMemory>
+// Writes the edges from a set.
+fn set_edges(alloc: Global, nfa: &Nfa, set: &[u32], out: &mut KeyEdges) -> Result<(), OutOfMemory>
     requires table { IsBranchTable (branching.letters_of nfa.now) nfa.now.states }
     requires set { IsStateList nfa.now set.now }
-    ensures { IfOk result (λ steps. AreSteps (branching.letters_of nfa.now) (set_after nfa.now set.now) (steps_in steps.items)) }
+    requires empty { out.old ≡ [] }
+    ensures { OnOk result (AreKeyEdges (branching.letters_of nfa.now) (set_after nfa.now set.now) out.new) }
 {
     if set.is_empty() {
-        return Ok(Vec::new(alloc));
+        return Ok(());
     }
     let subsets = Subsets { nfa, first: set };
-    subsets.steps(alloc, set)
+    subsets.edges(alloc, set, out)
 }
 
 // The states that some number of zero letters leads to. None are where nothing is accepted.
@@ -140,7 +144,7 @@ fn first_set(alloc: Global, a: &Dfa, nfa: &Nfa) -> Result<Vec<u32>, OutOfMemory>
     requires same { nfa.now ≡ branching_as a.now }
     ensures { IfOk result (λ set. AreFirst a.now set.items) }
 {
-    if first_state(a) == a.states() {
+    if accepts_nothing(a) {
         return Ok(Vec::new(alloc));
     }
     zero_closure(alloc, nfa)

@@ -30,6 +30,7 @@ pub fn read_parts(
     ensures language { IfOk result (λ reader. (w : List ℕ) → IsWord (product alphabet) w
         → accepts_of reader w ≡ accepts_of dfa.now (part alphabet places.now w)) }
 {
+    // The call tells that letters are few, so that their numbers fit.
     let _letters = alphabet.letters();
     let parts = letter_parts(alloc, &alphabet, places, dfa.alphabet())?;
     let count = dfa.states();

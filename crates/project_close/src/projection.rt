@@ -3,8 +3,7 @@
 ghost use Rattle.std.specs.Prelude.{◌≡◌, ◌+◌, ◌<◌, ◌≤◌, ◌↔◌, ℕ, List, length, IfOk, OnOk, IsTrue};
 ghost use Rattle.std.specs.List.{All, Contains};
 ghost use Rattle.std.specs.Result.{IsErrOf};
-ghost use Rattle.determinise.specs.Reversed.{bare_automaton};
-ghost use Rattle.digit_tuple.specs.Deterministic.{accepts_of, letters_of};
+ghost use Rattle.digit_tuple.specs.Deterministic.{accepts_of, states_of};
 ghost use Rattle.digit_tuple.specs.Letters.{product, IsAlphabet, IsTooLarge, IsWord};
 ghost use Rattle.digit_tuple.specs.Names.{names_without as names_without_of};
 ghost use Rattle.digit_tuple.specs.Parts.{picked};
@@ -15,17 +14,19 @@ ghost use Rattle.minimise.specs.Tracked.{IsTracked};
 ghost use Rattle.project_close.specs.Projection.{InProjection, ProjectionAlike};
 ghost use Rattle.project_close.specs.StayingTracks.{staying_places, staying_sizes};
 
+use crate::emptiness::accepts_nothing;
 use crate::image::reading_on;
+use crate::track_sizes::sizes_at;
 use determinise::subsets::Subsets;
 use digit_tuple::alphabet::Alphabet;
 use digit_tuple::dfa::Dfa;
-use digit_tuple::dfa_builder::DfaBuilder;
 use digit_tuple::direction::Direction;
-use digit_tuple::exploration::explore;
-use digit_tuple::faults::{OpFault, OutOfMemory};
+use digit_tuple::faults::OpFault;
 use digit_tuple::name::Name;
 use digit_tuple::names::{names_without, places_in};
+use digit_tuple::no_words::no_words_within;
 use digit_tuple::stepped::Stepped;
+use minimise::canonical_exploration::explore_canonical;
 use minimise::tracked::Tracked;
 use std::alloc::Global;
 
@@ -61,6 +62,7 @@ pub fn project(
         → IsTrue (accepts_of stepped.result.automaton w) ↔ InProjection a.now.automaton (staying_places a.now track.now) direction w) }
     ensures width { IfOk result (λ stepped.
         HasWidth (ProjectionAlike a.now.automaton (staying_places a.now track.now) direction) (product (staying_sizes a.now track.now)) stepped.width) }
+    ensures size { IfOk result (λ stepped. states_of stepped.result.automaton ≤ stepped.width) }
     ensures within { IfOk result (λ stepped. stepped.width ≤ limit) }
     ensures fits { OnOk result (IsAlphabet (staying_sizes a.now track.now)) }
     ensures letters { IsErrOf result OpFault.Letters → IsTooLarge (staying_sizes a.now track.now) }
@@ -73,11 +75,10 @@ pub fn project(
         places,
         alphabet,
     } = staying_tracks(alloc, a, track)?;
-    let stepped = projected(alloc, a.dfa(), &places, alphabet, direction, limit)?;
-    let result = Tracked::new(alloc, &stepped.result, &names)?;
+    let Stepped { result, width } = projected(alloc, a.dfa(), &places, alphabet, direction, limit)?;
     Ok(Stepped {
-        result,
-        width: stepped.width,
+        result: Tracked::of_canonical(result, names),
+        width,
     })
 }
 
@@ -112,18 +113,6 @@ fn staying_tracks(alloc: Global, a: &Tracked, track: &Name) -> Result<StayingTra
     })
 }
 
-// The sizes at these places.
-fn sizes_at(alloc: Global, sizes: &[u32], places: &[u32]) -> Result<Vec<u32>, OutOfMemory>
-    requires { All (λ place. place < length sizes.now) places.now }
-    ensures { IfOk result (λ some. some.items ≡ picked places.now sizes.now) }
-{
-    let mut some = Vec::with_capacity(alloc, places.len())?;
-    for place in places {
-        some.push(sizes[*place as usize])?;
-    }
-    Ok(some)
-}
-
 // The projection to the tracks at these places, whose letters are those of the alphabet.
 fn projected(
     alloc: Global,
@@ -137,49 +126,24 @@ fn projected(
     requires places { All (λ place. place < length d.now.sizes) places.now }
     requires alphabet { alphabet ≡ picked places.now d.now.sizes }
     ensures sizes { IfOk result (λ stepped. stepped.result.sizes ≡ alphabet) }
+    ensures canonical { IfOk result (λ stepped. IsCanonical stepped.result) }
     ensures language { IfOk result (λ stepped. (w : List ℕ) → IsWord (product alphabet) w
         → IsTrue (accepts_of stepped.result w) ↔ InProjection d.now places.now direction w) }
     ensures width { IfOk result (λ stepped. HasWidth (ProjectionAlike d.now places.now direction) (product alphabet) stepped.width) }
+    ensures size { IfOk result (λ stepped. states_of stepped.result ≤ stepped.width) }
     ensures within { IfOk result (λ stepped. stepped.width ≤ limit) }
     ensures states { IsErrOf result OpFault.States → HasApart (ProjectionAlike d.now places.now direction) (product alphabet) (limit + 1) }
     ensures letters { ¬ IsErrOf result OpFault.Letters }
 {
     if accepts_nothing(d) {
-        nothing(alloc, alphabet, limit)
+        no_words_within(alloc, alphabet, limit)
     } else {
         live_projection(alloc, d, places, alphabet, direction, limit)
     }
 }
 
-// Whether the canonical automaton accepts no word.
-fn accepts_nothing(d: &Dfa) -> bool
-    requires { IsCanonical d.now }
-    ensures { IsTrue result ↔ IsDead d.now 0 }
-{
-    !d.accepting(0) && d.edges(0).is_empty()
-}
-
-// The automaton that accepts nothing.
-fn nothing(alloc: Global, alphabet: Alphabet, limit: u32) -> Result<Stepped<Dfa>, OpFault>
-    ensures result_is { IfOk result (λ stepped. stepped.result ≡ bare_automaton alphabet) }
-    ensures width { IfOk result (λ stepped. stepped.width ≡ 1) }
-    ensures within { IfOk result (λ stepped. 1 ≤ limit) }
-    ensures states { IsErrOf result OpFault.States → limit ≡ 0 }
-    ensures letters { ¬ IsErrOf result OpFault.Letters }
-{
-    if limit == 0 {
-        return Err(OpFault::States);
-    }
-    let mut builder = DfaBuilder::new(alloc, alphabet)?;
-    builder.add_state(false)?;
-    Ok(Stepped {
-        result: builder.finish()?,
-        width: 1,
-    })
-}
-
-// The projection of an automaton that accepts some word: the automaton of the sets of states that
-// its image leads to.
+// The projection of an automaton that accepts some word: words lead to the sets of states that its
+// image leads to.
 fn live_projection(
     alloc: Global,
     d: &Dfa,
@@ -193,9 +157,11 @@ fn live_projection(
     requires places { All (λ place. place < length d.now.sizes) places.now }
     requires alphabet { alphabet ≡ picked places.now d.now.sizes }
     ensures sizes { IfOk result (λ stepped. stepped.result.sizes ≡ alphabet) }
+    ensures canonical { IfOk result (λ stepped. IsCanonical stepped.result) }
     ensures language { IfOk result (λ stepped. (w : List ℕ) → IsWord (product alphabet) w
         → IsTrue (accepts_of stepped.result w) ↔ InProjection d.now places.now direction w) }
     ensures width { IfOk result (λ stepped. HasWidth (ProjectionAlike d.now places.now direction) (product alphabet) stepped.width) }
+    ensures size { IfOk result (λ stepped. states_of stepped.result ≤ stepped.width) }
     ensures within { IfOk result (λ stepped. stepped.width ≤ limit) }
     ensures states { IsErrOf result OpFault.States → HasApart (ProjectionAlike d.now places.now direction) (product alphabet) (limit + 1) }
     ensures letters { ¬ IsErrOf result OpFault.Letters }
@@ -205,5 +171,5 @@ fn live_projection(
         nfa: &reading.image,
         first: &reading.first,
     };
-    explore(alloc, &subsets, alphabet, limit)
+    explore_canonical(alloc, &subsets, alphabet, limit)
 }

@@ -1,6 +1,6 @@
 //! Automata with new names for their tracks.
 
-ghost use Rattle.std.specs.Prelude.{◌≡◌, ℕ, [], List, length, IfOk};
+ghost use Rattle.std.specs.Prelude.{◌≡◌, ◌↔◌, ℕ, [], List, length, IfOk, IsTrue};
 ghost use Rattle.std.specs.List.{AllPairs};
 ghost use Rattle.digit_tuple.specs.Deterministic.{accepts_of};
 ghost use Rattle.digit_tuple.specs.Letters.{product, IsWord};
@@ -18,8 +18,9 @@ use std::alloc::Global;
 /// The automaton with these names for its tracks: one for each, in the order of the tracks of `a`, no
 /// two the same. The result is canonical; its tracks stand in byte order of the new names, and it
 /// accepts a word exactly where `a` accepts the word that has, on each track, the digits of the track of
-/// its new name. OutOfMemory comes too where 2^32 - 1 states are not enough. Time and memory follow the
-/// states of `a` times the letters.
+/// its new name. Where the new names stand in byte order already its table is a copy of that of `a`, and
+/// time and memory follow its edges; else they follow the states of `a` times the letters, and
+/// OutOfMemory comes too where 2^32 - 1 states are not enough.
 pub fn rename(alloc: Global, a: &Tracked, names: &[Name]) -> Result<Tracked, OutOfMemory>
     requires count { length names.now ≡ length a.now.names }
     requires distinct { AreDistinct names.now }
@@ -30,7 +31,26 @@ pub fn rename(alloc: Global, a: &Tracked, names: &[Name]) -> Result<Tracked, Out
     ensures language { IfOk result (λ renamed. (w : List ℕ) → IsWord (product (sizes_under a.now.automaton.sizes names.now (with_names [] names.now))) w
         → accepts_of renamed.automaton w ≡ accepts_of a.now.automaton (word_under a.now.automaton.sizes names.now (with_names [] names.now) w)) }
 {
-    let _old = a.names();
+    let dfa = a.dfa();
     let ordered = joint_names(alloc, names, &[])?;
-    substitute(alloc, a.dfa(), names, &ordered)
+    if !are_equal(&ordered, names) {
+        return substitute(alloc, dfa, names, &ordered);
+    }
+    let table = dfa.copy(alloc)?;
+    Ok(Tracked::of_canonical(table, ordered))
+}
+
+// Whether the names are the same, one by one.
+fn are_equal(a: &[Name], b: &[Name]) -> bool
+    ensures { IsTrue result ↔ (a.now ≡ b.now) }
+{
+    if a.len() != b.len() {
+        return false;
+    }
+    for place in 0..a.len() {
+        if a[place].as_bytes() != b[place].as_bytes() {
+            return false;
+        }
+    }
+    true
 }

@@ -14,11 +14,13 @@ pub fn same_branching(alloc: Global, d: &Dfa) -> Result<Nfa, OutOfMemory>
     ensures { IfOk result (λ nfa. nfa ≡ branching_as d.now) }
 {
     let states = d.states();
-    let mut rows = Vec::new(alloc);
+    let mut rows = Vec::with_capacity(alloc, states as usize)?;
     for state in 0..states {
+        let mut edges = Vec::new(alloc);
+        d.edges_into(state, &mut edges)?;
         rows.push(NfaState {
             accepting: d.accepting(state),
-            edges: Vec::from_slice(alloc, d.edges(state))?,
+            edges,
         })?;
     }
     let alphabet = d.alphabet().copy(alloc)?;

@@ -15,6 +15,7 @@ use std::alloc::Global;
 pub fn zero_closure(alloc: Global, nfa: &Nfa) -> Result<Vec<u32>, OutOfMemory>
     ensures { IfOk result (λ set. AreAfterZeros nfa.now set.items) }
 {
+    // The call tells that there is an initial state.
     let _states = nfa.states();
     let reached = reached(alloc, nfa, &[true], &[0])?;
     flagged(alloc, &reached)

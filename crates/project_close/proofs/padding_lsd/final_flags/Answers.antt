@@ -1,14 +1,11 @@
-use Rattle.std.proofs.Common.{◌≡◌, ◌<◌, List, Result, IfOk, Ok, Err, sym, ◌∙◌, subst}
+use Rattle.std.proofs.Common.{◌≡◌, ◌<◌, List, sym, ◌∙◌, subst}
 use Rattle.std.specs.List.{All}
 use Rattle.std.proofs.lemmas.Result.{IfOk-weaker}
 use Rattle.digit_tuple.specs.AcceptingStates.{AreAccepting}
 use Rattle.project_close.proofs.PaddedPairLemmas.{AreFinal-reached}
+use Rattle.project_close.proofs.ResultLemmas.{IfOk-both}
 use Rattle.project_close.proofs.SinkLeads.{AreAccepting-in_range}
 use Rattle.project_close.proofs.padding_lsd.final_flags.Goals as goal
-
-both : {X E : Type 0} (r : Result X E) (P Q : X → Type 0) → IfOk r P → IfOk r Q → IfOk r (λ x. P x × Q x)
-both (Ok x) P Q one two = (one, two)
-both (Err e) P Q one two = tt
 
 pub reached-requires : goal.reached-requires
 reached-requires c =
@@ -26,4 +23,4 @@ returns c =
       count = both.0 ∙ c.in_ok-turned.ensures.reversal.states;
       final = AreFinal-reached d c.requires c.in_ok-turned.turned c.in_ok-turned.ensures.reversal set are flags.items both.1;
     })
-    (both c.reached.result _ _ c.reached.ensures.size c.reached.ensures.reached)
+    (IfOk-both c.reached.result _ _ c.reached.ensures.size c.reached.ensures.reached)

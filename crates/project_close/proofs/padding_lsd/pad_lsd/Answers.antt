@@ -1,40 +1,41 @@
-use Rattle.std.proofs.Common.{◌≡◌, ◌+◌, Bool, List, sym, ap, ◌∙◌, subst}
+use Rattle.std.proofs.Common.{◌≡◌, ◌+◌, [], sym, ap, ◌∙◌, subst, true≢false, arith}
 use Rattle.std.proofs.lemmas.Result.{IfOk-weaker}
-use Rattle.digit_tuple.specs.Deterministic.{letters_of}
-use Rattle.digit_tuple.specs.Keys.{LeadAlike}
-use Rattle.digit_tuple.specs.Letters.{product, IsWord}
+use Rattle.digit_tuple.specs.Deterministic.{Automaton, accepts_of, letters_of}
 use Rattle.digit_tuple.specs.Width.{HasApart, HasWidth}
-use Rattle.digit_tuple.proofs.WidthLemmas.{HasApart-same, HasWidth-same}
-use Rattle.minimise.specs.Classes.{first_of}
-use Rattle.project_close.specs.Padding.{LsdPaddedAlike}
-use Rattle.project_close.specs.PaddedPairs.{AreFinal, twice}
-use Rattle.project_close.proofs.PaddedPairLemmas.{pair_step, pairs_accept, alike_from_pairs, pairs_from_alike}
+use Rattle.digit_tuple.specs.declared.direction.Direction.TheVariants.{Lsd}
+use Rattle.digit_tuple.proofs.NoWordLemmas.{bare_refuses}
+use Rattle.digit_tuple.proofs.WidthLemmas.{HasApart-one, HasWidth-one}
+use Rattle.minimise.specs.Canonical.{IsCanonical}
+use Rattle.minimise.specs.Residuals.{IsDead}
+use Rattle.project_close.specs.Padding.{PaddedAlike}
+use Rattle.project_close.proofs.NoWordLemmas.{IsCanonical-bare, LsdPaddedAlike-none, none_padded}
 use Rattle.project_close.proofs.padding_lsd.pad_lsd.Goals as goal
 
-pub returns-clause-language : goal.returns-clause-language
-returns-clause-language c =
-    let d = c.args.a.now in
-    let letters : letters_of d ≡ product c.in_ok-alphabet.alphabet = ap product (sym (c.in_ok-alphabet.ensures ∙ c.alphabet.ensures.sizes)) in
-    let final : AreFinal d c.deref.result.now = subst (λ (flags : List Bool). AreFinal d flags) (sym c.deref.ensures.value) c.in_ok-flags.ensures.final in
-    IfOk-weaker c.explore_canonical.result _ _
-    (λ stepped same w over. let is = same w (subst (λ n. IsWord n w) letters over) in
-    let iff = pairs_accept d c.requires c.deref.result.now final w in
-    ((λ yes. iff.0 (sym is ∙ yes)), (λ padded. is ∙ iff.1 padded)))
-    c.explore_canonical.ensures.language
+pub returns-then-accepts_nothing-clause-canonical : goal.returns-then-accepts_nothing-clause-canonical
+returns-then-accepts_nothing-clause-canonical c =
+    IfOk-weaker c.no_words_within.result _ _ (λ stepped is. subst IsCanonical (sym is) (IsCanonical-bare c.in_ok-alphabet.alphabet)) c.no_words_within.ensures.no_words
 
-pub returns-clause-width : goal.returns-clause-width
-returns-clause-width c =
+pub returns-then-accepts_nothing-clause-language : goal.returns-then-accepts_nothing-clause-language
+returns-then-accepts_nothing-clause-language c =
     let d = c.args.a.now in
-    let letters : product c.in_ok-alphabet.alphabet ≡ letters_of d = ap product (c.in_ok-alphabet.ensures ∙ c.alphabet.ensures.sizes) in
-    IfOk-weaker c.explore_canonical.result _ _
-    (λ stepped width. HasWidth-same (LeadAlike (pair_step d) (twice (first_of d))) (LsdPaddedAlike d) (letters_of d) stepped.width
-    (λ w v over there same. alike_from_pairs d c.requires w v same) (pairs_from_alike d c.requires)
-    (subst (λ n. HasWidth (LeadAlike (pair_step d) (twice (first_of d))) n stepped.width) letters width))
-    c.explore_canonical.ensures.width
+    let dead : IsDead d 0 = c.accepts_nothing.ensures.0 c.if-accepts_nothing.true in
+    IfOk-weaker c.no_words_within.result _ _
+    (λ stepped is w over. (
+      (λ yes. absurd (true≢false (sym yes ∙ ap (λ (e : Automaton). accepts_of e w) is ∙ bare_refuses c.in_ok-alphabet.alphabet w))),
+      (λ padded. absurd (none_padded d dead Lsd w padded)),
+    ))
+    c.no_words_within.ensures.no_words
 
-pub returns-clause-states : goal.returns-clause-states
-returns-clause-states c refused =
+pub returns-then-accepts_nothing-clause-width : goal.returns-then-accepts_nothing-clause-width
+returns-then-accepts_nothing-clause-width c =
     let d = c.args.a.now in
-    let letters : product c.in_ok-alphabet.alphabet ≡ letters_of d = ap product (c.in_ok-alphabet.ensures ∙ c.alphabet.ensures.sizes) in
-    HasApart-same (LeadAlike (pair_step d) (twice (first_of d))) (LsdPaddedAlike d) (letters_of d) (c.args.limit + 1) (pairs_from_alike d c.requires)
-    (subst (λ n. HasApart (LeadAlike (pair_step d) (twice (first_of d))) n (c.args.limit + 1)) letters (c.explore_canonical.ensures.states refused))
+    let dead : IsDead d 0 = c.accepts_nothing.ensures.0 c.if-accepts_nothing.true in
+    IfOk-weaker c.no_words_within.result _ _
+    (λ stepped one. subst (HasWidth (PaddedAlike Lsd d) (letters_of d)) (sym one) (HasWidth-one (PaddedAlike Lsd d) (letters_of d) (λ w over. LsdPaddedAlike-none d dead w [] over tt)))
+    c.no_words_within.ensures.width
+
+pub returns-then-accepts_nothing-clause-states : goal.returns-then-accepts_nothing-clause-states
+returns-then-accepts_nothing-clause-states c refused =
+    let none : c.args.limit ≡ 0 = c.no_words_within.ensures.states.0 refused in
+    let count : 1 ≡ c.args.limit + 1 = omega (arith, none) in
+    subst (HasApart (PaddedAlike Lsd c.args.a.now) (letters_of c.args.a.now)) count (HasApart-one (PaddedAlike Lsd c.args.a.now) (letters_of c.args.a.now))

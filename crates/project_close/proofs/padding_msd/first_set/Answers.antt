@@ -1,18 +1,19 @@
-use Rattle.std.proofs.Common.{◌≡◌, ℕ, List, ◌⊎◌, inl, inr, sym, ◌∙◌, subst, arith}
+use Rattle.std.proofs.Common.{◌≡◌, ℕ, List, ◌⊎◌, inl, inr, sym, ◌∙◌, subst, true≢false}
 use Rattle.std.proofs.lemmas.Result.{IfOk-weaker}
 use Rattle.digit_tuple.specs.Automaton.{Branching}
 use Rattle.digit_tuple.specs.Deterministic.{states_of}
 use Rattle.minimise.specs.Classes.{first_of}
 use Rattle.project_close.specs.PaddedSets.{AreFirst}
 use Rattle.project_close.specs.ZeroClosure.{AreAfterZeros}
+use Rattle.project_close.proofs.NoWordLemmas.{dead_from_sink, sink_from_dead}
 use Rattle.project_close.proofs.PaddedSetLemmas.{AreFirst-closure, AreFirst-none}
 use Rattle.project_close.proofs.SinkLeads.{first_cases}
 use Rattle.project_close.proofs.padding_msd.first_set.Goals as goal
 
-pub returns-then-first_state-states : goal.returns-then-first_state-states
-returns-then-first_state-states c =
+pub returns-then-accepts_nothing : goal.returns-then-accepts_nothing
+returns-then-accepts_nothing c =
     let d = c.args.a.now in
-    let sink : first_of d ≡ states_of d = omega (arith, c.first_state.ensures, c.states.ensures.value, c.if-first_state-states.true) in
+    let sink : first_of d ≡ states_of d = sink_from_dead d c.requires.canonical (c.accepts_nothing.ensures.0 c.if-accepts_nothing.true) in
     subst (λ (set : List ℕ). AreFirst d set) (sym c.new.ensures.items) (AreFirst-none d c.requires.canonical sink)
 
 pub returns : goal.returns
@@ -23,5 +24,5 @@ returns c =
     c.zero_closure.ensures
   where
     by : (first_of c.args.a.now ≡ states_of c.args.a.now) ⊎ (first_of c.args.a.now ≡ 0) → first_of c.args.a.now ≡ 0
-    by (inl sink) = absurd (c.if-first_state-states.false (c.first_state.ensures ∙ sink ∙ sym c.states.ensures.value))
+    by (inl sink) = absurd (true≢false (sym (c.accepts_nothing.ensures.1 (dead_from_sink c.args.a.now sink)) ∙ c.if-accepts_nothing.false))
     by (inr is) = is

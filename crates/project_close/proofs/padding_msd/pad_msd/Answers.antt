@@ -20,7 +20,7 @@ explore_canonical-requires c =
     let first = c.deref.result.now in
     let are : AreFirst d first = subst (λ (set : List ℕ). AreFirst d set) (sym c.deref.ensures.value) c.in_ok-first.ensures in
     record {
-      source = (
+      graph = (
         subst (λ (n : Branching). IsBranchTable (branching.letters_of n) n.states) (sym c.in_ok-nfa.ensures) (IsBranchTable-as d c.requires.table),
         subst (λ (n : Branching). IsStateList n first) (sym c.in_ok-nfa.ensures) (IsStateList-first d c.requires first are),
       );

@@ -1,0 +1,143 @@
+-- The edges from a pair: one by the zero letter, and those of its second state by the other letters.
+use Rattle.std.proofs.Common.{◌≡◌, ◌≢◌, ◌==◌, ◌&&◌, ℕ, zero, suc, ◌+◌, ◌<◌, Bool, true, false, not, cond, if◌then◌else◌, List, [], ◌∷◌, ◌++◌, filter, map, take, length, get_or, slice_index, Option, None, Some, unwrap_or, refl, sym, ap, ◌∙◌, subst, arith}
+use Rattle.std.specs.List.{All, AllPairs}
+use Rattle.std.specs.Option.{IfSome}
+use Rattle.std.proofs.lemmas.Bool.{eqb-true, ne_eqb}
+use Rattle.std.proofs.lemmas.Bool.Decides.{Decides-eqb}
+use Rattle.std.proofs.lemmas.List.{append-nil, append_assoc, get_or-map, length-map, map-append, take_more}
+use Rattle.std.proofs.lemmas.List.Elements.{All-append, All-cons, All-filter, All-map, All-nil, filter-append, filter_passes}
+use Rattle.std.proofs.lemmas.List.Kept.{AllPairs-cons, AllPairs-filter}
+use Rattle.digit_tuple.specs.declared.edges.Edge.{Edge}
+use Rattle.digit_tuple.specs.Deterministic as deterministic
+use Rattle.digit_tuple.specs.Deterministic.{Automaton, IsTable, edges_of, letters_of, states_of, step_of, target_by}
+use Rattle.digit_tuple.specs.Keys.{KeyEdge, AreKeyEdges, IsByEarlier, key_by}
+use Rattle.digit_tuple.proofs.DfaLemmas.{target_by-in_range}
+use Rattle.minimise.specs.Classes.{next_of}
+use Rattle.minimise.proofs.SinkLemmas.{row_of}
+use Rattle.project_close.specs.PaddedPairs.{are_sinks, edges_by_others, edges_by_zero, is_by_other, pair_after, pair_edge, some_pair, twice}
+
+-- one sink is two
+pub are_sinks-one : (d : Automaton) → are_sinks d (states_of d) (states_of d) ≡ true
+are_sinks-one d = ap (λ (b : Bool). b && b) ((Decides-eqb (states_of d) (states_of d)).1 refl)
+
+-- a state is no sink
+pub not_sinks : (d : Automaton) (p q : ℕ) → p ≢ states_of d → are_sinks d p q ≡ false
+not_sinks d p q other = ap (λ (b : Bool). b && (q == states_of d)) (ne_eqb p (states_of d) other)
+
+positive : (e : Edge) → is_by_other e ≡ true → 0 < e.letter
+positive e is = by e.letter refl
+  where
+    by : (a : ℕ) → e.letter ≡ a → 0 < e.letter
+    by zero same = let no : false ≡ true = sym (ap (λ (x : ℕ). not (x == 0)) same) ∙ is in cc
+    by (suc a) same = omega (arith, same)
+
+others-in_range : (letters : ℕ) (es : List Edge) → All (λ e. e.letter < letters) es → All (λ k. k.letter < letters) (edges_by_others es)
+others-in_range letters es small = All-map (λ k. k.letter < letters) pair_edge (filter is_by_other es) (All-filter is_by_other (λ e. e.letter < letters) es small)
+
+others-positive : (es : List Edge) → All (λ k. 0 < k.letter) (edges_by_others es)
+others-positive es = All-map (λ k. 0 < k.letter) pair_edge (filter is_by_other es) (λ k d within. positive (get_or (filter is_by_other es) k d) (filter_passes is_by_other es k d within))
+
+others-ascending : (es : List Edge) → AllPairs deterministic.IsByEarlier es → AllPairs IsByEarlier (edges_by_others es)
+others-ascending es up i j d before within =
+    let fs : List Edge = filter is_by_other es in
+    let e : Edge = record { letter = 0; target = 0 } in
+    let long : length (edges_by_others es) ≡ length fs = length-map fs pair_edge in
+    let inside : j < length fs = omega (arith, within, long) in
+    let one : get_or (edges_by_others es) i d ≡ pair_edge (get_or fs i e) = get_or-map pair_edge fs i e d (omega (arith, before, inside)) in
+    let two : get_or (edges_by_others es) j d ≡ pair_edge (get_or fs j e) = get_or-map pair_edge fs j e d inside in
+    let less : (get_or fs i e).letter < (get_or fs j e).letter = AllPairs-filter deterministic.IsByEarlier is_by_other es up i j e before inside in
+    omega (arith, ap (λ (k : KeyEdge). k.letter) one, ap (λ (k : KeyEdge). k.letter) two, less)
+
+-- the pair that a letter other than zero leads to
+abbrev pair_to : Option ℕ → Option (List ℕ)
+pair_to None = None
+pair_to (Some t) = Some (twice t)
+
+key_by-others : (es : List Edge) (a : ℕ) → key_by (edges_by_others es) (suc a) ≡ pair_to (target_by es (suc a))
+key_by-others [] a = refl
+key_by-others (e ∷ es) a = by (e.letter == 0) refl (key_by-others es a)
+  where
+    same : (b : Bool) → (if b then Some (twice e.target) else pair_to (target_by es (suc a))) ≡ pair_to (if b then Some e.target else target_by es (suc a))
+    same true = refl
+    same false = refl
+
+    by : (b : Bool) → (e.letter == 0) ≡ b → key_by (edges_by_others es) (suc a) ≡ pair_to (target_by es (suc a))
+        → key_by (map pair_edge (cond (not b) (e ∷ filter is_by_other es) (filter is_by_other es))) (suc a) ≡ pair_to (target_by (e ∷ es) (suc a))
+    by true is rest =
+        let zero_is : e.letter ≡ 0 = eqb-true e.letter 0 is in
+        rest ∙ sym (ap (λ (b : Bool). pair_to (if b then Some e.target else target_by es (suc a))) (ne_eqb e.letter (suc a) (λ other. absurd (omega (arith, zero_is, other)))))
+    by false is rest = ap (λ (r : Option (List ℕ)). if e.letter == suc a then Some (twice e.target) else r) rest ∙ same (e.letter == suc a)
+
+key_by-others_zero : (es : List Edge) → key_by (edges_by_others es) 0 ≡ None
+key_by-others_zero [] = refl
+key_by-others_zero (e ∷ es) = by (e.letter == 0) refl (key_by-others_zero es)
+  where
+    by : (b : Bool) → (e.letter == 0) ≡ b → key_by (edges_by_others es) 0 ≡ None → key_by (map pair_edge (cond (not b) (e ∷ filter is_by_other es) (filter is_by_other es))) 0 ≡ None
+    by true is rest = rest
+    by false is rest = ap (λ b. if b then Some (twice e.target) else key_by (edges_by_others es) 0) is ∙ rest
+
+-- one more edge of the state
+pub edges_by_others-more : (es : List Edge) (n : ℕ) (d : Edge) → n < length es
+    → edges_by_others (take (n + 1) es) ≡ edges_by_others (take n es) ++ map pair_edge (cond (is_by_other (get_or es n d)) (get_or es n d ∷ []) [])
+edges_by_others-more es n d within =
+    ap edges_by_others (take_more es n d within)
+    ∙ ap (map pair_edge) (filter-append is_by_other (take n es) (get_or es n d ∷ []))
+    ∙ map-append pair_edge (filter is_by_other (take n es)) (cond (is_by_other (get_or es n d)) (get_or es n d ∷ []) [])
+
+module _ (d : Automaton) (table : IsTable (letters_of d) d.states) (key : List ℕ) where
+  abbrev stripped : ℕ
+  stripped = slice_index key 0
+
+  abbrev whole : ℕ
+  whole = slice_index key 1
+
+  abbrev others : List KeyEdge
+  others = edges_by_others (edges_of d whole)
+
+  -- where a letter other than zero leads
+  lead-other : (a : ℕ) → pair_to (step_of d whole (suc a)) ≡ pair_after d key (suc a)
+  lead-other a = by (step_of d whole (suc a)) (target_by-in_range (letters_of d) (states_of d) (edges_of d whole) (suc a) (row_of d table whole).in_range)
+    where
+      by : (o : Option ℕ) → IfSome o (λ t. t < states_of d) → pair_to o ≡ some_pair d (unwrap_or o (states_of d)) (unwrap_or o (states_of d))
+      by None inside = ap (λ b. if b then None else Some (twice (states_of d))) (sym (are_sinks-one d))
+      by (Some t) inside = ap (λ b. if b then None else Some (twice t)) (sym (not_sinks d t t (λ same. absurd (omega (arith, inside, same)))))
+
+  -- the edges from the pair
+  pub AreKeyEdges-pair : (letters : ℕ) → letters ≡ letters_of d → AreKeyEdges letters (pair_after d key) (edges_by_zero d letters key ++ others)
+  AreKeyEdges-pair zero none = record {
+    in_range = others-in_range zero (edges_of d whole) (λ k e within. let low = ((row_of d table whole).in_range k e within).0 in omega (arith, low, none));
+    ascending = others-ascending (edges_of d whole) (row_of d table whole).ascending;
+    lead = λ a small. absurd (omega (arith, small));
+  }
+  AreKeyEdges-pair (suc letters) is = by (are_sinks d stripped (next_of d whole 0)) refl
+    where
+      small : All (λ k. k.letter < suc letters) others
+      small = others-in_range (suc letters) (edges_of d whole) (λ k e within. let low = ((row_of d table whole).in_range k e within).0 in omega (arith, low, is))
+
+      up : AllPairs IsByEarlier others
+      up = others-ascending (edges_of d whole) (row_of d table whole).ascending
+
+      zero_edge : KeyEdge
+      zero_edge = record { letter = 0; key = stripped ∷ next_of d whole 0 ∷ [] }
+
+      by : (b : Bool) → are_sinks d stripped (next_of d whole 0) ≡ b → AreKeyEdges (suc letters) (pair_after d key) ((if b then [] else zero_edge ∷ []) ++ others)
+      by true sinks = record {
+        in_range = small;
+        ascending = up;
+        lead = lead;
+      }
+        where
+          lead : (a : ℕ) → a < suc letters → key_by others a ≡ pair_after d key a
+          lead zero low = key_by-others_zero (edges_of d whole) ∙ ap (λ b. if b then None else Some (stripped ∷ next_of d whole 0 ∷ [])) (sym sinks)
+          lead (suc a) low = key_by-others (edges_of d whole) a ∙ lead-other a
+      by false live = record {
+        in_range = All-cons (λ k. k.letter < suc letters) zero_edge others (omega arith) small;
+        ascending = AllPairs-cons IsByEarlier zero_edge others (others-positive (edges_of d whole)) up;
+        lead = lead;
+      }
+        where
+          lead : (a : ℕ) → a < suc letters → key_by (zero_edge ∷ others) a ≡ pair_after d key a
+          lead zero low = ap (λ b. if b then None else Some (stripped ∷ next_of d whole 0 ∷ [])) (sym live)
+          lead (suc a) low =
+              ap (λ (b : Bool). if b then Some zero_edge.key else key_by others (suc a)) (ne_eqb 0 (suc a) (λ same. absurd (omega (arith, same))))
+              ∙ key_by-others (edges_of d whole) a ∙ lead-other a
