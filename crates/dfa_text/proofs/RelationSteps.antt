@@ -1,14 +1,13 @@
 -- The lines of a state's letters are those of its edges.
-use Rattle.std.proofs.Common.{◌≡◌, inl, inr, ℕ, zero, suc, ◌+◌, ◌<◌, ◌≤◌, List, [], ◌∷◌, ◌++◌, map, length, take, get_or, ℤ, refl, sym, ap, ◌∙◌, subst, arith, codes}
+use Rattle.std.proofs.Common.{◌≡◌, inl, inr, ℕ, zero, suc, ◌+◌, ◌<◌, ◌≤◌, List, [], ◌∷◌, ◌++◌, map, get_or, ℤ, refl, sym, ap, ◌∙◌, arith, codes}
 use Rattle.std.specs.List.{All, AllPairs, flat_map, range_with_len}
 use Rattle.std.proofs.lemmas.Bool.{cases_order}
-use Rattle.std.proofs.lemmas.List.{take_all}
 use Rattle.std.proofs.lemmas.List.Folds.{flat_map-map}
 use Rattle.digit_tuple.specs.declared.edges.Edge.{Edge}
 use Rattle.digit_tuple.specs.Deterministic.{Automaton, IsRow, IsByEarlier, target_by, edges_of, letters_of}
 use Rattle.digit_tuple.proofs.DfaLemmas.{target_by-first, target_by-other, target_by-none}
 use Rattle.dfa_text.specs.Parts.{text_of_lines}
-use Rattle.dfa_text.specs.RelationText.{tuple_of, step_line, step_lines, steps_lines}
+use Rattle.dfa_text.specs.RelationText.{tuple_of, step_line, step_lines, steps_lines, edge_text}
 
 -- the lines of n letters from one on, where a letter has the tuple and leads where the edges say
 lines_by : (ℕ → List ℤ) → List Edge → ℕ → ℕ → List (List ℕ)
@@ -53,18 +52,9 @@ lines_of_edges t a (suc n) (e ∷ es) up range =
       | inr (inr more) ↦ absurd (omega arith)
     ]
 
--- the line of an edge, and its end
-abbrev pub edge_text : List (List ℤ) → Edge → List ℕ
-edge_text sets e = step_line (tuple_of sets e.letter) e.target ++ codes "\n"
-
-steps_text : (sets : List (List ℤ)) (d : Automaton) (q states : ℕ) → IsRow (letters_of d) states (edges_of d q) → flat_map (edge_text sets) (edges_of d q) ≡ text_of_lines (steps_lines sets d q)
+-- the lines of a state's edges are those of its letters
+pub steps_text : (sets : List (List ℤ)) (d : Automaton) (q states : ℕ) → IsRow (letters_of d) states (edges_of d q) → flat_map (edge_text sets) (edges_of d q) ≡ text_of_lines (steps_lines sets d q)
 unfolding lines_by
 steps_text sets d q states row =
     sym (ap text_of_lines (lines_of_edges (tuple_of sets) 0 (letters_of d) (edges_of d q) row.ascending (λ k x lt. let high : (get_or (edges_of d q) k x).letter < letters_of d = (row.in_range k x lt).0 in (omega arith, omega arith)))
     ∙ flat_map-map (λ line. line ++ codes "\n") (λ e. step_line (tuple_of sets e.letter) e.target) (edges_of d q))
-
--- when the lines of all edges are printed
-pub steps_printed : (old out : List ℕ) (sets : List (List ℤ)) (d : Automaton) (q states : ℕ) (edges : List Edge) (i : ℕ) → edges ≡ edges_of d q → IsRow (letters_of d) states edges → length edges ≤ i → out ≡ old ++ flat_map (edge_text sets) (take i edges) → out ≡ old ++ text_of_lines (steps_lines sets d q)
-steps_printed old out sets d q states edges i same row done h =
-    h ∙ ap (λ es. old ++ flat_map (edge_text sets) es) (take_all i edges done ∙ same)
-    ∙ ap (λ t. old ++ t) (steps_text sets d q states (subst (λ (es : List Edge). IsRow (letters_of d) states es) same row))

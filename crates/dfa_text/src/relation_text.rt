@@ -1,14 +1,14 @@
 //! The text of a deterministic automaton.
 
 ghost use Rattle.std.specs.Prelude.{◌≡◌, ◌<◌, ◌==◌, ℕ, ℤ, pos, List, [], ◌++◌, length, slice_index_or, codes, decimal, if◌then◌else◌, OnOk, IfOk};
-ghost use Rattle.std.specs.List.{join_by};
+ghost use Rattle.std.specs.List.{All, flat_map, join_by};
 ghost use Rattle.std.specs.Fmt.{signed_decimal};
-ghost use Rattle.digit_tuple.specs.Deterministic.{letters_of, states_of};
+ghost use Rattle.digit_tuple.specs.Deterministic.{states_of};
 ghost use Rattle.digit_tuple.specs.Letters.{product, AreDigits};
 ghost use Rattle.digit_tuple.specs.Sets.{sizes_of, members_at};
 ghost use Rattle.digit_tuple.specs.Headers.{sets_of};
 ghost use Rattle.dfa_text.specs.Parts.{text_of_lines};
-ghost use Rattle.dfa_text.specs.RelationText.{tuple_of, step_line, steps_lines, state_lines, relation_text};
+ghost use Rattle.dfa_text.specs.RelationText.{edge_text, step_line, steps_lines, state_lines, relation_text};
 
 use crate::header_text::push_header;
 use crate::numbers::{push_integer, push_number};
@@ -28,11 +28,23 @@ pub fn print_relation(alloc: Global, header: &Header, d: &Dfa) -> Result<Vec<u8>
 {
     let mut out = Vec::new(alloc);
     push_header(&mut out, header)?;
-    let mut places = vec![in alloc; 0; d.alphabet().tracks() as usize]?;
+    let mut scratch = Scratch {
+        places: vec![in alloc; 0; d.alphabet().tracks() as usize]?,
+        row: Vec::new(alloc),
+    };
     for state in 0..d.states() {
-        push_state(&mut out, header, d, &mut places, state)?;
+        push_state(&mut out, header, d, &mut scratch, state)?;
     }
     Ok(out)
+}
+
+// What one state after another is printed from.
+#[derive(Drop)]
+struct Scratch {
+    // A place for each track.
+    places: Vec<u32>,
+    // The edges of a state.
+    row: Vec<Edge>,
 }
 
 // A blank line, the state's number and output, and the lines of its letters.
@@ -40,41 +52,60 @@ fn push_state(
     out: &mut Vec<u8>,
     header: &Header,
     d: &Dfa,
-    places: &mut [u32],
+    scratch: &mut Scratch,
     state: u32,
 ) -> Result<(), OutOfMemory>
     requires sizes { d.now.sizes ≡ sizes_of (sets_of header.now) }
-    requires tracks { length places.old ≡ length d.now.sizes }
+    requires tracks { length scratch.old.places.items ≡ length d.now.sizes }
     requires state { state < states_of d.now }
-    ensures { OnOk result (out.new.items ≡ out.old.items ++ text_of_lines (state_lines (sets_of header.now) d.now state)) }
+    ensures text { OnOk result (out.new.items ≡ out.old.items ++ text_of_lines (state_lines (sets_of header.now) d.now state)) }
+    ensures tracks { OnOk result (length scratch.new.places.items ≡ length d.now.sizes) }
 {
     out.push(b'\n')?;
     push_number(out, state)?;
     out.extend_from_slice(if d.accepting(state) { b" 1\n" } else { b" 0\n" })?;
-    push_steps(out, header, d, places, state)
+    push_lines(out, header, d, scratch, state)
 }
 
 // A line for each letter that leads anywhere.
-fn push_steps(
+fn push_lines(
     out: &mut Vec<u8>,
     header: &Header,
     d: &Dfa,
-    places: &mut [u32],
+    scratch: &mut Scratch,
     state: u32,
 ) -> Result<(), OutOfMemory>
     requires sizes { d.now.sizes ≡ sizes_of (sets_of header.now) }
-    requires tracks { length places.old ≡ length d.now.sizes }
+    requires tracks { length scratch.old.places.items ≡ length d.now.sizes }
     requires state { state < states_of d.now }
-    ensures { OnOk result (out.new.items ≡ out.old.items ++ text_of_lines (steps_lines (sets_of header.now) d.now state)) }
+    ensures text { OnOk result (out.new.items ≡ out.old.items ++ text_of_lines (steps_lines (sets_of header.now) d.now state)) }
+    ensures tracks { OnOk result (length scratch.new.places.items ≡ length d.now.sizes) }
 {
-    for edge in d.edges(state) {
-        push_step(out, header, d.alphabet(), places, edge)?;
+    d.edges_into(state, &mut scratch.row)?;
+    push_edges(out, header, d.alphabet(), &mut scratch.places, &scratch.row)
+}
+
+// The lines of edges.
+fn push_edges(
+    out: &mut Vec<u8>,
+    header: &Header,
+    alphabet: &Alphabet,
+    places: &mut [u32],
+    edges: &[Edge],
+) -> Result<(), OutOfMemory>
+    requires sizes { alphabet.now ≡ sizes_of (sets_of header.now) }
+    requires tracks { length places.old ≡ length alphabet.now }
+    requires letters { All (λ edge. edge.letter < product alphabet.now) edges.now }
+    ensures { OnOk result (out.new.items ≡ out.old.items ++ flat_map (edge_text (sets_of header.now)) edges.now) }
+{
+    for edge in edges {
+        push_edge(out, header, alphabet, places, edge)?;
     }
     Ok(())
 }
 
 // The line of an edge.
-fn push_step(
+fn push_edge(
     out: &mut Vec<u8>,
     header: &Header,
     alphabet: &Alphabet,
@@ -84,7 +115,7 @@ fn push_step(
     requires sizes { alphabet.now ≡ sizes_of (sets_of header.now) }
     requires tracks { length places.old ≡ length alphabet.now }
     requires letter { edge.now.letter < product alphabet.now }
-    ensures { OnOk result (out.new.items ≡ out.old.items ++ (step_line (tuple_of (sets_of header.now) edge.now.letter) edge.now.target ++ codes "\n")) }
+    ensures { OnOk result (out.new.items ≡ out.old.items ++ edge_text (sets_of header.now) edge.now) }
 {
     alphabet.digits_of(edge.letter, places);
     push_line(out, header, places, edge.target)

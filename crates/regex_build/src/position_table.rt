@@ -49,10 +49,7 @@ fn alphabet_of(alloc: Global, sets: &[LetterSet]) -> Result<Alphabet, OutOfMemor
     for set in sets {
         sizes.push(set.len())?;
     }
-    match Alphabet::new(alloc, &sizes) {
-        Ok(alphabet) => Ok(alphabet),
-        Err(_) => Err(OutOfMemory),
-    }
+    Alphabet::fitting(alloc, &sizes)
 }
 
 /// The table of an expression's letters accepts the words that the expression matches, and no others.
