@@ -4,3 +4,10 @@ pub mod SizeLemmas
 pub mod ReadingLemmas
 pub mod ProductLemmas
 pub mod LanguageLemmas
+pub mod PartIndexLemmas
+pub mod SinkKeyLemmas
+pub mod LeadingLemmas
+pub mod FoundLetters
+pub mod RuleLemmas
+pub mod WidthLaws
+pub mod NoWordLemmas

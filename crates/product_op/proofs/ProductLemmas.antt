@@ -1,13 +1,15 @@
 -- Products, complements and valid parts as automata that read side by side.
-use Rattle.std.proofs.Common.{◌≡◌, ℕ, ◌+◌, ◌<◌, ◌≤◌, Bool, true, false, not, ◌&&◌, List, [], ◌∷◌, ◌++◌, length, map, refl, sym, ap, ◌∙◌, subst, arith, if◌then◌else◌}
+use Rattle.std.proofs.Common.{◌≡◌, ℕ, ◌+◌, ◌<◌, ◌≤◌, Bool, true, false, not, ◌&&◌, List, [], ◌∷◌, ◌++◌, length, map, refl, sym, ap, ◌∙◌, subst, arith, IsTrue, if◌then◌else◌}
 use Rattle.std.specs.List.{All, Contains, range_with_len}
 use Rattle.std.proofs.lemmas.List.{length-map, append_assoc}
 use Rattle.std.proofs.lemmas.List.FromFn.{map-range_with_len_more}
 use Rattle.std.proofs.lemmas.List.Elements.{All-cons}
 use Rattle.digit_tuple.specs.Letters.{product, IsWord}
 use Rattle.digit_tuple.specs.Deterministic.{Automaton, accepts_of}
+use Rattle.digit_tuple.specs.Width.{HasApart, HasWidth}
+use Rattle.digit_tuple.proofs.WidthLemmas.{HasApart-same, HasWidth-same}
 use Rattle.digit_tuple.specs.Names.{places_of}
-use Rattle.digit_tuple.specs.Parts.{picked, parts_of_letters}
+use Rattle.digit_tuple.specs.Parts.{picked}
 use Rattle.digit_tuple.proofs.NameLemmas.{places_of-within}
 use Rattle.minimise.specs.Canonical.{IsCanonical}
 use Rattle.minimise.specs.Tracked.{NamedAutomaton, IsTracked}
@@ -15,24 +17,25 @@ use Rattle.product_op.specs.declared.op.Op.{Op}
 use Rattle.product_op.specs.declared.rule.Rule.{Rule}
 use Rattle.product_op.specs.declared.rule.Rule.TheVariants.{Both, NotFirst}
 use Rattle.product_op.specs.declared.rule.Rule.TheVariants as rules
-use Rattle.product_op.specs.declared.readers.Reader.{Reader}
+use Rattle.product_op.specs.declared.reader.Reader.{Reader}
 use Rattle.product_op.specs.Connectives.{connective, among_valid}
 use Rattle.digit_tuple.specs.Names.{AreJoint, joint_names}
 use Rattle.product_op.specs.Tracks.{AgreeOnShared, joint_size, joint_sizes}
-use Rattle.product_op.specs.Validity.{language_at, is_valid, TracksAlike}
+use Rattle.product_op.specs.Validity.{AreLanguages, is_valid, TracksAlike}
 use Rattle.product_op.specs.Products.{joint_part, in_product, ProductAlike, in_complement, in_valid_part, ValidityAlike}
 use Rattle.product_op.specs.Readings.{Reading, IsReading, reading_in, readings_in, AreSideBySide, AreAlike, word_read, flags_of, all_true, combined, arguments_of}
 use Rattle.product_op.specs.TrackReadings.{read_on, whole_reading, track_reading, track_readings, counted_of, argument_reading, product_readings, validity_readings, AllFitTracks}
 use Rattle.digit_tuple.proofs.JointNames.{AreJoint-joint_names}
 use Rattle.product_op.proofs.SizeLemmas.{joint_size-first, joint_size-second, picked_sizes}
-use Rattle.product_op.proofs.ReadingLemmas.{IsReading-on, IsReading-whole, AreReadings-tracks, word_read-part, word_read-all, SameAfter-words, all_true-valid, tracks_from_alike, alike_from_tracks, alike_cons, alike_head, alike_tail}
+use Rattle.product_op.proofs.ReadingLemmas.{AllFitTracks-languages, IsReading-on, IsReading-whole, AreReadings-tracks, word_read-part, word_read-all, SameAfter-words, all_true-valid, tracks_from_alike, alike_from_tracks, alike_cons, alike_head, alike_tail}
 
-pub AllFitTracks-counted : (op : Op) (sizes : List ℕ) (languages : List Automaton) → AllFitTracks sizes languages → AllFitTracks sizes (counted_of op languages)
-AllFitTracks-counted op sizes languages fit = by (among_valid op)
+-- where languages count, they fit the tracks
+pub AllFitTracks-counted : (op : Op) (sizes : List ℕ) (languages : List Automaton) → (IsTrue (among_valid op) → AreLanguages sizes languages) → AllFitTracks sizes (counted_of op languages)
+AllFitTracks-counted op sizes languages are = by (among_valid op) are
   where
-    by : (b : Bool) → AllFitTracks sizes (if b then languages else [])
-    by true track less = fit track less
-    by false track less = absurd (omega (arith, less))
+    by : (b : Bool) → (IsTrue b → AreLanguages sizes languages) → AllFitTracks sizes (if b then languages else [])
+    by true are_languages = AllFitTracks-languages sizes languages (are_languages refl)
+    by false are_languages = λ track less. absurd (omega (arith, less))
 
 module _ (op : Op) (a b : NamedAutomaton) (languages : List Automaton) where
   valid_counted : (w : List ℕ) → IsWord (product (joint_sizes a b)) w → (c : Bool)
@@ -139,14 +142,14 @@ module _ (a b : NamedAutomaton) (is_a : IsTracked a) (is_b : IsTracked b) (agree
     pub reads_second : ReadsOn names sizes b
     reads_second = moved b (record { count = length-joint; there = joint.all_second; sizes_are = picked-second })
 
-  pub AreSideBySide-product : (op : Op) (languages : List Automaton) → AllFitTracks (joint_sizes a b) languages → AreSideBySide (product (joint_sizes a b)) (product_readings op a b languages) (Both op)
+  pub AreSideBySide-product : (op : Op) (languages : List Automaton) → AllFitTracks (joint_sizes a b) (counted_of op languages) → AreSideBySide (product (joint_sizes a b)) (product_readings op a b languages) (Both op)
   AreSideBySide-product op languages fit = record {
     readings_are =
         All-cons (IsReading (product (joint_sizes a b))) (argument_reading a b a) (argument_reading a b b ∷ track_readings (joint_sizes a b) (counted_of op languages))
         (IsReading-on (joint_sizes a b) (places_of (joint_names a.names b.names) a.names) a.automaton (places_within a joint.all_first) (sym picked-first) is_a.canonical)
         (All-cons (IsReading (product (joint_sizes a b))) (argument_reading a b b) (track_readings (joint_sizes a b) (counted_of op languages))
         (IsReading-on (joint_sizes a b) (places_of (joint_names a.names b.names) b.names) b.automaton (places_within b joint.all_second) (sym picked-second) is_b.canonical)
-        (AreReadings-tracks (joint_sizes a b) (counted_of op languages) (AllFitTracks-counted op (joint_sizes a b) languages fit)));
+        (AreReadings-tracks (joint_sizes a b) (counted_of op languages) fit));
     enough = omega arith;
   }
 
@@ -156,6 +159,47 @@ AreSideBySide-validity d canonical languages rule fit few = record {
   readings_are = All-cons (IsReading (product d.sizes)) (whole_reading d) (track_readings d.sizes languages) (IsReading-whole d canonical) (AreReadings-tracks d.sizes languages fit);
   enough = omega (arith, few);
 }
+
+-- what is known of the readings that the code made, in the words of products
+module _ (op : Op) (a b : NamedAutomaton) (languages : List Automaton) (made : List Reading) (sizes : List ℕ) (are : made ≡ product_readings op a b languages) (same : sizes ≡ joint_sizes a b) where
+  pub AreSideBySide-made : AreSideBySide (product (joint_sizes a b)) (product_readings op a b languages) (Both op) → AreSideBySide (product sizes) made (Both op)
+  AreSideBySide-made side = subst (λ rs. AreSideBySide (product sizes) rs (Both op)) (sym are) (subst (λ ss. AreSideBySide (product ss) (product_readings op a b languages) (Both op)) (sym same) side)
+
+  pub product-language : (accepts : List ℕ → Bool) → ((w : List ℕ) → IsWord (product sizes) w → accepts w ≡ combined (Both op) (flags_of made w))
+      → (w : List ℕ) → IsWord (product (joint_sizes a b)) w → accepts w ≡ in_product op a b languages w
+  product-language accepts says w over =
+      says w (subst (λ ss. IsWord (product ss) w) (sym same) over) ∙ ap (λ rs. combined (Both op) (flags_of rs w)) are ∙ product_flags op a b languages w over
+
+  pub product-width : (k : ℕ) → HasWidth (AreAlike made) (product sizes) k → HasWidth (ProductAlike op a b languages) (product (joint_sizes a b)) k
+  product-width k width =
+      HasWidth-same (AreAlike (product_readings op a b languages)) (ProductAlike op a b languages) (product (joint_sizes a b)) k (product_from_alike op a b languages) (alike_from_product op a b languages)
+      (subst (λ rs. HasWidth (AreAlike rs) (product (joint_sizes a b)) k) are (subst (λ ss. HasWidth (AreAlike made) (product ss) k) same width))
+
+  pub product-apart : (k : ℕ) → HasApart (AreAlike made) (product sizes) k → HasApart (ProductAlike op a b languages) (product (joint_sizes a b)) k
+  product-apart k apart =
+      HasApart-same (AreAlike (product_readings op a b languages)) (ProductAlike op a b languages) (product (joint_sizes a b)) k (alike_from_product op a b languages)
+      (subst (λ rs. HasApart (AreAlike rs) (product (joint_sizes a b)) k) are (subst (λ ss. HasApart (AreAlike made) (product ss) k) same apart))
+
+-- and in those of valid parts
+module _ (a : NamedAutomaton) (languages : List Automaton) (rule : Rule) (made : List Reading) (sizes : List ℕ) (are : made ≡ validity_readings a.automaton languages) (same : sizes ≡ a.automaton.sizes) where
+  pub AreSideBySide-valid : IsCanonical a.automaton → AllFitTracks a.automaton.sizes languages → arguments_of rule ≤ 1 → AreSideBySide (product sizes) made rule
+  AreSideBySide-valid canonical fit few =
+      subst (λ rs. AreSideBySide (product sizes) rs rule) (sym are)
+      (subst (λ ss. AreSideBySide (product ss) (validity_readings a.automaton languages) rule) (sym same) (AreSideBySide-validity a.automaton canonical languages rule fit few))
+
+  pub validity-language : (accepts : List ℕ → Bool) → ((w : List ℕ) → IsWord (product sizes) w → accepts w ≡ combined rule (flags_of made w))
+      → (w : List ℕ) → IsWord (product a.automaton.sizes) w → accepts w ≡ combined rule (flags_of (validity_readings a.automaton languages) w)
+  validity-language accepts says w over = says w (subst (λ ss. IsWord (product ss) w) (sym same) over) ∙ ap (λ rs. combined rule (flags_of rs w)) are
+
+  pub validity-width : (k : ℕ) → HasWidth (AreAlike made) (product sizes) k → HasWidth (ValidityAlike a languages) (product a.automaton.sizes) k
+  validity-width k width =
+      HasWidth-same (AreAlike (validity_readings a.automaton languages)) (ValidityAlike a languages) (product a.automaton.sizes) k (validity_from_alike a languages) (alike_from_validity a languages)
+      (subst (λ rs. HasWidth (AreAlike rs) (product a.automaton.sizes) k) are (subst (λ ss. HasWidth (AreAlike made) (product ss) k) same width))
+
+  pub validity-apart : (k : ℕ) → HasApart (AreAlike made) (product sizes) k → HasApart (ValidityAlike a languages) (product a.automaton.sizes) k
+  validity-apart k apart =
+      HasApart-same (AreAlike (validity_readings a.automaton languages)) (ValidityAlike a languages) (product a.automaton.sizes) k (alike_from_validity a languages)
+      (subst (λ rs. HasApart (AreAlike rs) (product a.automaton.sizes) k) are (subst (λ ss. HasApart (AreAlike made) (product ss) k) same apart))
 
 -- the readers of the code, when those of both arguments and of the languages were added
 pub product_readings-made : (a b : NamedAutomaton) (languages : List Automaton) (r s : Reader) (items : List Reader) (made : List Reading) (ns ms : List (List ℕ)) (sizes : List ℕ)
@@ -180,13 +224,6 @@ validity_readings-made d languages r items made sizes same whole one all =
     all ∙ ap (λ rs. readings_in rs ++ track_readings sizes languages) one
     ∙ ap (λ x. x ∷ track_readings sizes languages) whole
     ∙ ap (λ ss. whole_reading d ∷ track_readings ss languages) same
-
--- the reader of a language in the code
-pub track_reading-made : (sizes : List ℕ) (languages : List Automaton) (track : ℕ) (d : Automaton) (parts : List ℕ) → d ≡ language_at languages track → parts ≡ parts_of_letters sizes (track ∷ [])
-    → (let r : Reading = record { automaton = d; parts = parts } in r) ≡ track_reading sizes languages track
-track_reading-made sizes languages track d parts same are =
-    ap (λ (x : Automaton). let r : Reading = record { automaton = x; parts = parts } in r) same
-    ∙ ap (λ (ps : List ℕ). let r : Reading = record { automaton = language_at languages track; parts = ps } in r) are
 
 -- one language more
 pub track_readings_more : (front : List Reading) (sizes : List ℕ) (languages : List Automaton) (track : ℕ)

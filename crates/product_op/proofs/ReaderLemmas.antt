@@ -5,7 +5,7 @@ use Rattle.std.proofs.lemmas.List.{get_or-map, length-map, at_drop_more, at_drop
 use Rattle.std.proofs.lemmas.List.FromFn.{length-map-range_with_len, get_or-map-range_with_len, map-range_with_len_more}
 use Rattle.digit_tuple.specs.Deterministic.{accepting_of}
 use Rattle.minimise.specs.Classes.{next_of, first_of}
-use Rattle.product_op.specs.declared.readers.Reader.{Reader}
+use Rattle.product_op.specs.declared.reader.Reader.{Reader}
 use Rattle.product_op.specs.Readings.{Reading, no_reading, reading_in, readings_in, reading_at, part_read, state_at, first_key, flags_at, flag_at, all_true}
 
 pub reading_at-reader : (readers : List Reader) (i : ℕ) (r : Reader) → i < length readers → r ≡ get_or readers i r → reading_at (readings_in readers) i ≡ reading_in r
@@ -27,7 +27,7 @@ abbrev pub next_states_to : List Reading → List ℕ → ℕ → ℕ → List �
 next_states_to rs key a count = map (λ i. next_of (reading_at rs i).automaton (state_at key i) (part_read (reading_at rs i) a)) (range_with_len 0 count)
 
 pub next_states_more : (readers : List Reader) (key : List ℕ) (a i : ℕ) (r : Reader) → i < length readers → r ≡ get_or readers i r
-    → next_states_to (readings_in readers) key a (i + 1) ≡ next_states_to (readings_in readers) key a i ++ next_of r.dfa.now (state_at key i) (get_or r.parts.items a 0) ∷ []
+    → next_states_to (readings_in readers) key a (i + 1) ≡ next_states_to (readings_in readers) key a i ++ next_of r.dfa.now (state_at key i) (get_or r.parts a 0) ∷ []
 next_states_more readers key a i r within is =
     map-range_with_len_more (λ j. next_of (reading_at (readings_in readers) j).automaton (state_at key j) (part_read (reading_at (readings_in readers) j) a)) 0 i i (omega arith)
     ∙ ap (λ (x : Reading). next_states_to (readings_in readers) key a i ++ next_of x.automaton (state_at key i) (part_read x a) ∷ []) (reading_at-reader readers i r within is)

@@ -4,8 +4,8 @@ use Rattle.std.specs.List.{All, list_all, range_with_len}
 use Rattle.std.proofs.lemmas.List.FromFn.{length-map-range_with_len, get_or-map-range_with_len}
 use Rattle.std.proofs.lemmas.List.Elements.{All-nil, All-cons, All-from_get_or}
 use Rattle.digit_tuple.specs.Letters.{product, IsWord}
-use Rattle.digit_tuple.specs.Deterministic.{Automaton, letters_of, accepts_of}
-use Rattle.digit_tuple.specs.Parts.{picked, letter_part, part}
+use Rattle.digit_tuple.specs.Deterministic.{Automaton, accepts_of}
+use Rattle.digit_tuple.specs.Parts.{picked, letter_part, part, parts_of_letters}
 use Rattle.digit_tuple.proofs.PartLemmas.{letter_part-below, get_or-parts, part-all, picked-all}
 use Rattle.minimise.specs.Canonical.{IsCanonical}
 use Rattle.minimise.specs.Residuals.{SameAfter}
@@ -20,14 +20,20 @@ word_read-part sizes places d [] over = refl
 word_read-part sizes places d (a ∷ w) over =
     ap (λ n. n ∷ word_read (read_on sizes d places) w) (get_or-parts sizes places a 0 over.0) ∙ ap (λ ns. letter_part sizes places a ∷ ns) (word_read-part sizes places d w over.1)
 
+-- the parts of letters are letters of the part's tracks
+pub parts_within : (sizes places : List ℕ) → All (λ p. p < length sizes) places → All (λ p. p < product (picked places sizes)) (parts_of_letters sizes places)
+parts_within sizes places within i e inside =
+    let small : i < product sizes = omega (arith, inside, length-map-range_with_len (letter_part sizes places) 0 (product sizes)) in
+    subst (λ n. n < product (picked places sizes)) (sym (get_or-map-range_with_len (letter_part sizes places) 0 (product sizes) i i e small (omega arith))) (letter_part-below sizes places within i small)
+
+pub length-parts : (sizes places : List ℕ) → length (parts_of_letters sizes places) ≡ product sizes
+length-parts sizes places = length-map-range_with_len (letter_part sizes places) 0 (product sizes)
+
 pub IsReading-on : (sizes places : List ℕ) (d : Automaton) → All (λ p. p < length sizes) places → d.sizes ≡ picked places sizes → IsCanonical d → IsReading (product sizes) (read_on sizes d places)
 IsReading-on sizes places d within same canonical = record {
   canonical = canonical;
-  count = length-map-range_with_len (letter_part sizes places) 0 (product sizes);
-  within = λ i e inside.
-      let small : i < product sizes = omega (arith, inside, length-map-range_with_len (letter_part sizes places) 0 (product sizes)) in
-      subst (λ n. n < letters_of d) (sym (get_or-map-range_with_len (letter_part sizes places) 0 (product sizes) i i e small (omega arith)))
-      (subst (λ ss. letter_part sizes places i < product ss) (sym same) (letter_part-below sizes places within i small));
+  count = length-parts sizes places;
+  within = subst (λ ss. All (λ p. p < product ss) (parts_of_letters sizes places)) (sym same) (parts_within sizes places within);
 }
 
 -- words that are read differently have residuals as they are read

@@ -5,3 +5,7 @@ pub mod Products
 pub mod Readings
 pub mod ReadingLaws
 pub mod TrackReadings
+pub mod PartIndex
+pub mod PartChains
+pub mod SinkKeys
+pub mod LeadingLetters

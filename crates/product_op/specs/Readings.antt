@@ -10,7 +10,7 @@ use Rattle.minimise.specs.Residuals.{SameAfter}
 use Rattle.product_op.specs.declared.rule.Rule.{Rule}
 use Rattle.product_op.specs.declared.rule.Rule.TheVariants.{Both, NotFirst}
 use Rattle.product_op.specs.declared.rule.Rule.TheVariants as rules
-use Rattle.product_op.specs.declared.readers.Reader.{Reader}
+use Rattle.product_op.specs.declared.reader.Reader.{Reader}
 
 -- an automaton, and the part of each letter that it reads
 pub record Reading : Type 0 where
@@ -18,7 +18,7 @@ pub record Reading : Type 0 where
   pub parts : List ℕ
 
 abbrev pub reading_in : Reader → Reading
-reading_in reader = record { automaton = reader.dfa.now; parts = reader.parts.items }
+reading_in reader = record { automaton = reader.dfa.now; parts = reader.parts }
 
 abbrev pub readings_in : List Reader → List Reading
 readings_in readers = map reading_in readers

@@ -1,14 +1,16 @@
 //! Readers of automata on some of the tracks.
 
-ghost use Rattle.std.specs.Prelude.{◌≡◌, ◌<◌, ◌^◌, ◌++◌, length, IfOk, OnOk, map};
+ghost use Rattle.std.specs.Prelude.{◌≡◌, ◌<◌, ◌++◌, length, IfOk, OnOk, map};
 ghost use Rattle.std.specs.Rc.{rc_value};
-ghost use Rattle.std.specs.List.{All, Contains, range_with_len};
+ghost use Rattle.std.specs.List.{All, Contains};
 ghost use Rattle.digit_tuple.specs.Names.{places_of};
 ghost use Rattle.digit_tuple.specs.Parts.{picked};
 ghost use Rattle.product_op.specs.Readings.{reading_in, readings_in};
 ghost use Rattle.product_op.specs.TrackReadings.{read_on, whole_reading, track_readings, AllFitTracks};
 
-use crate::readers::Reader;
+use crate::numbers_below::numbers_below;
+use crate::part_index::PartIndex;
+use crate::reader::Reader;
 use digit_tuple::alphabet::Alphabet;
 use digit_tuple::dfa::Dfa;
 use digit_tuple::faults::OutOfMemory;
@@ -33,9 +35,7 @@ pub fn argument_reader<'a>(
 {
     let _tracks = alphabet.tracks();
     let places = places_in(alloc, names, argument.names())?;
-    let dfa = argument.dfa();
-    let parts = letter_parts(alloc, alphabet, &places, dfa.alphabet())?;
-    Ok(Reader { dfa, parts })
+    reader_on(alloc, alphabet, &places, argument.dfa())
 }
 
 /// The reader of an automaton on all tracks.
@@ -43,12 +43,8 @@ pub fn whole_reader(alloc: Global, dfa: &Dfa) -> Result<Reader<'_>, OutOfMemory>
     ensures { IfOk result (λ reader. reading_in reader ≡ whole_reading dfa.now) }
 {
     let alphabet = dfa.alphabet();
-    let mut places = Vec::new(alloc);
-    for track in 0..alphabet.tracks() {
-        places.push(track)?;
-    }
-    let parts = letter_parts(alloc, alphabet, &places, alphabet)?;
-    Ok(Reader { dfa, parts })
+    let places = numbers_below(alloc, alphabet.tracks())?;
+    reader_on(alloc, alphabet, &places, dfa)
 }
 
 /// Adds a reader of each language on its track.
@@ -63,9 +59,26 @@ pub fn add_track_readers<'a>(
 {
     let _tracks = alphabet.tracks();
     for (track, language) in languages.iter().enumerate() {
-        let dfa = language.as_ref();
-        let parts = letter_parts(alloc, alphabet, &[track as u32], dfa.alphabet())?;
-        readers.push(Reader { dfa, parts })?;
+        readers.push(reader_on(alloc, alphabet, &[track as u32], language.as_ref())?)?;
     }
     Ok(())
+}
+
+// The reader of an automaton on the tracks at these places, counted from 0.
+fn reader_on<'a>(
+    alloc: Global,
+    alphabet: &Alphabet,
+    places: &[u32],
+    dfa: &'a Dfa,
+) -> Result<Reader<'a>, OutOfMemory>
+    requires places { All (λ place. place < length alphabet.now) places.now }
+    requires sizes { picked places.now alphabet.now ≡ dfa.now.sizes }
+    ensures { IfOk result (λ reader. reading_in reader ≡ read_on alphabet.now dfa.now places.now) }
+{
+    // The numbers of letters fit 32 bits.
+    let _letters = alphabet.letters();
+    let own = dfa.alphabet();
+    let parts = letter_parts(alloc, alphabet, places, own)?;
+    let parts = PartIndex::new(alloc, parts, own.letters())?;
+    Ok(Reader { dfa, parts })
 }

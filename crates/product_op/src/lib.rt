@@ -10,14 +10,26 @@ pub mod joint_tracks;
 /// What says whether automata that read side by side accept.
 mod rule;
 
-/// Automata that read parts of letters side by side, as a source of keys.
-mod readers;
+/// The parts of letters, and the letters of each part.
+mod part_index;
 
-/// The automaton whose states are tuples of residuals.
-mod side_by_side;
+/// Automata that read parts of letters.
+mod reader;
 
 /// Readers of automata on some of the tracks.
 mod argument_readers;
+
+/// The numbers below a number.
+mod numbers_below;
+
+/// States of readers, one of each.
+mod reader_states;
+
+/// The graph of the states that letters lead automata to that read side by side.
+mod reader_graph;
+
+/// The automaton whose states are tuples of residuals.
+mod side_by_side;
 
 /// Languages of tracks.
 pub mod languages;
@@ -27,3 +39,6 @@ pub mod product;
 
 /// Parts of automata on valid words.
 pub mod validity;
+
+/// Laws of widths.
+pub mod laws;

@@ -1,13 +1,14 @@
 //! Products of two automata over the tracks of both.
 
-ghost use Rattle.std.specs.Prelude.{◌≡◌, ◌+◌, ◌≤◌, ◌∷◌, ℕ, List, IfOk, OnOk, map};
+ghost use Rattle.std.specs.Prelude.{◌≡◌, ◌+◌, ◌≤◌, ◌∷◌, ℕ, List, IfOk, OnOk, IsTrue, map};
 ghost use Rattle.std.specs.Rc.{rc_value};
 ghost use Rattle.std.specs.Result.{IsErrOf};
-ghost use Rattle.digit_tuple.specs.Deterministic.{accepts_of};
+ghost use Rattle.digit_tuple.specs.Deterministic.{accepts_of, states_of};
 ghost use Rattle.digit_tuple.specs.Letters.{product as letter_count, IsAlphabet, IsTooLarge, IsWord};
 ghost use Rattle.digit_tuple.specs.Width.{HasApart, HasWidth};
 ghost use Rattle.minimise.specs.Canonical.{IsCanonical};
 ghost use Rattle.digit_tuple.specs.Names.{AreJoint, joint_names as joint_names_of};
+ghost use Rattle.product_op.specs.Connectives.{among_valid};
 ghost use Rattle.product_op.specs.Tracks.{AgreeOnShared, joint_sizes};
 ghost use Rattle.product_op.specs.Validity.{AreLanguages};
 ghost use Rattle.product_op.specs.Products.{in_product, ProductAlike};
@@ -17,7 +18,7 @@ ghost use Rattle.product_op.specs.TrackReadings.{AllFitTracks, argument_reading,
 use crate::argument_readers::{add_track_readers, argument_reader};
 use crate::joint_tracks::{JointTracks, joint_tracks};
 use crate::op::Op;
-use crate::readers::Reader;
+use crate::reader::Reader;
 use crate::rule::Rule;
 use crate::side_by_side::tracked_side_by_side;
 use digit_tuple::dfa::Dfa;
@@ -31,15 +32,16 @@ use std::rc::Rc;
 /// whether each automaton accepts the word's part on its tracks; but for `And` and `AndNot` among
 /// the valid words alone, whose track words are each in the track's language. Tracks of one name are
 /// one track, and have one number of digits in both (`agree_on_shared`). The result is canonical; its
-/// tracks stand in byte order of names, as `joint_names` gives them, and `valid` has a canonical
-/// language for each of them.
+/// tracks stand in byte order of names, as `joint_names` gives them. But for `And` and `AndNot` `valid`
+/// has a canonical language for each of them; for these two it is not looked at.
 ///
 /// The width is the number of pairs of residuals, of `a` and of `b` after their parts of a word, over
 /// all words, the empty residual counted too; but for `And` and `AndNot` that of these residuals
 /// together with those of all tracks' languages. `Letters` comes exactly where there are more than 16
 /// tracks or more than 65,536 letters, and is looked at first; `States` exactly where the width passes
-/// the limit. Memory may also run out where 2^32 - 1 states are not enough. Time and memory follow the
-/// width times the letters.
+/// the limit. The result has at most as many states as the width. Memory may also run out where
+/// 2^32 - 1 states are not enough. Time and memory follow the width and the letters by which some
+/// residual leads to one that is not empty, and the number of all letters once.
 pub fn product(
     alloc: Global,
     a: &Tracked,
@@ -49,7 +51,7 @@ pub fn product(
     limit: u32,
 ) -> Result<Stepped<Tracked>, OpFault>
     requires agree { AgreeOnShared a.now b.now }
-    requires languages { AreLanguages (joint_sizes a.now b.now) (map rc_value valid.now) }
+    requires languages { IsTrue (among_valid op) → AreLanguages (joint_sizes a.now b.now) (map rc_value valid.now) }
     ensures names { IfOk result (λ stepped. stepped.result.names ≡ joint_names_of a.now.names b.now.names) }
     ensures joint { IfOk result (λ stepped. AreJoint a.now.names b.now.names stepped.result.names) }
     ensures sizes { IfOk result (λ stepped. stepped.result.automaton.sizes ≡ joint_sizes a.now b.now) }
@@ -57,6 +59,7 @@ pub fn product(
     ensures language { IfOk result (λ stepped. (w : List ℕ) → IsWord (letter_count (joint_sizes a.now b.now)) w
         → accepts_of stepped.result.automaton w ≡ in_product op a.now b.now (map rc_value valid.now) w) }
     ensures width { IfOk result (λ stepped. HasWidth (ProductAlike op a.now b.now (map rc_value valid.now)) (letter_count (joint_sizes a.now b.now)) stepped.width) }
+    ensures size { IfOk result (λ stepped. states_of stepped.result.automaton ≤ stepped.width) }
     ensures within { IfOk result (λ stepped. stepped.width ≤ limit) }
     ensures fits { OnOk result (IsAlphabet (joint_sizes a.now b.now)) }
     ensures letters { IsErrOf result OpFault.Letters → IsTooLarge (joint_sizes a.now b.now) }
@@ -68,7 +71,7 @@ pub fn product(
     tracked_side_by_side(
         alloc,
         joint.alphabet,
-        &joint.names,
+        joint.names,
         &readers,
         Rule::Both(op),
         limit,

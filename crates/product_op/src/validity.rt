@@ -3,7 +3,7 @@
 ghost use Rattle.std.specs.Prelude.{◌≡◌, ◌+◌, ◌≤◌, ℕ, List, IfOk, map};
 ghost use Rattle.std.specs.Rc.{rc_value};
 ghost use Rattle.std.specs.Result.{IsErrOf};
-ghost use Rattle.digit_tuple.specs.Deterministic.{accepts_of, letters_of};
+ghost use Rattle.digit_tuple.specs.Deterministic.{accepts_of, letters_of, states_of};
 ghost use Rattle.digit_tuple.specs.Letters.{IsWord};
 ghost use Rattle.digit_tuple.specs.Width.{HasApart, HasWidth};
 ghost use Rattle.minimise.specs.Canonical.{IsCanonical};
@@ -13,12 +13,13 @@ ghost use Rattle.product_op.specs.Readings.{readings_in, flags_of, combined, arg
 ghost use Rattle.product_op.specs.TrackReadings.{AllFitTracks, validity_readings};
 
 use crate::argument_readers::{add_track_readers, whole_reader};
-use crate::readers::Reader;
+use crate::reader::Reader;
 use crate::rule::Rule;
 use crate::side_by_side::tracked_side_by_side;
 use digit_tuple::alphabet::Alphabet;
 use digit_tuple::dfa::Dfa;
 use digit_tuple::faults::{OpFault, OutOfMemory};
+use digit_tuple::name::Name;
 use digit_tuple::stepped::Stepped;
 use minimise::tracked::Tracked;
 use std::alloc::Global;
@@ -30,8 +31,9 @@ use std::rc::Rc;
 ///
 /// The width is the number of tuples of the residual of `a` and those of all tracks' languages, over
 /// all words, the empty residual counted too. `States` comes exactly where it passes the limit, and
-/// `Letters` never. Memory may also run out where 2^32 - 1 states are not enough. Time and memory
-/// follow the width times the letters.
+/// `Letters` never. The result has at most as many states as the width. Memory may also run out where
+/// 2^32 - 1 states are not enough. Time and memory follow the width and the letters by which some
+/// residual leads to one that is not empty, and the number of all letters once.
 pub fn complement_in(
     alloc: Global,
     a: &Tracked,
@@ -45,6 +47,7 @@ pub fn complement_in(
     ensures language { IfOk result (λ stepped. (w : List ℕ) → IsWord (letters_of a.now.automaton) w
         → accepts_of stepped.result.automaton w ≡ in_complement a.now (map rc_value valid.now) w) }
     ensures width { IfOk result (λ stepped. HasWidth (ValidityAlike a.now (map rc_value valid.now)) (letters_of a.now.automaton) stepped.width) }
+    ensures size { IfOk result (λ stepped. states_of stepped.result.automaton ≤ stepped.width) }
     ensures within { IfOk result (λ stepped. stepped.width ≤ limit) }
     ensures states { IsErrOf result OpFault.States → HasApart (ValidityAlike a.now (map rc_value valid.now)) (letters_of a.now.automaton) (limit + 1) }
     ensures no_letters { ¬ IsErrOf result OpFault.Letters }
@@ -67,6 +70,7 @@ pub fn valid_part(
     ensures language { IfOk result (λ stepped. (w : List ℕ) → IsWord (letters_of a.now.automaton) w
         → accepts_of stepped.result.automaton w ≡ in_valid_part a.now (map rc_value valid.now) w) }
     ensures width { IfOk result (λ stepped. HasWidth (ValidityAlike a.now (map rc_value valid.now)) (letters_of a.now.automaton) stepped.width) }
+    ensures size { IfOk result (λ stepped. states_of stepped.result.automaton ≤ stepped.width) }
     ensures within { IfOk result (λ stepped. stepped.width ≤ limit) }
     ensures states { IsErrOf result OpFault.States → HasApart (ValidityAlike a.now (map rc_value valid.now)) (letters_of a.now.automaton) (limit + 1) }
     ensures no_letters { ¬ IsErrOf result OpFault.Letters }
@@ -90,15 +94,27 @@ fn among_valid(
     ensures language { IfOk result (λ stepped. (w : List ℕ) → IsWord (letters_of a.now.automaton) w
         → accepts_of stepped.result.automaton w ≡ combined rule (flags_of (validity_readings a.now.automaton (map rc_value valid.now)) w)) }
     ensures width { IfOk result (λ stepped. HasWidth (ValidityAlike a.now (map rc_value valid.now)) (letters_of a.now.automaton) stepped.width) }
+    ensures size { IfOk result (λ stepped. states_of stepped.result.automaton ≤ stepped.width) }
     ensures within { IfOk result (λ stepped. stepped.width ≤ limit) }
     ensures states { IsErrOf result OpFault.States → HasApart (ValidityAlike a.now (map rc_value valid.now)) (letters_of a.now.automaton) (limit + 1) }
     ensures no_letters { ¬ IsErrOf result OpFault.Letters }
 {
-    let names = a.names();
+    let names = copied_names(alloc, a.names())?;
     let dfa = a.dfa();
     let alphabet = dfa.alphabet().copy(alloc)?;
     let readers = validity_readers(alloc, &alphabet, dfa, valid)?;
     tracked_side_by_side(alloc, alphabet, names, &readers, rule, limit)
+}
+
+// The same names, in memory of their own.
+fn copied_names(alloc: Global, names: &[Name]) -> Result<Vec<Name>, OutOfMemory>
+    ensures { IfOk result (λ copied. copied.items ≡ names.now) }
+{
+    let mut copied = Vec::with_capacity(alloc, names.len())?;
+    for name in names {
+        copied.push(name.copy(alloc)?)?;
+    }
+    Ok(copied)
 }
 
 // The readers of the automaton and of each track's language.

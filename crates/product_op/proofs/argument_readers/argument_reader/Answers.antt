@@ -4,8 +4,8 @@ use Rattle.digit_tuple.specs.Names.{places_of}
 use Rattle.digit_tuple.proofs.NameLemmas.{places_of-within}
 use Rattle.product_op.proofs.argument_readers.argument_reader.Goals as goal
 
-pub letter_parts-requires-clause-places : goal.letter_parts-requires-clause-places
-letter_parts-requires-clause-places c =
+pub reader_on-requires-clause-places : goal.reader_on-requires-clause-places
+reader_on-requires-clause-places c =
     let names = c.args.names.now in
     let some = c.args.argument.now.names in
     let all = c.deref.ensures.value ∙ c.in_ok-places.ensures ∙ ap (places_of names) c.names.ensures.value in

@@ -1,35 +1,68 @@
-use Rattle.std.proofs.Common.{◌+◌, ◌∙◌, subst, sym}
+use Rattle.std.proofs.Common.{◌≡◌, ◌+◌, true, false, [], sym, ap, ◌∙◌, subst, arith}
 use Rattle.std.proofs.lemmas.Result.{IfOk-weaker}
-use Rattle.digit_tuple.specs.Letters.{product, IsWord}
+use Rattle.digit_tuple.specs.Deterministic.{Automaton, accepts_of}
+use Rattle.digit_tuple.specs.Letters.{product}
 use Rattle.digit_tuple.specs.Width.{HasApart, HasWidth}
-use Rattle.digit_tuple.proofs.WidthLemmas.{HasApart-same, HasWidth-same}
+use Rattle.digit_tuple.proofs.NoWordLemmas.{bare_refuses}
+use Rattle.digit_tuple.proofs.WidthLemmas.{HasApart-one, HasApart-same, HasWidth-one, HasWidth-same}
 use Rattle.digit_tuple.specs.Keys.{LeadAlike}
-use Rattle.product_op.specs.Readings.{readings_in, AreAlike, first_key, combined}
-use Rattle.product_op.proofs.KeyLemmas.{key_after, key_accepts-flags, alike_from_keys, keys_from_alike}
+use Rattle.minimise.specs.Canonical.{IsCanonical}
+use Rattle.product_op.specs.Readings.{readings_in, AreAlike, first_key}
+use Rattle.product_op.specs.SinkKeys.{is_dead_key, live_key_after}
+use Rattle.product_op.proofs.KeyLemmas.{key_accepts-flags, alike_from_keys, keys_from_alike, dead-alike, dead-flags}
+use Rattle.product_op.proofs.NoWordLemmas.{IsCanonical-bare}
 use Rattle.product_op.proofs.side_by_side.side_by_side.Goals as goal
+
+pub returns-then-is_dead-clause-canonical : goal.returns-then-is_dead-clause-canonical
+returns-then-is_dead-clause-canonical c =
+    IfOk-weaker c.no_words_within.result _ _ (λ stepped is. subst IsCanonical (sym is) (IsCanonical-bare c.args.alphabet)) c.no_words_within.ensures.no_words
+
+pub returns-then-is_dead-clause-language : goal.returns-then-is_dead-clause-language
+returns-then-is_dead-clause-language c =
+    let rs = readings_in c.args.readers.now in
+    let dead : is_dead_key c.args.rule rs (first_key rs) ≡ true = ap (is_dead_key c.args.rule rs) (sym (c.deref.ensures.value ∙ c.in_ok-first.ensures)) ∙ sym c.is_dead.ensures ∙ c.if-is_dead.true in
+    IfOk-weaker c.no_words_within.result _ _
+    (λ stepped is w over. ap (λ (d : Automaton). accepts_of d w) is ∙ bare_refuses c.args.alphabet w ∙ sym (dead-flags rs (product c.args.alphabet) c.requires.readings_are c.args.rule dead w))
+    c.no_words_within.ensures.no_words
+
+pub returns-then-is_dead-clause-width : goal.returns-then-is_dead-clause-width
+returns-then-is_dead-clause-width c =
+    let rs = readings_in c.args.readers.now in
+    let dead : is_dead_key c.args.rule rs (first_key rs) ≡ true = ap (is_dead_key c.args.rule rs) (sym (c.deref.ensures.value ∙ c.in_ok-first.ensures)) ∙ sym c.is_dead.ensures ∙ c.if-is_dead.true in
+    let letters = product c.args.alphabet in
+    IfOk-weaker c.no_words_within.result _ _
+    (λ stepped one. subst (HasWidth (AreAlike rs) letters) (sym one) (HasWidth-one (AreAlike rs) letters (λ w over. dead-alike rs letters c.requires.readings_are c.args.rule dead w [])))
+    c.no_words_within.ensures.width
+
+pub returns-then-is_dead-clause-states : goal.returns-then-is_dead-clause-states
+returns-then-is_dead-clause-states c refused =
+    let alike = AreAlike (readings_in c.args.readers.now) in
+    let letters = product c.args.alphabet in
+    let one : 1 ≡ c.args.limit + 1 = omega (arith, c.no_words_within.ensures.states.0 refused) in
+    subst (HasApart alike letters) one (HasApart-one alike letters)
 
 pub returns-clause-language : goal.returns-clause-language
 returns-clause-language c =
     let rs = readings_in c.args.readers.now in
-    IfOk-weaker c.explore.result _ _ (λ stepped h w over. h w (subst (λ n. IsWord n w) (sym c.letters.ensures.value) over) ∙ key_accepts-flags rs (combined c.args.rule) w) c.explore.ensures.language
+    let live : is_dead_key c.args.rule rs (first_key rs) ≡ false = ap (is_dead_key c.args.rule rs) (sym (c.deref.ensures.value ∙ c.in_ok-first.ensures)) ∙ sym c.is_dead.ensures ∙ c.if-is_dead.false in
+    IfOk-weaker c.explore_canonical.result _ _ (λ stepped h w over. h w over ∙ key_accepts-flags rs c.args.rule live w) c.explore_canonical.ensures.language
 
 pub returns-clause-width : goal.returns-clause-width
 returns-clause-width c =
     let rs = readings_in c.args.readers.now in
+    let rule = c.args.rule in
     let letters = product c.args.alphabet in
-    let are = c.requires.readings_are in
-    IfOk-weaker c.explore.result _ _
-    (λ stepped h. HasWidth-same (LeadAlike (key_after rs) (first_key rs)) (AreAlike rs) letters stepped.width
-    (λ w v over there same. alike_from_keys rs letters are w v same)
-    (λ w v over there same. keys_from_alike rs letters are w v over there same)
-    (subst (λ n. HasWidth (LeadAlike (key_after rs) (first_key rs)) n stepped.width) c.letters.ensures.value h))
-    c.explore.ensures.width
+    let live : is_dead_key rule rs (first_key rs) ≡ false = ap (is_dead_key rule rs) (sym (c.deref.ensures.value ∙ c.in_ok-first.ensures)) ∙ sym c.is_dead.ensures ∙ c.if-is_dead.false in
+    IfOk-weaker c.explore_canonical.result _ _
+    (λ stepped. HasWidth-same (LeadAlike (live_key_after rule rs) (first_key rs)) (AreAlike rs) letters stepped.width
+    (λ w v over there same. alike_from_keys rs letters c.requires.readings_are rule live w v same)
+    (keys_from_alike rs letters c.requires.readings_are rule live))
+    c.explore_canonical.ensures.width
 
 pub returns-clause-states : goal.returns-clause-states
 returns-clause-states c refused =
     let rs = readings_in c.args.readers.now in
+    let rule = c.args.rule in
     let letters = product c.args.alphabet in
-    let are = c.requires.readings_are in
-    HasApart-same (LeadAlike (key_after rs) (first_key rs)) (AreAlike rs) letters (c.args.limit + 1)
-    (λ w v over there same. keys_from_alike rs letters are w v over there same)
-    (subst (λ n. HasApart (LeadAlike (key_after rs) (first_key rs)) n (c.args.limit + 1)) c.letters.ensures.value (c.explore.ensures.states refused))
+    let live : is_dead_key rule rs (first_key rs) ≡ false = ap (is_dead_key rule rs) (sym (c.deref.ensures.value ∙ c.in_ok-first.ensures)) ∙ sym c.is_dead.ensures ∙ c.if-is_dead.false in
+    HasApart-same (LeadAlike (live_key_after rule rs) (first_key rs)) (AreAlike rs) letters (c.args.limit + 1) (keys_from_alike rs letters c.requires.readings_are rule live) (c.explore_canonical.ensures.states refused)

@@ -1,0 +1,21 @@
+-- Letters by which states lead on.
+use Rattle.std.specs.Prelude.{◌≡◌, ℕ, ◌<◌, List, Option, None}
+use Rattle.std.specs.List.{All, AllPairs, Contains, flat_map}
+use Rattle.digit_tuple.specs.Deterministic.{edges_of}
+use Rattle.digit_tuple.specs.Keys.{KeyEdge}
+use Rattle.product_op.specs.PartIndex.{letters_with}
+use Rattle.product_op.specs.Readings.{Reading}
+
+-- the letters by whose parts an edge leads on from a state, edge by edge
+abbrev pub letters_on : Reading → ℕ → List ℕ
+letters_on r state = flat_map (λ edge. letters_with r.parts edge.letter) (edges_of r.automaton state)
+
+-- letters of the alphabet, in order, such that all others lead to no key
+pub record AreLeading (letters : ℕ) (after : ℕ → Option (List ℕ)) (some : List ℕ) : Type 0 where
+  pub in_range : All (λ a. a < letters) some
+  pub ascending : AllPairs (λ a b. a < b) some
+  pub others : (a : ℕ) → a < letters → ¬ Contains some a → after a ≡ None
+
+-- the edge by the letter to the key
+abbrev pub key_edge : ℕ → List ℕ → KeyEdge
+key_edge a key = record { letter = a; key = key }

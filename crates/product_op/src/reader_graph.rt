@@ -1,0 +1,116 @@
+//! The graph of the states that letters lead automata to that read side by side.
+
+ghost use Rattle.std.specs.Prelude.{◌≡◌, ◌++◌, ◌<◌, ℕ, List, length, IfOk, OnOk};
+ghost use Rattle.std.specs.Option.{option_map, option_to_list};
+ghost use Rattle.digit_tuple.specs.Keys.{AreKeyEdges};
+ghost use Rattle.product_op.specs.Readings.{readings_in, AreSideBySide, AreStates, first_key, flags_at, combined};
+ghost use Rattle.product_op.specs.ReadingLaws.{first_is_key, live_key_is_key};
+ghost use Rattle.product_op.specs.SinkKeys.{is_dead_key, live_key, live_key_after};
+ghost use Rattle.product_op.specs.LeadingLetters.{AreLeading, key_edge};
+
+use crate::numbers_below::numbers_below;
+use crate::reader::Reader;
+use crate::reader_states::{all_accept, are_sinks, first_states, next_states};
+use crate::rule::Rule;
+use digit_tuple::faults::OutOfMemory;
+use digit_tuple::key_edges::KeyEdges;
+use digit_tuple::key_graph::KeyGraph;
+use std::alloc::Global;
+
+/// Automata that read side by side, the rule by which they accept, and how many letters there are.
+/// A key has a state of each. Where all are sinks and the rule refuses, there is no key.
+#[derive(Clone, Copy)]
+pub struct SideBySide<'a> {
+    pub readers: &'a [Reader<'a>],
+    pub rule: Rule,
+    pub letters: u32,
+}
+
+impl KeyGraph for SideBySide<'_> {
+    ghost letters = { λ s. s.letters };
+
+    ghost is_graph = { λ s. AreSideBySide s.letters (readings_in s.readers.now) s.rule };
+
+    ghost is_key = { λ s. AreStates (readings_in s.readers.now) };
+
+    ghost start = { λ s. first_key (readings_in s.readers.now) };
+
+    ghost after = { λ s. live_key_after s.rule (readings_in s.readers.now) };
+
+    ghost accepts = { λ s key. combined s.rule (flags_at (readings_in s.readers.now) key) };
+
+    ghost start_is_key = { λ s graph. first_is_key s.letters (readings_in s.readers.now) graph.readings_are };
+
+    ghost after_is_key = { λ s key letter graph is small. live_key_is_key s.letters (readings_in s.readers.now) graph.readings_are s.rule key letter };
+
+    fn first_key(&self, alloc: Global) -> Result<Vec<u32>, OutOfMemory> {
+        first_states(alloc, self.readers)
+    }
+
+    fn edges(&self, alloc: Global, key: &[u32], out: &mut KeyEdges) -> Result<(), OutOfMemory> {
+        let letters = self.leading_letters(alloc, key)?;
+        let mut states = vec![in alloc; 0; self.readers.len()]?;
+        let next = states.as_mut_slice();
+        for letter in &letters {
+            next_states(self.readers, key, *letter, next);
+            self.push_live(*letter, next, out)?;
+        }
+        Ok(())
+    }
+
+    fn is_accepting(&self, key: &[u32]) -> bool {
+        match self.rule {
+            Rule::Both(op) => {
+                let first = self.readers[0].accepts(key[0]);
+                let second = self.readers[1].accepts(key[1]);
+                op.holds(first, second) && all_accept(self.readers, key, 2)
+            }
+            Rule::All => all_accept(self.readers, key, 0),
+            Rule::NotFirst => !self.readers[0].accepts(key[0]) && all_accept(self.readers, key, 1),
+        }
+    }
+}
+
+impl SideBySide<'_> {
+    /// Whether no word is accepted from states: all are sinks, and the rule refuses there.
+    pub fn is_dead(&self, key: &[u32]) -> bool
+        requires { length key.now ≡ length self.now.readers.now }
+        ensures { result ≡ is_dead_key self.now.rule (readings_in self.now.readers.now) key.now }
+    {
+        self.rule.refuses_all_sinks(self.readers.len()) && are_sinks(self.readers, key)
+    }
+
+    // Letters in order, such that each other leads to no key: those by whose parts an edge leads on
+    // from some state, or all where these are not fewer, or where there is a key of sinks.
+    fn leading_letters(&self, alloc: Global, key: &[u32]) -> Result<Vec<u32>, OutOfMemory>
+        requires graph { AreSideBySide self.now.letters (readings_in self.now.readers.now) self.now.rule }
+        requires key { AreStates (readings_in self.now.readers.now) key.now }
+        ensures { IfOk result (λ letters. AreLeading self.now.letters (live_key_after self.now.rule (readings_in self.now.readers.now) key.now) letters.items) }
+    {
+        if !self.rule.refuses_all_sinks(self.readers.len()) {
+            return numbers_below(alloc, self.letters);
+        }
+        let mut letters = Vec::new(alloc);
+        let mut row = Vec::new(alloc);
+        for (place, reader) in self.readers.iter().enumerate() {
+            reader.add_letters(key[place], &mut row, &mut letters)?;
+            if letters.len() >= self.letters as usize {
+                return numbers_below(alloc, self.letters);
+            }
+        }
+        letters.sort_unstable();
+        letters.dedup();
+        Ok(letters)
+    }
+
+    // Adds an edge to these states, unless no word is accepted from them.
+    fn push_live(&self, letter: u32, key: &[u32], out: &mut KeyEdges) -> Result<(), OutOfMemory>
+        requires { length key.now ≡ length self.now.readers.now }
+        ensures { OnOk result (out.new ≡ out.old ++ option_to_list (option_map (key_edge letter) (live_key self.now.rule (readings_in self.now.readers.now) key.now))) }
+    {
+        if !self.is_dead(key) {
+            out.push(letter, key)?;
+        }
+        Ok(())
+    }
+}
