@@ -3,7 +3,10 @@ pub mod EdgeLemmas
 pub mod CanonicalLemmas
 pub mod SinkLemmas
 pub mod SignatureLemmas
+pub mod NumberedLemmas
 pub mod RefiningLemmas
+pub mod StabilityLemmas
+pub mod HashLemmas
 pub mod ResidualLemmas
 pub mod QuotientLemmas
 pub mod SameLemmas

@@ -4,7 +4,7 @@ use Rattle.std.specs.List.{All, Contains, flat_map}
 use Rattle.std.specs.Option.{IfSome, option_to_list}
 use Rattle.std.proofs.lemmas.Bool.{cases_lt, cases_eq, eqb-true}
 use Rattle.std.proofs.lemmas.Option.{none-some}
-use Rattle.std.proofs.lemmas.List.{take_more, length-map, length_push, map_push, get_or_push, get_or-map, get_or_append_left}
+use Rattle.std.proofs.lemmas.List.{take_more, length-map, length_push, map_push, get_or_push, get_or-map, get_or_append_left, get_or_default}
 use Rattle.std.proofs.lemmas.List.Elements.{All-push, All-map, All-pop, All-filter, All-contains, Contains-get_or, Contains-push, Contains-push_cases, Contains-append_left}
 use Rattle.digit_tuple.specs.declared.edges.Edge.{Edge}
 use Rattle.digit_tuple.specs.Automaton as branching
@@ -15,7 +15,8 @@ use Rattle.digit_tuple.specs.AcceptingStates.{AreAccepting}
 use Rattle.digit_tuple.proofs.MemberLemmas.{Contains-none, Contains-head, Contains-tail, Contains-cases, Contains-filter, Contains-from_filter, Contains-map, Contains-from_map, Contains-flat_map, Contains-from_flat_map}
 use Rattle.minimise.specs.Classes.{class_of, next_of}
 use Rattle.minimise.specs.Gathering.{IsGathered, edges_by_class}
-use Rattle.minimise.specs.Partition.{IsCoarse, IsUnion, states_with, IsGiven, IsOneOf, AreParted, list_at, lists_in}
+use Rattle.minimise.specs.CoarseClasses.{IsCoarse, AreCoarseClasses}
+use Rattle.minimise.specs.Partition.{IsUnion, states_with, IsGiven, IsOneOf, AreParted, list_at, lists_in}
 use Rattle.minimise.proofs.SinkLemmas.{row_of, no_edges_past, not_accepting_past, accepts_from-next, next_within}
 
 -- the items of a list of the code
@@ -203,11 +204,12 @@ module _ (d : Automaton) (old new states : List ℕ) (class : ℕ) (union : IsUn
     IsUnion-one_of kept set before (inr left) = subst (IsUnion d) (sym left.1) (IsUnion-left kept left.0 before)
 
     -- the classes with a new one
-    pub AreParted-split : (more : List ℕ) (set : List ℕ) → length more ≡ length sizes + 1 → IsUnion d set → AreParted d new more (members ++ states ∷ []) (pending ++ set ∷ [])
-    AreParted-split more set sized next = record {
+    pub AreParted-split : (more : List ℕ) (set : List ℕ) → length more ≡ length sizes + 1 → class ≤ states_of d → IsUnion d set → AreParted d new more (members ++ states ∷ []) (pending ++ set ∷ [])
+    AreParted-split more set sized room next = record {
       table = parted.table;
       width = given.width ∙ parted.width;
       counts = omega (arith, sized, parted.counts, size);
+      few = omega (arith, size, count, room);
       below = λ q low. below q low (cases_contains states q);
       sink = given.elsewhere (states_of d) outside ∙ parted.sink;
       coarse = IsCoarse-given parted.coarse;
@@ -242,6 +244,7 @@ AreParted-pop d classes sizes members old new r is parted = (
     table = parted.table;
     width = parted.width;
     counts = parted.counts;
+    few = parted.few;
     below = parted.below;
     sink = parted.sink;
     coarse = parted.coarse;
@@ -257,3 +260,13 @@ AreParted-pop d classes sizes members old new r is parted = (
 
     both : All (λ (v : Vec ℕ Global). IsUnion d v.items) new × IfSome r (λ (v : Vec ℕ Global). IsUnion d v.items)
     both = All-pop (λ (v : Vec ℕ Global). IsUnion d v.items) old new r is all
+
+-- the classes of a partition
+pub AreCoarseClasses-parted : (d : Automaton) (classes sizes : List ℕ) (members pending : List (List ℕ)) → AreParted d classes sizes members pending → AreCoarseClasses d classes
+AreCoarseClasses-parted d classes sizes members pending parted = record {
+  width = parted.width;
+  below = λ k z within.
+      let low = parted.below k (omega (arith, within, parted.width)) in
+      omega (arith, low, parted.few, get_or_default classes k z 0 within);
+  coarse = parted.coarse;
+}

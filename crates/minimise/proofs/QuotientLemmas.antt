@@ -14,8 +14,9 @@ use Rattle.digit_tuple.specs.Explored.{IsExplored, key_at}
 use Rattle.minimise.specs.Residuals.{SameResidual, SameLanguage}
 use Rattle.minimise.specs.Canonical.{IsCanonical}
 use Rattle.minimise.specs.Classes.{AreResiduals, class_of, next_of, dead_class}
+use Rattle.minimise.specs.Leaders.{AreLeaders}
 use Rattle.minimise.specs.Signatures.{class_edges}
-use Rattle.minimise.specs.Quotient.{AreLeaders, IsQuotient, IsClass, leader_of, class_after, class_accepts, key_edge}
+use Rattle.minimise.specs.Quotient.{IsQuotient, IsClass, leader_of, class_after, class_accepts, key_edge}
 use Rattle.minimise.proofs.SinkLemmas.{sink_refuses, accepts_from-next, row_of, next_within}
 use Rattle.minimise.proofs.SignatureLemmas.{class_edge, class_edges-dead, class_edges-live, class_edges-all, class_edges-pairs, class_edges-lead}
 

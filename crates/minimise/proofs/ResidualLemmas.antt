@@ -1,14 +1,15 @@
 -- Classes that are refined until they are the residual languages.
-use Rattle.std.proofs.Common.{◌≡◌, ℕ, ◌<◌, ◌≤◌, List, [], ◌∷◌, length, refl, sym, ◌∙◌, arith}
+use Rattle.std.proofs.Common.{◌≡◌, ℕ, ◌+◌, ◌<◌, ◌≤◌, List, [], ◌∷◌, length, replicate, get_or, refl, sym, ap, ◌∙◌, arith}
 use Rattle.std.specs.List.{All}
-use Rattle.std.proofs.lemmas.List.{get_or_default}
+use Rattle.std.proofs.lemmas.List.{get_or_default, get_or-replicate, length-replicate}
 use Rattle.digit_tuple.specs.Deterministic.{Automaton, IsTable, letters_of, states_of, accepts_from}
 use Rattle.digit_tuple.specs.Letters.{IsWord}
 use Rattle.minimise.specs.Residuals.{SameResidual}
 use Rattle.minimise.specs.Classes.{class_of, next_of, AreResiduals}
 use Rattle.minimise.specs.Refinement.{AreAlike, AreCounted, AreRefined}
-use Rattle.minimise.specs.Partition.{IsCoarse}
+use Rattle.minimise.specs.CoarseClasses.{IsCoarse, AreCoarseClasses, AreResidualClasses}
 use Rattle.digit_tuple.proofs.PigeonLemmas.{StandsIn, onto_least, onto_one, choose}
+use Rattle.minimise.proofs.StabilityLemmas.{IsStable}
 use Rattle.minimise.proofs.SinkLemmas.{accepts_from-next, next_within}
 
 -- classes that part no states with one residual language
@@ -18,7 +19,7 @@ pub record AreCoarse (d : Automaton) (classes : List ℕ) (count : ℕ) : Type 0
 
 module _ (d : Automaton) (table : IsTable (letters_of d) d.states) where
   -- what is alike for all rounds has one residual language; what has one is alike
-  alike_residual : (classes : List ℕ) (p q : ℕ) → IsCoarse d classes → p ≤ states_of d → q ≤ states_of d → SameResidual d p d q → AreAlike d classes p q
+  pub alike_residual : (classes : List ℕ) (p q : ℕ) → IsCoarse d classes → p ≤ states_of d → q ≤ states_of d → SameResidual d p d q → AreAlike d classes p q
   alike_residual classes p q coarse small low same = record {
     accepting = same [] tt;
     own = coarse p q small low same;
@@ -81,3 +82,26 @@ pub All-counted : (d : Automaton) (classes : List ℕ) (count : ℕ) → AreCoun
 All-counted d classes count counted k z within =
     let low = counted.below k (omega (arith, within, counted.width)) in
     omega (arith, low, counted.small, get_or_default classes k z 0 within)
+
+-- classes that letters keep are the residual languages
+pub AreResidualClasses-stable : (d : Automaton) (classes : List ℕ) → IsTable (letters_of d) d.states → AreCoarseClasses d classes → IsStable d classes → AreResidualClasses d classes
+AreResidualClasses-stable d classes table coarse stable = record {
+  width = coarse.width;
+  below = coarse.below;
+  residuals = λ p q small low. ((λ same w over. residual_from_class d table classes stable w p q small low same over), (λ same. coarse.coarse p q small low same));
+}
+
+-- the residual languages are classes that letters keep
+pub AreAlike-residuals : (d : Automaton) (classes : List ℕ) → IsTable (letters_of d) d.states → AreCoarseClasses d classes → AreResidualClasses d classes → (p q : ℕ) → p ≤ states_of d → q ≤ states_of d → class_of classes p ≡ class_of classes q → AreAlike d classes p q
+AreAlike-residuals d classes table coarse are p q small low same = alike_residual d table classes p q coarse.coarse small low ((are.residuals p q small low).0 same)
+
+-- one class for all
+pub AreCoarseClasses-one : (d : Automaton) (classes : List ℕ) → classes ≡ replicate (states_of d + 1) 0 → AreCoarseClasses d classes
+AreCoarseClasses-one d classes one = record {
+  width = ap length one ∙ length-replicate {A = ℕ} (states_of d + 1) 0;
+  below = λ k z within. let at = zero_at k z (omega (arith, within, ap length one, length-replicate {A = ℕ} (states_of d + 1) 0)) in omega (arith, at);
+  coarse = λ p q small low same. zero_at p 0 (omega arith) ∙ sym (zero_at q 0 (omega arith));
+}
+  where
+    zero_at : (k z : ℕ) → k < states_of d + 1 → get_or classes k z ≡ 0
+    zero_at k z within = ap (λ (cs : List ℕ). get_or cs k z) one ∙ get_or-replicate (states_of d + 1) k 0 z within

@@ -2,8 +2,11 @@ pub mod Residuals
 pub mod Canonical
 pub mod Tracked
 pub mod Classes
+pub mod CoarseClasses
 pub mod Signatures
 pub mod Refinement
+pub mod Hashes
+pub mod Leaders
 pub mod Gathering
 pub mod Partition
 pub mod Quotient

@@ -5,11 +5,8 @@ use Rattle.std.specs.declared.alloc.Global.{Global}
 use Rattle.digit_tuple.specs.Deterministic.{Automaton, IsTable, letters_of, states_of}
 use Rattle.minimise.specs.Residuals.{SameResidual}
 use Rattle.minimise.specs.Classes.{class_of}
+use Rattle.minimise.specs.CoarseClasses.{IsCoarse}
 use Rattle.minimise.specs.declared.partition.Partition.{Partition}
-
--- states with one residual language have one class
-abbrev pub IsCoarse : Automaton → List ℕ → Type 0
-IsCoarse d classes = (p q : ℕ) → p ≤ states_of d → q ≤ states_of d → SameResidual d p d q → class_of classes p ≡ class_of classes q
 
 -- with a state, the set has all states that have its residual language; the sink is none of them
 pub record IsUnion (d : Automaton) (set : List ℕ) : Type 0 where
@@ -40,6 +37,7 @@ pub record AreParted (d : Automaton) (classes sizes : List ℕ) (members pending
   pub table : IsTable (letters_of d) d.states
   pub width : length classes ≡ states_of d + 1
   pub counts : length sizes ≡ length members
+  pub few : length members ≤ states_of d + 1
   pub below : (q : ℕ) → q ≤ states_of d → class_of classes q < length members
   pub sink : class_of classes (states_of d) ≡ 0
   pub coarse : IsCoarse d classes

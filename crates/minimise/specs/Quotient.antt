@@ -4,13 +4,8 @@ use Rattle.std.specs.Option.{option_map}
 use Rattle.digit_tuple.specs.Deterministic.{Automaton, IsTable, letters_of, states_of, accepting_of}
 use Rattle.digit_tuple.specs.declared.edges.Edge.{Edge}
 use Rattle.digit_tuple.specs.Keys.{KeyEdge}
+use Rattle.minimise.specs.Leaders.{AreLeaders}
 use Rattle.minimise.specs.Classes.{AreResiduals, class_of, next_of, live_class}
-
--- the first states of a table have states of their classes in the list, at their classes
-pub record AreLeaders (classes leaders : List ℕ) (count : ℕ) : Type 0 where
-  pub width : length leaders ≡ length classes
-  pub within : (q : ℕ) → q < count → class_of leaders (class_of classes q) < count
-  pub same : (q : ℕ) → q < count → class_of classes (class_of leaders (class_of classes q)) ≡ class_of classes q
 
 -- the classes are residual languages, and each has a state
 pub record IsQuotient (d : Automaton) (classes leaders : List ℕ) : Type 0 where

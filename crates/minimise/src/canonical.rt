@@ -5,7 +5,8 @@ ghost use Rattle.minimise.specs.Residuals.{SameLanguage};
 ghost use Rattle.minimise.specs.Canonical.{IsCanonical};
 
 use crate::classes::residual_classes;
-use crate::quotient::{Quotient, leaders};
+use crate::leaders::leaders;
+use crate::quotient::Quotient;
 use digit_tuple::dfa::Dfa;
 use digit_tuple::exploration::explore;
 use digit_tuple::faults::OutOfMemory;
@@ -21,7 +22,7 @@ pub fn canonical(alloc: Global, d: &Dfa) -> Result<Dfa, OutOfMemory>
 {
     let alphabet = d.alphabet().copy(alloc)?;
     let classes = residual_classes(alloc, d)?;
-    let leaders = leaders(alloc, d, &classes)?;
+    let leaders = leaders(alloc, &classes, d.states() as usize)?;
     let quotient = Quotient {
         dfa: d,
         classes: &classes,

@@ -16,8 +16,23 @@ mod class_row;
 /// What tells states of one class apart.
 mod signatures;
 
-/// Classes of states, refined until they are the residual languages.
-pub mod classes;
+/// A state of each class.
+mod leaders;
+
+/// Whether letters keep classes.
+mod stability;
+
+/// Hashes of states.
+mod hashing;
+
+/// Classes that are refined by signatures.
+mod refinement;
+
+/// Rounds that part states by hashes.
+mod rounds;
+
+/// The classes of states that are the residual languages.
+mod classes;
 
 /// States of automata with a sink.
 pub mod sink;

@@ -11,11 +11,12 @@
 //! are halved again and again. The factor log m is that of sorting, by letter and by class; counting
 //! in place of sorting would save it.
 
-ghost use Rattle.std.specs.Prelude.{◌≡◌, ◌+◌, ◌<◌, ◌≤◌, length, IfOk, OnOk};
+ghost use Rattle.std.specs.Prelude.{◌≡◌, ◌<◌, ◌≤◌, length, IfOk, OnOk};
 ghost use Rattle.std.specs.List.{All};
-ghost use Rattle.digit_tuple.specs.Deterministic.{IsTable, letters_of, states_of};
+ghost use Rattle.digit_tuple.specs.Deterministic.{states_of};
 ghost use Rattle.digit_tuple.specs.Reversed.{IsReversal};
-ghost use Rattle.minimise.specs.Partition.{IsCoarse, IsUnion, IsGiven, IsOneOf, IsPartition, states_with};
+ghost use Rattle.minimise.specs.CoarseClasses.{AreCoarseClasses};
+ghost use Rattle.minimise.specs.Partition.{IsUnion, IsGiven, IsOneOf, IsPartition, states_with};
 
 use crate::gathering::{states_by_class, targets_by_letter};
 use digit_tuple::accepting_states::accepting_states;
@@ -30,9 +31,7 @@ use std::alloc::Global;
 /// The class of each state, and last that of the sink, where missing edges lead. States from which
 /// the same words are accepted have one class.
 pub fn parted(alloc: Global, dfa: &Dfa) -> Result<Vec<u32>, OutOfMemory>
-    ensures width { IfOk result (λ classes. length classes.items ≡ states_of dfa.now + 1) }
-    ensures coarse { IfOk result (λ classes. IsCoarse dfa.now classes.items) }
-    ensures table { IfOk result (λ _. IsTable (letters_of dfa.now) dfa.now.states) }
+    ensures { IfOk result (λ classes. AreCoarseClasses dfa.now classes.items) }
 {
     let turned = reversed(alloc, dfa)?;
     let accepting = accepting_states(alloc, dfa)?;

@@ -1,11 +1,11 @@
 //! The automaton whose states are classes, as a graph of keys.
 
-ghost use Rattle.std.specs.Prelude.{◌≡◌, ◌+◌, ◌<◌, ◌≤◌, ◌++◌, [], ◌∷◌, length, map, IfOk, OnOk};
+ghost use Rattle.std.specs.Prelude.{◌≡◌, ◌<◌, ◌++◌, [], ◌∷◌, length, map, IfOk, OnOk};
 ghost use Rattle.std.specs.List.{All};
-ghost use Rattle.digit_tuple.specs.Deterministic.{letters_of, states_of};
+ghost use Rattle.digit_tuple.specs.Deterministic.{letters_of};
 ghost use Rattle.minimise.specs.Classes.{class_of};
 ghost use Rattle.minimise.specs.Signatures.{class_edges};
-ghost use Rattle.minimise.specs.Quotient.{AreLeaders, IsQuotient, IsClass, class_after, class_accepts, key_edge};
+ghost use Rattle.minimise.specs.Quotient.{IsQuotient, IsClass, class_after, class_accepts, key_edge};
 ghost use Rattle.minimise.specs.QuotientLaws.{start_is_class, class_after_is_class};
 
 use digit_tuple::dfa::Dfa;
@@ -75,19 +75,4 @@ fn add_key_edges(
         }
     }
     Ok(())
-}
-
-/// A state of each class, at its class. The numbers of classes that only the sink has stand for nothing.
-pub fn leaders(alloc: Global, dfa: &Dfa, classes: &[u32]) -> Result<Vec<u32>, OutOfMemory>
-    requires width { length classes.now ≡ states_of dfa.now + 1 }
-    requires below { All (λ class. class ≤ states_of dfa.now) classes.now }
-    ensures { IfOk result (λ leaders. AreLeaders classes.now leaders.items (states_of dfa.now)) }
-{
-    let states = dfa.states();
-    let mut leaders = vec![in alloc; 0; classes.len()]?;
-    for state in 0..states {
-        let class = classes[state as usize];
-        leaders[class as usize] = state;
-    }
-    Ok(leaders)
 }

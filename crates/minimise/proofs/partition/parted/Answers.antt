@@ -1,7 +1,7 @@
 use Rattle.std.proofs.Common.{ℕ, Vec, Global, Option, sym, subst}
 use Rattle.std.specs.Option.{IfSome}
 use Rattle.minimise.specs.Partition.{IsUnion, lists_in}
-use Rattle.minimise.proofs.PartitionLemmas.{IsUnion-accepting, AreParted-pop}
+use Rattle.minimise.proofs.PartitionLemmas.{IsUnion-accepting, AreParted-pop, AreCoarseClasses-parted}
 use Rattle.minimise.proofs.partition.parted.Goals as goal
 
 pub split-requires-clause-states : goal.split-requires-clause-states
@@ -20,14 +20,8 @@ part_by-requires-clause-set c =
     let there : IsUnion c.args.dfa.now c.in-Some.set.items = subst (λ (o : Option (Vec ℕ Global)). IfSome o (λ v. IsUnion c.args.dfa.now v.items)) c.in-Some.is union in
     subst (IsUnion c.args.dfa.now) (sym c.deref-in-Some.ensures.value) there
 
-pub returns-in-None-clause-width : goal.returns-in-None-clause-width
-returns-in-None-clause-width c = c.loop.invariant.width
+pub returns-in-None : goal.returns-in-None
+returns-in-None c = AreCoarseClasses-parted c.args.dfa.now c.loop.partition.classes.items c.loop.partition.sizes.items (lists_in c.loop.partition.members.items) (lists_in c.loop.partition.pending.items) c.loop.invariant
 
-pub returns-in-None-clause-coarse : goal.returns-in-None-clause-coarse
-returns-in-None-clause-coarse c = c.loop.invariant.coarse
-
-pub returns-clause-width : goal.returns-clause-width
-returns-clause-width c = c.loop.invariant.width
-
-pub returns-clause-coarse : goal.returns-clause-coarse
-returns-clause-coarse c = c.loop.invariant.coarse
+pub returns : goal.returns
+returns c = AreCoarseClasses-parted c.args.dfa.now c.loop.partition.classes.items c.loop.partition.sizes.items (lists_in c.loop.partition.members.items) (lists_in c.loop.partition.pending.items) c.loop.invariant

@@ -31,6 +31,6 @@ returns-clause-partition c =
     (subst (λ (classes : List ℕ). IsOneOf c.in_ok-set.set.items states c.args.class (states_with classes c.deref-2.result.now c.args.class)) c.deref.ensures.value c.in_ok-set.ensures) in
     let sized : length c.push.new.self.items ≡ length p.sizes.items + 1 = omega (arith, simp (length_push, length-set) at (ap length c.in_ok-push.ensures.items)) in
     let next : IsUnion d c.in_ok-set.set.items = IsUnion-one_of d p.classes.items new states c.len-count.result c.requires.states c.give.ensures p.sizes.items members pending c.requires.partition count c.args.class c.in_ok-set.set.items within one in
-    let done = AreParted-split d p.classes.items new states c.len-count.result c.requires.states c.give.ensures p.sizes.items members pending c.requires.partition count c.push.new.self.items c.in_ok-set.set.items sized next in
+    let done = AreParted-split d p.classes.items new states c.len-count.result c.requires.states c.give.ensures p.sizes.items members pending c.requires.partition count c.push.new.self.items c.in_ok-set.set.items sized (omega arith) next in
     subst (λ (ms : List (List ℕ)). AreParted d new c.push.new.self.items ms (lists_in c.push-3.new.self.items)) (sym (lists_in-push p.members.items c.push-2.new.self.items c.in_ok-from_slice.field-0 states c.in_ok-push-2.ensures.items c.in_ok-from_slice.ensures.items))
     (subst (λ (ps : List (List ℕ)). AreParted d new c.push.new.self.items (members ++ states ∷ []) ps) (sym (lists_in-push p.pending.items c.push-3.new.self.items c.in_ok-set.set c.in_ok-set.set.items c.in_ok-push-3.ensures.items refl)) done)

@@ -1,7 +1,7 @@
 use Rattle.std.proofs.Common.{◌+◌, ◌-◌}
 use Rattle.digit_tuple.specs.Deterministic.{states_of}
 use Rattle.minimise.proofs.ResidualLemmas.{AreCoarse}
-use Rattle.minimise.proofs.classes.residual_classes.Given as goal
+use Rattle.minimise.proofs.refinement.refined_classes.Given as goal
 
 abbrev pub invariant-refine : goal.invariant-refine
 invariant-refine l = AreCoarse l.dfa l.classes.items l.count

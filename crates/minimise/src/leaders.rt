@@ -1,0 +1,23 @@
+//! A state of each class.
+
+ghost use Rattle.std.specs.Prelude.{◌<◌, ◌≤◌, ◌^◌, length, IfOk};
+ghost use Rattle.std.specs.List.{All};
+ghost use Rattle.minimise.specs.Leaders.{AreLeaders};
+
+use digit_tuple::faults::OutOfMemory;
+use std::alloc::Global;
+
+/// The last of the first `count` states that has a class, at the class. The numbers of classes that
+/// none of them has stand for nothing.
+pub fn leaders(alloc: Global, classes: &[u32], count: usize) -> Result<Vec<u32>, OutOfMemory>
+    requires count { count ≤ length classes.now }
+    requires small { length classes.now ≤ 2 ^ 32 }
+    requires below { All (λ class. class < length classes.now) classes.now }
+    ensures { IfOk result (λ leaders. AreLeaders classes.now leaders.items count) }
+{
+    let mut leaders = vec![in alloc; 0; classes.len()]?;
+    for state in 0..count {
+        leaders[classes[state] as usize] = state as u32;
+    }
+    Ok(leaders)
+}

@@ -1,0 +1,46 @@
+//! Rounds that part states by hashes of their acceptance, their classes and the classes that letters
+//! lead to, in time linear in the table. Where two hashes happen to be equal, states stay together that
+//! a round could part; they are never parted wrongly.
+
+ghost use Rattle.std.specs.Prelude.{◌≡◌, ◌<◌, ◌≤◌, IfOk, IfSome};
+ghost use Rattle.std.specs.List.{All};
+ghost use Rattle.minimise.specs.CoarseClasses.{AreCoarseClasses, AreResidualClasses};
+
+use crate::hashing::state_hash;
+use crate::stability::is_stable;
+use digit_tuple::dfa::Dfa;
+use digit_tuple::faults::OutOfMemory;
+use indexmap::IndexSet;
+use std::alloc::Global;
+
+/// The residual languages as classes, unless more rounds would have to part states.
+pub fn classes_by_rounds(alloc: Global, dfa: &Dfa) -> Result<Option<Vec<u32>>, OutOfMemory>
+    ensures { IfOk result (λ made. IfSome made (λ classes. AreResidualClasses dfa.now classes.items)) }
+{
+    let states = dfa.states();
+    let mut classes = vec![in alloc; 0; states as usize + 1]?;
+    for _ in 0..2 * (32 - states.leading_zeros()) + 8 {
+        if is_stable(alloc, dfa, &classes)? {
+            return Ok(Some(classes));
+        }
+        classes = rehashed(alloc, dfa, &classes)?;
+    }
+    Ok(None)
+}
+
+// The classes after a round.
+fn rehashed(alloc: Global, dfa: &Dfa, classes: &[u32]) -> Result<Vec<u32>, OutOfMemory>
+    requires { AreCoarseClasses dfa.now classes.now }
+    ensures { IfOk result (λ new. AreCoarseClasses dfa.now new.items) }
+{
+    let count = dfa.states() as usize + 1;
+    let mut hashes: IndexSet<u64> = IndexSet::new(alloc);
+    let mut numbers = Vec::with_capacity(alloc, count)?;
+    let mut edges = Vec::new(alloc);
+    for place in 0..count {
+        let hash = state_hash(dfa, classes, place as u32, &mut edges)?;
+        let (number, _) = hashes.insert_full(hash)?;
+        numbers.push(number as u32)?;
+    }
+    Ok(numbers)
+}

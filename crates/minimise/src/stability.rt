@@ -1,0 +1,66 @@
+//! Whether classes are such that no round parts them.
+
+ghost use Rattle.std.specs.Prelude.{◌≡◌, ◌+◌, ◌↔◌, length, IfOk, IsTrue};
+ghost use Rattle.digit_tuple.specs.Deterministic.{IsTable, letters_of, states_of};
+ghost use Rattle.minimise.specs.Classes.{class_of};
+ghost use Rattle.minimise.specs.CoarseClasses.{AreCoarseClasses, AreResidualClasses};
+ghost use Rattle.minimise.specs.Refinement.{AreAlike};
+
+use crate::class_row::ClassRow;
+use crate::leaders::leaders;
+use crate::sink::is_accepting;
+use digit_tuple::dfa::Dfa;
+use digit_tuple::faults::OutOfMemory;
+use std::alloc::Global;
+
+/// Whether no round parts the classes, so that they are the residual languages: each state and the sink
+/// is compared with one of its class, up to the first that is not alike.
+pub fn is_stable(alloc: Global, dfa: &Dfa, classes: &[u32]) -> Result<bool, OutOfMemory>
+    requires { AreCoarseClasses dfa.now classes.now }
+    ensures { IfOk result (λ stable. IsTrue stable ↔ AreResidualClasses dfa.now classes.now) }
+{
+    let count = dfa.states() as usize + 1;
+    let leaders = leaders(alloc, classes, count)?;
+    let mut rows = RowPair::new(alloc);
+    for place in 0..count {
+        let state = place as u32;
+        let leader = leaders[classes[place] as usize];
+        if leader != state && !rows.are_alike(dfa, classes, state, leader)? {
+            return Ok(false);
+        }
+    }
+    Ok(true)
+}
+
+// Two rows to be compared.
+#[derive(Drop)]
+struct RowPair {
+    one: ClassRow,
+    other: ClassRow,
+}
+
+impl RowPair {
+    // Two empty rows.
+    fn new(alloc: Global) -> Self {
+        RowPair {
+            one: ClassRow::new(alloc),
+            other: ClassRow::new(alloc),
+        }
+    }
+
+    // Whether two states of one class are alike.
+    fn are_alike(&mut self, dfa: &Dfa, classes: &[u32], p: u32, q: u32) -> Result<bool, OutOfMemory>
+        requires table { IsTable (letters_of dfa.now) dfa.now.states }
+        requires width { length classes.now ≡ states_of dfa.now + 1 }
+        requires own { class_of classes.now p ≡ class_of classes.now q }
+        ensures { IfOk result (λ alike. IsTrue alike ↔ AreAlike dfa.now classes.now p q) }
+    {
+        let one_kind = is_accepting(dfa, p) == is_accepting(dfa, q);
+        if !one_kind {
+            return Ok(false);
+        }
+        self.one.read(dfa, classes, p)?;
+        self.other.read(dfa, classes, q)?;
+        Ok(self.one.as_slice() == self.other.as_slice())
+    }
+}
