@@ -12,3 +12,6 @@ pub mod trimmed;
 
 /// The reversal of a deterministic automaton.
 pub mod reversal;
+
+/// Laws of widths.
+pub mod laws;

