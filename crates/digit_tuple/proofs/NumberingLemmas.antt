@@ -1,7 +1,7 @@
 -- Keys of a set in insertion order.
 use Rattle.std.proofs.Common.{◌≡◌, ℕ, ◌+◌, ◌<◌, Bool, true, false, cond, not, if◌then◌else◌, ◌||◌, List, [], ◌∷◌, ◌++◌, map, length, get_or, slice_get, Some, ◌⊎◌, inl, inr, refl, sym, ap, ◌∙◌, true≢false, arith}
 use Rattle.std.specs.Bool.{Decides}
-use Rattle.std.specs.List.{IsDistinct, list_any, position, position_or_len}
+use Rattle.std.specs.List.{Contains, IsDistinct, list_any, position, position_or_len}
 use Rattle.std.proofs.lemmas.List.Quantifiers.{position-Some}
 use Rattle.std.proofs.lemmas.Map.Keys.{apart_from_distinct}
 use Rattle.std.proofs.lemmas.List.{get_or-map, length-map}
@@ -9,6 +9,7 @@ use Rattle.std.proofs.lemmas.Option.{get_or_from_slice_get}
 use Rattle.std.proofs.lemmas.List.{map-append}
 use Rattle.indexmap.specs.IndexSet.{insert_key}
 use Rattle.digit_tuple.specs.Explored.{AreApart, IsNumbered}
+use Rattle.digit_tuple.proofs.MemberLemmas.{Contains-from_map, list_any-contains}
 
 -- where no element passes the test
 pub position_or_len-absent : {X : Type 0} (p : X → Bool) (xs : List X) → list_any p xs ≡ false → position_or_len p xs ≡ length xs
@@ -55,3 +56,9 @@ IsNumbered-found f test (k ∷ ks) key n tells apart found =
       key_is = get_or-map f (k ∷ ks) n k [] at.0 ∙ sym ((tells (get_or (k ∷ ks) n k)).0 at.1);
       old_or_new = inl (refl, omega (arith, at.0, length-map (k ∷ ks) f));
     }
+
+-- a key that no list of them is does not stand among them
+pub Contains-none_passes : {K : Type 0} (f : K → List ℕ) (test : K → Bool) (ks : List K) (key : List ℕ) → ((x : K) → Decides (test x) (key ≡ f x)) → list_any test ks ≡ false → ¬ Contains (map f ks) key
+Contains-none_passes f test ks key tells none there =
+    let found = Contains-from_map f ks key there in
+    true≢false (sym (list_any-contains test ks found.0 found.1 ((tells found.0).1 (sym found.2))) ∙ none)

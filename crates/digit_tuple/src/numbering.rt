@@ -1,6 +1,7 @@
 //! Keys, numbered in the order in which they were first seen.
 
-ghost use Rattle.std.specs.Prelude.{◌≡◌, ◌<◌, ◌^◌, [], length, IfOk};
+ghost use Rattle.std.specs.Prelude.{◌≡◌, ◌<◌, ◌^◌, [], length, IfOk, IsOk, OnErr};
+ghost use Rattle.std.specs.List.{Contains};
 ghost use Rattle.digit_tuple.specs.Explored.{AreApart, IsNumbered, key_at};
 
 use crate::faults::OutOfMemory;
@@ -55,9 +56,11 @@ impl Numbering {
     }
 
     /// The number of a key, a new one if the key was not seen before. A key that was seen takes no
-    /// memory.
+    /// memory. A refused call leaves the keys.
     pub fn number_of(&mut self, key: &[u32]) -> Result<usize, OutOfMemory>
-        ensures { IfOk result (IsNumbered self.old self.new key.now) }
+        ensures number { IfOk result (IsNumbered self.old self.new key.now) }
+        ensures seen { Contains self.old key.now → IsOk result }
+        ensures err { OnErr result (self.new ≡ self.old) }
     {
         if let Some(number) = self.lists.get_index_of(key) {
             return Ok(number);

@@ -27,7 +27,7 @@ returns-then-limit-eq0-clause-states g c h =
 pub explore-init : goal.explore-init
 explore-init g c =
     let s = c.args.graph.now in
-    let keys : g.G.KeyGraph.start s ∷ [] ≡ c.number_of.new.self = first_numbered c.new-keys.result c.number_of.new.self c.deref.result.now (g.G.KeyGraph.start s) c.in_ok-number_of.field-0 c.new-keys.ensures (c.deref.ensures.value ∙ c.in_ok-first_key.ensures) c.in_ok-number_of.ensures in
+    let keys : g.G.KeyGraph.start s ∷ [] ≡ c.number_of.new.self = first_numbered c.new-keys.result c.number_of.new.self c.deref.result.now (g.G.KeyGraph.start s) c.in_ok-number_of.field-0 c.new-keys.ensures (c.deref.ensures.value ∙ c.in_ok-first_key.ensures) c.in_ok-number_of.ensures.number in
     let none : [] ≡ states_in c.new-rows.result.items = ap states_in (sym c.new-rows.ensures.items) in
     record {
       few = omega (arith, ap length keys, c.if-limit-eq0.false);
