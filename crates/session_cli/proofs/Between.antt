@@ -1,108 +1,141 @@
 -- Where a run stands between two items, whatever may still come of the script.
-use Rattle.std.proofs.Common.{◌≡◌, ℕ, ◌<◌, ◌≤◌, ◌⊎◌, Bool, true, false, List, [], ◌++◌, length, Option, Result, Ok, Err, Vec, Global, refl, sym, ap, subst, arith, append_assoc}
+use Rattle.std.proofs.Common.{◌≡◌, ◌≢◌, ℕ, ◌+◌, ◌<◌, ◌≤◌, ◌⊎◌, Bool, true, false, List, [], ◌∷◌, ◌++◌, length, Result, Ok, Err, Vec, Global, refl, sym, ◌∙◌, ap, subst, inl, inr, arith, append_assoc, length-append}
+use Rattle.std.specs.List.{concat}
 use Rattle.std.specs.Io.KnownBytes.{Consumes, IsAtEnd as HasGivenAll}
 use Rattle.wal_outside.specs.Causes.{Rose}
-use Rattle.script_cut.specs.Cuts.{Ended, Terminated, Unterminated, PastLimit, Place, Next, start, CutsTo, CutsCommand, CutsOpen, CutsOff, IsAtEnd, HasNoCommand}
+use Rattle.script_cut.specs.Cuts.{Ended, Terminated, Unterminated, PastLimit, Place, Next, start, CutsTo, CutsCommand, CutsOpen, CutsOff, IsAtEnd}
 use Rattle.script_cut.specs.Kept.{Kept, fresh}
-use Rattle.script_cut.specs.Cutting.{place_of, MayCome, GivesItem, HasCut}
+use Rattle.script_cut.specs.Cutting.{place_of, MayCome, GivesItem, HasFailed, HasCut}
 use Rattle.script_cut.specs.declared.cut.Cut.{Cut}
 use Rattle.script_cut.specs.declared.cut.Cut.TheVariants as cuts
 use Rattle.script_cut.specs.declared.cut.CutFault.{CutFault}
 use Rattle.script_cut.specs.declared.cut.CutFault.TheVariants as cut_faults
-use Rattle.script_cut.proofs.PassingSteps.{consumes-none, consumes-then}
+use Rattle.script_cut.proofs.AskingSteps.{consumes-none, consumes-then}
 use Rattle.session_cli.specs.declared.fault.Part.TheVariants as parts
 use Rattle.session_cli.specs.declared.fault.Fault.TheVariants as faults
 use Rattle.session_cli.specs.declared.tally.Tally.{Tally}
 use Rattle.session_cli.specs.declared.status.Status.{Status}
 use Rattle.session_cli.specs.declared.status.Status.TheVariants as status
-use Rattle.session_cli.specs.Views.{SourceView, StoreView, SinkView, IsTold}
-use Rattle.session_cli.specs.Whole.{RanThrough, RanToStop, RanToFault}
+use Rattle.wal_outside.specs.Views.{SourceView, StoreView, SinkView}
+use Rattle.session_cli.specs.Views.{IsTold}
+use Rattle.session_cli.specs.Whole.{HasGiven, SourceFailed, WantedMemory, Ran, HasRun}
 use Rattle.session_cli.specs.Tallies.{tally_status}
 use Rattle.session_cli.specs.Ending.{Finishes}
-use Rattle.session_cli.proofs.Coming.{some_more, may_come_before, told_of}
+use Rattle.session_cli.proofs.Coming.{some_more, may_come_before, told_of, told_when}
 use Rattle.session_cli.proofs.Standing.{Stands, begins, ends_there, open_step, limit_step, none_left, finishes}
 
--- the items so far are those of what the source gave, with whatever may come behind that
-pub record IsBetween (limit : ℕ) (from to : Option (List ℕ)) (kept : Kept) (old now : StoreView) (held told : Option (List ℕ)) (tally : Tally) : Type 0 where
+-- the items so far are those of what the source gave, with whatever may come after that
+pub record IsBetween (limit : ℕ) (from to : SourceView) (kept : Kept) (old now : StoreView) (held told : SinkView) (tally : Tally) : Type 0 where
   pub gave : List ℕ
-  pub taken : Consumes from to gave
-  pub ended : kept.over ≡ true → HasGivenAll to
-  pub stands : (more : List ℕ) → MayCome kept.over to more → Stands limit (gave ++ more) old now held told (place_of kept more) tally
+  pub taken : Consumes from.left to.left gave
+  pub ended : kept.over ≡ true → HasGivenAll to.left
+  pub stands : (more : List ℕ) → MayCome kept.over to.left more → Stands limit (gave ++ more) old now held told (place_of kept more) tally
+  pub source_kept : to.faults ≡ from.faults
+  pub room : kept.room + length gave ≡ 16777216 + length kept.held
+  pub few : length kept.held ≤ kept.room + 1
 
-pub between_first : (limit : ℕ) (from : Option (List ℕ)) (old : StoreView) (held : Option (List ℕ)) → IsBetween limit from from fresh old old held held (record { refused = false; store = false; memory = false })
+pub between_first : (limit : ℕ) (from : SourceView) (old : StoreView) (held : SinkView) → IsBetween limit from from fresh old old held held (record { refused = false; store = false; memory = false })
 between_first limit from old held = record {
   gave = [];
-  taken = consumes-none from;
+  taken = consumes-none from.left;
   ended = λ is. cc;
   stands = λ more may. begins limit more old held;
+  source_kept = refl;
+  room = refl;
+  few = omega arith;
 }
 
--- what may come behind a cut might have come before it
-came : (kept next : Kept) (to now : Option (List ℕ)) (result : Result Cut CutFault) (more : List ℕ) → kept.over ≡ false → (c : HasCut kept to result next now) → MayCome next.over now more → MayCome kept.over to (c.given ++ more)
-came kept next to now result more begun c may = rw begun (may_come_before next.over to now c.given more c.taken (c.ended begun) may)
+-- what may come after a cut might have come before it
+came : (kept next : Kept) (to now : SourceView) (result : Result Cut CutFault) (more : List ℕ) → kept.over ≡ false → (c : HasCut kept to result next now) → MayCome next.over now.left more → MayCome kept.over to.left (concat c.pieces ++ more)
+came kept next to now result more begun c may = rw begun (may_come_before next.over to.left now.left (concat c.pieces) more c.given.taken (c.ended begun) may)
+
+-- as many bytes were given as were passed and are held
+room_next : (kept next : Kept) (to now : SourceView) (result : Result Cut CutFault) (gave : List ℕ) → kept.room + length gave ≡ 16777216 + length kept.held → (c : HasCut kept to result next now) → next.room + length (gave ++ concat c.pieces) ≡ 16777216 + length next.held
+room_next kept next to now result gave room c = omega (arith, room, c.room, length-append gave (concat c.pieces), length-append kept.held (concat c.pieces))
+
+few_by : (kept next : Kept) (pieces : List (List ℕ)) → length kept.held ≤ kept.room + 1 → (pieces ≢ [] → length (kept.held ++ concat pieces) ≤ kept.room + 1) → next.room + length (kept.held ++ concat pieces) ≡ kept.room + length next.held → length next.held ≤ next.room + 1
+few_by kept next [] few within room = omega (arith, few, room, length-append kept.held [])
+few_by kept next (piece ∷ pieces) few within room = omega (arith, room, within (λ is. cc))
+
+few_next : (kept next : Kept) (to now : SourceView) (result : Result Cut CutFault) → length kept.held ≤ kept.room + 1 → (c : HasCut kept to result next now) → length next.held ≤ next.room + 1
+few_next kept next to now result few c = few_by kept next c.pieces few c.within c.room
+
+-- what was given up to a cut, and what may come after it
+given_next : (limit : ℕ) (from to now : SourceView) (kept next : Kept) (result : Result Cut CutFault) (old mid : StoreView) (held told : SinkView) (tally : Tally) (more : List ℕ)
+    → (b : IsBetween limit from to kept old mid held told tally) → (c : HasCut kept to result next now) → IsTold now.left more → HasGiven from now (b.gave ++ concat c.pieces) more
+given_next limit from to now kept next result old mid held told tally more b c is = record {
+  taken = consumes-then from.left to.left now.left b.gave (concat c.pieces) b.taken c.given.taken;
+  within = omega (arith, room_next kept next to now result b.gave b.room c, few_next kept next to now result b.few c);
+  told = is;
+}
 
 -- an item was answered
-pub between_next : (limit : ℕ) (from to now : Option (List ℕ)) (kept next : Kept) (result : Result Cut CutFault) (old mid new : StoreView) (held told then : Option (List ℕ)) (tally counted : Tally)
-    → kept.over ≡ false → IsBetween limit from to kept old mid held told tally → HasCut kept to result next now
+pub between_next : (limit : ℕ) (from to now : SourceView) (kept next : Kept) (result : Result Cut CutFault) (old mid new : StoreView) (held told then : SinkView) (tally counted : Tally)
+    → kept.over ≡ false → IsBetween limit from to kept old mid held told tally → HasCut kept to result next now → now.faults ≡ to.faults
     → ((script : List ℕ) (place behind : Place) → Stands limit script old mid held told place tally → GivesItem place result behind → Stands limit script old new held then behind counted)
     → IsBetween limit from now next old new held then counted
-between_next limit from to now kept next result old mid new held told then tally counted begun b c step = record {
-  gave = b.gave ++ c.given;
-  taken = consumes-then from to now b.gave c.given b.taken c.taken;
+between_next limit from to now kept next result old mid new held told then tally counted begun b c source step = record {
+  gave = b.gave ++ concat c.pieces;
+  taken = consumes-then from.left to.left now.left b.gave (concat c.pieces) b.taken c.given.taken;
   ended = c.ended begun;
   stands = λ more may.
       let P : List ℕ → Type 0 = λ script. Stands limit script old new held then (place_of next more) counted in
-      subst P (sym (append_assoc b.gave c.given more)) (step (b.gave ++ (c.given ++ more)) (place_of kept (c.given ++ more)) (place_of next more) (b.stands (c.given ++ more) (came kept next to now result more begun c may)) (c.item more may));
+      subst P (sym (append_assoc b.gave (concat c.pieces) more)) (step (b.gave ++ (concat c.pieces ++ more)) (place_of kept (concat c.pieces ++ more)) (place_of next more) (b.stands (concat c.pieces ++ more) (came kept next to now result more begun c may)) (c.item more may));
+  source_kept = source ∙ b.source_kept;
+  room = room_next kept next to now result b.gave b.room c;
+  few = few_next kept next to now result b.few c;
 }
 
 -- the run ended with an item
-pub between_ends : (limit : ℕ) (from to now : Option (List ℕ)) (kept next : Kept) (result : Result Cut CutFault) (old mid : StoreView) (held told : Option (List ℕ)) (tally : Tally) (Ended : List ℕ → Type 0)
-    → kept.over ≡ false → IsBetween limit from to kept old mid held told tally → HasCut kept to result next now
-    → ((script : List ℕ) (place behind : Place) → Stands limit script old mid held told place tally → GivesItem place result behind → Ended script)
-    → (script : List ℕ) × IsTold from script × Ended script
-between_ends limit from to now kept next result old mid held told tally Ended begun b c step =
-    let more : (more : List ℕ) × MayCome next.over now more = some_more next.over now in
-    let may : MayCome kept.over to (c.given ++ more.0) = came kept next to now result more.0 begun c more.1 in (
-      b.gave ++ (c.given ++ more.0),
-      told_of from (b.gave ++ (c.given ++ more.0)) (may_come_before kept.over from to b.gave (c.given ++ more.0) b.taken b.ended may),
-      step (b.gave ++ (c.given ++ more.0)) (place_of kept (c.given ++ more.0)) (place_of next more.0) (b.stands (c.given ++ more.0) may) (c.item more.0 more.1),
+pub between_ends : (limit : ℕ) (from to now : SourceView) (kept next : Kept) (result : Result Cut CutFault) (old mid new : StoreView) (held told then : SinkView) (tally : Tally) (state : Status)
+    → kept.over ≡ false → IsBetween limit from to kept old mid held told tally → HasCut kept to result next now → now.faults ≡ to.faults
+    → ((gave more : List ℕ) (place behind : Place) → Stands limit (gave ++ more) old mid held told place tally → GivesItem place result behind → now.faults ≡ from.faults → Ran limit gave more from now old new held then state)
+    → HasRun limit from now old new held then state
+between_ends limit from to now kept next result old mid new held told then tally state begun b c source step =
+    let more : (more : List ℕ) × MayCome next.over now.left more = some_more next.over now.left in
+    let may : MayCome kept.over to.left (concat c.pieces ++ more.0) = came kept next to now result more.0 begun c more.1 in
+    let is : IsTold now.left more.0 = told_when next.over now.left more.0 (c.ended begun) more.1 in
+    let P : List ℕ → Type 0 = λ script. Stands limit script old mid held told (place_of kept (concat c.pieces ++ more.0)) tally in (
+      b.gave ++ concat c.pieces,
+      more.0,
+      given_next limit from to now kept next result old mid held told tally more.0 b c is,
+      step (b.gave ++ concat c.pieces) more.0 (place_of kept (concat c.pieces ++ more.0)) (place_of next more.0) (subst P (sym (append_assoc b.gave (concat c.pieces) more.0)) (b.stands (concat c.pieces ++ more.0) may)) (c.item more.0 more.1) (source ∙ b.source_kept),
     )
 
 -- the script's end
-pub between_end : (limit : ℕ) (over : Bool) (from to now : Option (List ℕ)) (kept next : Kept) (old mid : StoreView) (held told : SinkView) (tally : Tally) (state : Status)
-    → kept.over ≡ over → IsBetween limit from to kept old mid held.held told.held tally → HasCut kept to (Ok cuts.End) next now → state ≡ tally_status tally
-    → (script : List ℕ) × IsTold from script × RanThrough limit script old mid held told state
-between_end limit false from to now kept next old mid held told tally state begun b c is =
-    between_ends limit from to now kept next (Ok cuts.End) old mid held.held told.held tally (λ script. RanThrough limit script old mid held told state) begun b c
-    (λ script place behind stands end. ends_there limit script old mid held told place tally state stands end is)
-between_end limit true from to now kept next old mid held told tally state over b c is =
-    let may : MayCome kept.over to [] = rw over refl in
-    let none : (place_of kept []).left ≡ [] = rw over refl in (
-      b.gave ++ [],
-      told_of from (b.gave ++ []) (may_come_before kept.over from to b.gave [] b.taken b.ended may),
-      ends_there limit (b.gave ++ []) old mid held told (place_of kept []) tally state (b.stands [] may) (none_left (place_of kept []) none) is,
-    )
+pub between_end : (limit : ℕ) (over : Bool) (from to now : SourceView) (kept next : Kept) (old mid : StoreView) (held told : SinkView) (tally : Tally) (state : Status)
+    → kept.over ≡ over → IsBetween limit from to kept old mid held told tally → HasCut kept to (Ok cuts.End) next now → now.faults ≡ to.faults → (kept.over ≡ true → now ≡ to) → state ≡ tally_status tally
+    → HasRun limit from now old mid held told state
+between_end limit false from to now kept next old mid held told tally state begun b c source still is =
+    between_ends limit from to now kept next (Ok cuts.End) old mid mid held told told tally state begun b c source
+    (λ gave more place behind stands end source'. inl (ends_there limit (gave ++ more) from now old mid held told place tally state stands end source' is))
+between_end limit true from to now kept next old mid held told tally state over b c source still is =
+    let may : MayCome kept.over to.left [] = rw over refl in
+    let none : (place_of kept []).left ≡ [] = rw over refl in
+    let P : SourceView → Type 0 = λ end. HasRun limit from end old mid held told state in
+    let given : HasGiven from to b.gave [] = record { taken = b.taken; within = omega (arith, b.room, b.few); told = told_when kept.over to.left [] b.ended may } in
+    subst P (sym (still over)) (b.gave, [], given, inl (ends_there limit (b.gave ++ []) from to old mid held told (place_of kept []) tally state (b.stands [] may) (none_left (place_of kept []) none) b.source_kept is))
 
 -- a text without terminator, or the limit of the script
-pub between_finishes : (limit : ℕ) (from to now : Option (List ℕ)) (kept next : Kept) (line len : ℕ) (old mid : StoreView) (held told then : SinkView) (tally : Tally) (state : Status)
-    → kept.over ≡ false → IsBetween limit from to kept old mid held.held told.held tally → HasCut kept to (Err (cut_faults.Syntax line len)) next now → held.faults ≤ told.faults
+pub between_finishes : (limit : ℕ) (from to now : SourceView) (kept next : Kept) (line len : ℕ) (old mid : StoreView) (held told then : SinkView) (tally : Tally) (state : Status)
+    → kept.over ≡ false → IsBetween limit from to kept old mid held told tally → HasCut kept to (Err (cut_faults.Syntax line len)) next now → now.faults ≡ to.faults
     → Finishes told line (faults.Syntax parts.Command len) tally then state
-    → (script : List ℕ) × IsTold from script × (RanThrough limit script old mid held then state ⊎ RanToStop limit script old mid held then state)
-between_finishes limit from to now kept next line len old mid held told then tally state begun b c later ends =
-    between_ends limit from to now kept next (Err (cut_faults.Syntax line len)) old mid held.held told.held tally (λ script. RanThrough limit script old mid held then state ⊎ RanToStop limit script old mid held then state) begun b c
-    (λ script place behind stands (text, cut, len_is, short). finishes limit script old mid held told then place behind tally (record { text = text; line = line; ended = Unterminated }) (faults.Syntax parts.Command len) state stands cut (at_end place text behind cut.before cut.cut) later
+    → HasRun limit from now old mid held then state
+between_finishes limit from to now kept next line len old mid held told then tally state begun b c source ends =
+    between_ends limit from to now kept next (Err (cut_faults.Syntax line len)) old mid mid held told then tally state begun b c source
+    (λ gave more place behind stands (text, cut, len_is, short) source'. finishes limit gave more from now old mid held told then place behind tally (record { text = text; line = line; ended = Unterminated }) (faults.Syntax parts.Command len) state stands cut (at_end place text behind cut.before cut.cut) source'
     (λ ledger. open_step limit ledger mid text line len (omega arith) len_is) ends)
   where
     at_end : (place : Place) (text : List ℕ) (behind : Place) (before : List ℕ) → CutsOpen place before text behind → IsAtEnd behind
     at_end place text behind before cut = none_left behind cut.nothing_left
 
-pub between_limit : (limit : ℕ) (from to now : Option (List ℕ)) (kept next : Kept) (line : ℕ) (old mid : StoreView) (held told then : SinkView) (tally : Tally) (state : Status)
-    → kept.over ≡ false → IsBetween limit from to kept old mid held.held told.held tally → HasCut kept to (Err (cut_faults.ScriptLimit line)) next now → held.faults ≤ told.faults
+pub between_limit : (limit : ℕ) (from to now : SourceView) (kept next : Kept) (line : ℕ) (old mid : StoreView) (held told then : SinkView) (tally : Tally) (state : Status)
+    → kept.over ≡ false → IsBetween limit from to kept old mid held told tally → HasCut kept to (Err (cut_faults.ScriptLimit line)) next now → now.faults ≡ to.faults
     → Finishes told line faults.ScriptLimit tally then state
-    → (script : List ℕ) × IsTold from script × (RanThrough limit script old mid held then state ⊎ RanToStop limit script old mid held then state)
-between_limit limit from to now kept next line old mid held told then tally state begun b c later ends =
-    between_ends limit from to now kept next (Err (cut_faults.ScriptLimit line)) old mid held.held told.held tally (λ script. RanThrough limit script old mid held then state ⊎ RanToStop limit script old mid held then state) begun b c
-    (λ script place behind stands (last, cut). finishes limit script old mid held told then place last tally (record { text = []; line = line; ended = PastLimit }) faults.ScriptLimit state stands cut (at_end place last cut.before cut.cut) later
+    → HasRun limit from now old mid held then state
+between_limit limit from to now kept next line old mid held told then tally state begun b c source ends =
+    between_ends limit from to now kept next (Err (cut_faults.ScriptLimit line)) old mid mid held told then tally state begun b c source
+    (λ gave more place behind stands (last, cut) source'. finishes limit gave more from now old mid held told then place last tally (record { text = []; line = line; ended = PastLimit }) faults.ScriptLimit state stands cut (at_end place last cut.before cut.cut) source'
     (λ ledger. limit_step limit ledger mid line) ends)
   where
     at_end : (place last : Place) (before : List ℕ) → CutsOff place before [] last → IsAtEnd last
@@ -110,30 +143,50 @@ between_limit limit from to now kept next line old mid held told then tally stat
 
 -- the source failed, or there was no memory for the next item
 pub between_fault : (limit : ℕ) (from to then : SourceView) (kept next : Kept) (result : Result Cut CutFault) (old mid : StoreView) (held told : SinkView) (tally : Tally) (state : Status)
-    → kept.over ≡ false → IsBetween limit from.left to.left kept old mid held.held told.held tally → (c : HasCut kept to.left result next then.left)
-    → ((state ≡ status.Outside) × Rose from.faults then.faults × HasNoCommand (kept.held ++ c.given)) ⊎ (state ≡ status.Memory)
-    → RanToFault limit from then old mid held told state
+    → kept.over ≡ false → (b : IsBetween limit from to kept old mid held told tally) → (c : HasCut kept to result next then)
+    → SourceFailed from then (b.gave ++ concat c.pieces) (kept.held ++ concat c.pieces) state ⊎ WantedMemory from then state
+    → HasRun limit from then old mid held told state
 between_fault limit from to then kept next result old mid held told tally state begun b c cause =
     let more : (more : List ℕ) × MayCome false then.left more = some_more false then.left in
-    let s : Stands limit (b.gave ++ (c.given ++ more.0)) old mid held.held told.held (place_of kept (c.given ++ more.0)) tally = b.stands (c.given ++ more.0) (rw begun (may_come_before false to.left then.left c.given more.0 c.taken (λ is. cc) more.1)) in
-    let P : List ℕ → Type 0 = λ script. CutsTo (start script) s.items (place_of kept (c.given ++ more.0)) in
-    record {
-      gave = b.gave ++ c.given;
-      more = more.0;
-      taken = consumes-then from.left to.left then.left b.gave c.given b.taken c.taken;
-      told = told_of then.left more.0 more.1;
-      items = s.items;
-      answers = s.answers;
-      last = place_of kept (c.given ++ more.0);
-      cut = subst P (sym (append_assoc b.gave c.given more.0)) s.cut;
-      behind = kept.held ++ c.given;
-      left_is = rw begun (sym (append_assoc kept.held c.given more.0));
-      ledger = s.ledger;
-      run = s.run;
-      stores = s.stores;
-      sent = s.sent;
-      cause = cause;
-    }
+    let s : Stands limit (b.gave ++ (concat c.pieces ++ more.0)) old mid held told (place_of kept (concat c.pieces ++ more.0)) tally = b.stands (concat c.pieces ++ more.0) (rw begun (may_come_before false to.left then.left (concat c.pieces) more.0 c.given.taken (λ is. cc) more.1)) in
+    let P : List ℕ → Type 0 = λ script. CutsTo (start script) s.items (place_of kept (concat c.pieces ++ more.0)) in (
+      b.gave ++ concat c.pieces,
+      more.0,
+      given_next limit from to then kept next result old mid held told tally more.0 b c (told_of then.left more.0 more.1),
+      inr (inr (record {
+        items = s.items;
+        answers = s.answers;
+        last = place_of kept (concat c.pieces ++ more.0);
+        cut = subst P (sym (append_assoc b.gave (concat c.pieces) more.0)) s.cut;
+        behind = kept.held ++ concat c.pieces;
+        left_is = rw begun (sym (append_assoc kept.held (concat c.pieces) more.0));
+        ledger = s.ledger;
+        run = s.run;
+        stores = s.stores;
+        sent = s.sent;
+        cause = cause;
+      })),
+    )
+
+-- the source failed
+pub between_failed : (limit : ℕ) (from to then : SourceView) (kept next : Kept) (old mid : StoreView) (held told : SinkView) (tally : Tally)
+    → kept.over ≡ false → IsBetween limit from to kept old mid held told tally → HasCut kept to (Err cut_faults.Failed) next then → Rose to.faults then.faults
+    → HasRun limit from then old mid held told status.Outside
+between_failed limit from to then kept next old mid held told tally begun b c rose =
+    let failed : HasFailed kept (concat c.pieces) = c.failed refl in
+    between_fault limit from to then kept next (Err cut_faults.Failed) old mid held told tally status.Outside begun b c (inl (record {
+      rose = rw b.source_kept at rose;
+      none = failed.none;
+      within = omega (arith, failed.within, b.room, length-append kept.held (concat c.pieces), length-append b.gave (concat c.pieces));
+      state_is = refl;
+    }))
+
+-- no memory
+pub between_memory : (limit : ℕ) (from to then : SourceView) (kept next : Kept) (old mid : StoreView) (held told : SinkView) (tally : Tally)
+    → kept.over ≡ false → IsBetween limit from to kept old mid held told tally → HasCut kept to (Err cut_faults.Memory) next then → then.faults ≡ to.faults
+    → HasRun limit from then old mid held told status.Memory
+between_memory limit from to then kept next old mid held told tally begun b c source =
+    between_fault limit from to then kept next (Err cut_faults.Memory) old mid held told tally status.Memory begun b c (inr (record { source_kept = source ∙ b.source_kept; state_is = refl }))
 
 command_room : (place : Place) (before text : List ℕ) (shown : Bool) (behind : Place) → CutsCommand shown place before text behind → behind.room < place.room
 command_room place before text shown behind cut = omega (arith, cut.room)
@@ -150,19 +203,19 @@ long_room PastLimit place text line behind next long = absurd (of_off next.befor
     of_off before cut = omega (arith, ap length cut.no_text, long)
 
 -- with each item fewer bytes may still be passed
-pub room_falls : (to now : Option (List ℕ)) (kept next : Kept) (text : Vec ℕ Global) (shown : Bool) (line : ℕ) → HasCut kept to (Ok (cuts.Command text shown line)) next now → next.room < kept.room
+pub room_falls : (to now : SourceView) (kept next : Kept) (text : Vec ℕ Global) (shown : Bool) (line : ℕ) → HasCut kept to (Ok (cuts.Command text shown line)) next now → next.room < kept.room
 room_falls to now kept next text shown line c =
-    let more : (more : List ℕ) × MayCome next.over now more = some_more next.over now in
+    let more : (more : List ℕ) × MayCome next.over now.left more = some_more next.over now.left in
     long_free (c.item more.0 more.1).0
   where
     long_free : {place behind : Place} → Next place (record { text = text.items; line = line; ended = Terminated shown }) behind → behind.room < place.room
     long_free {place} {behind} next = command_room place next.before text.items shown behind next.cut
 
-pub room_falls_long : (to now : Option (List ℕ)) (kept next : Kept) (line : ℕ) → HasCut kept to (Err (cut_faults.Long line)) next now → next.room < kept.room
+pub room_falls_long : (to now : SourceView) (kept next : Kept) (line : ℕ) → HasCut kept to (Err (cut_faults.Long line)) next now → next.room < kept.room
 room_falls_long to now kept next line c =
-    let more : (more : List ℕ) × MayCome next.over now more = some_more next.over now in
-    let item : GivesItem (place_of kept (c.given ++ more.0)) (Err (cut_faults.Long line)) (place_of next more.0) = c.item more.0 more.1 in
-    long_room item.1 (place_of kept (c.given ++ more.0)) item.0 line (place_of next more.0) item.2 item.3
+    let more : (more : List ℕ) × MayCome next.over now.left more = some_more next.over now.left in
+    let item : GivesItem (place_of kept (concat c.pieces ++ more.0)) (Err (cut_faults.Long line)) (place_of next more.0) = c.item more.0 more.1 in
+    long_room item.1 (place_of kept (concat c.pieces ++ more.0)) item.0 line (place_of next more.0) item.2 item.3
 
 -- what is not the end was cut before the end
 pub begun_of : {P : Type 0} (over : Bool) (result : Result Cut CutFault) → (over ≡ true → (result ≡ Ok cuts.End) × P) → (result ≡ Ok cuts.End → ⊥) → over ≡ false

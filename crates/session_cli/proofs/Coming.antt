@@ -21,3 +21,8 @@ may_come_before false (Some left) (Some rest) given more taken ended may = sym (
 pub told_of : (told : Option (List ℕ)) (more : List ℕ) → MayCome false told more → IsTold told more
 told_of None more may = tt
 told_of (Some left) more may = may
+
+pub told_when : (over : Bool) (told : Option (List ℕ)) (more : List ℕ) → (over ≡ true → HasGivenAll told) → MayCome over told more → IsTold told more
+told_when over None more ended may = tt
+told_when true (Some left) more ended may = may ∙ sym (ended refl)
+told_when false (Some left) more ended may = may

@@ -10,7 +10,7 @@ use Rattle.session_cli.specs.Trees.{Ledger}
 use Rattle.session_cli.specs.Outcomes.{Outcome}
 use Rattle.wal_outside.specs.Places.{Place}
 use Rattle.session_cli.specs.Runs.{IsAnswer, is_store_fault, failed_after}
-use Rattle.session_cli.specs.Views.{StoreView}
+use Rattle.wal_outside.specs.Views.{StoreView}
 use Rattle.session_cli.specs.Plans.{IsPlan, IsRefused}
 use Rattle.session_cli.specs.Commands.{Stored, Commands, WritesPlan}
 

@@ -1,13 +1,12 @@
 -- Runs over one script end alike, unless the store, the sink or memory fails.
-use Rattle.std.proofs.Common.{◌≡◌, ℕ, ◌+◌, ◌-◌, ◌^◌, ◌<◌, ◌≤◌, min, ◌⊎◌, Bool, true, false, ◌||◌, if◌then◌else◌, List, [], ◌∷◌, length, Option, Some, Ok, Err, refl, sym, ap, ◌∙◌, subst, inl, inr, arith}
-use Rattle.std.specs.Prelude.{⊤}
+use Rattle.std.proofs.Common.{◌≡◌, ℕ, ◌+◌, ◌-◌, ◌^◌, ◌<◌, ◌≤◌, min, ◌⊎◌, Bool, true, false, ◌||◌, if◌then◌else◌, List, [], ◌∷◌, ◌++◌, length, Option, None, Some, Ok, Err, refl, sym, ap, ◌∙◌, subst, inl, inr, arith}
+use Rattle.std.specs.Io.KnownBytes.{Consumes}
 use Rattle.std.specs.Option.{option_map}
-use Rattle.wal_outside.specs.Causes.{Rose}
 use Rattle.wal_outside.specs.Files.{Files, put}
 use Rattle.wal_outside.specs.Sending.{HasSent}
 use Rattle.wal_outside.specs.declared.sink.WriteFault.{WriteFault}
 use Rattle.wal_outside.specs.declared.sink.WriteFault.TheVariants as writes
-use Rattle.script_cut.specs.Cuts.{Ended, Terminated, Unterminated, PastLimit, Item, start, HasNoCommand}
+use Rattle.script_cut.specs.Cuts.{Ended, Terminated, Unterminated, PastLimit, Item, start}
 use Rattle.script_cut.proofs.OneList.{same_lists}
 use Rattle.session_cli.specs.declared.fault.Part.TheVariants as parts
 use Rattle.session_cli.specs.declared.fault.Fault.TheVariants as faults
@@ -15,11 +14,13 @@ use Rattle.session_cli.specs.declared.status.Status.{Status}
 use Rattle.session_cli.specs.declared.status.Status.TheVariants as status
 use Rattle.session_cli.specs.Trees.{Ledger}
 use Rattle.session_cli.specs.Outcomes.{Answer, after, Outcome, OpenOutcome}
-use Rattle.session_cli.specs.Views.{SourceView, SinkView, StoreView, IsTold}
+use Rattle.wal_outside.specs.Views.{SourceView, SinkView, StoreView}
+use Rattle.session_cli.specs.Views.{IsTold}
 use Rattle.session_cli.specs.Runs.{IsAnswer, IsAnswerOf, Changes, Run, first_ledger, of_fault, is_store_fault, is_memory_fault, is_refusal, some_of, status_by, status_of, printed}
-use Rattle.session_cli.specs.Whole.{StopsWith, RanThrough, HasRun, PrintsUsage, HasCalled}
+use Rattle.session_cli.specs.Whole.{stop_status, RanThrough, SourceFailed, WantedMemory, HasRun, HasCalled}
 use Rattle.session_cli.specs.Laws.{IsClean, EndAlike, store_faults}
 use Rattle.session_cli.specs.Words.{GivesLimit}
+use Rattle.session_cli.proofs.WholeSteps.{usage_or_memory}
 use Rattle.session_cli.proofs.OneLimits.{one_limit}
 use Rattle.session_cli.proofs.OneOutcomes.{one_text, one_answer}
 
@@ -149,9 +150,9 @@ clean_answers answers state is clean =
     let both : (some_of (of_fault is_store_fault) answers ≡ false) × (some_of (of_fault is_memory_fault) answers ≡ false) = clean_store (some_of is_refusal answers) (some_of (of_fault is_store_fault) answers) (some_of (of_fault is_memory_fault) answers) (subst P is clean) in
     record { store = both.0; memory = both.1 }
 
-through_alike : (limit : ℕ) (script : List ℕ) (old new old' new' : StoreView) (held now held' now' : SinkView) (state state' : Status) → RanThrough limit script old new held now state → RanThrough limit script old' new' held' now' state'
+through_alike : (limit : ℕ) (script : List ℕ) (from to from' to' : SourceView) (old new old' new' : StoreView) (held now held' now' : SinkView) (state state' : Status) → RanThrough limit script from to old new held now state → RanThrough limit script from' to' old' new' held' now' state'
     → old.files ≡ old'.files → IsClean state → IsClean state' → EndAlike new new' held now held' now' state state'
-through_alike limit script old new old' new' held now held' now' state state' a b same clean clean' =
+through_alike limit script from to from' to' old new old' new' held now held' now' state state' a b same clean clean' =
     let items : a.items ≡ b.items = same_lists (start script) a.items b.items (record { last = a.last; cut = a.cut; end = a.end }) (record { last = b.last; cut = b.cut; end = b.end }) in
     let P : List Item → Type 0 = λ is. Run limit (first_ledger old'.files) old' is b.answers b.ledger new' in
     let Q : Option Files → Type 0 = λ files. Run limit (first_ledger files) old' a.items b.answers b.ledger new' in
@@ -163,44 +164,55 @@ through_alike limit script old new old' new' held now held' now' state state' a 
       files = ends.files;
       text = printed a.items a.answers;
       printed = a.sent;
-      printed' = let R : List ℕ → Type 0 = λ text. HasSent held'.held now'.held text in subst R texts b.sent;
+      printed' = let R : List ℕ → Type 0 = λ text. HasSent held' text now' in subst R texts b.sent;
     }
 
 -- the sink does not stop a clean run
-not_stopped : (stop : WriteFault) (held now : SinkView) (state : Status) → StopsWith stop held now state → IsClean state → ⊥
-not_stopped writes.Failed held now state (is, rose) (inl done) = cc
-not_stopped writes.Failed held now state (is, rose) (inr refused) = cc
-not_stopped writes.Memory held now state is (inl done) = cc
-not_stopped writes.Memory held now state is (inr refused) = cc
+not_stopped : (stop : WriteFault) (state : Status) → state ≡ stop_status stop → IsClean state → ⊥
+not_stopped writes.Failed state is (inl done) = cc
+not_stopped writes.Failed state is (inr refused) = cc
+not_stopped writes.Memory state is (inl done) = cc
+not_stopped writes.Memory state is (inr refused) = cc
+
+not_memory : (state : Status) → state ≡ status.Memory → IsClean state → ⊥
+not_memory state is (inl done) = cc
+not_memory state is (inr refused) = cc
+
+not_outside : (state : Status) → state ≡ status.Outside → IsClean state → ⊥
+not_outside state is (inl done) = cc
+not_outside state is (inr refused) = cc
+
+not_usage : (state : Status) → state ≡ status.Usage → IsClean state → ⊥
+not_usage state is (inl done) = cc
+not_usage state is (inr refused) = cc
 
 -- and neither the source nor want of memory
-no_fault : (P Q : Type 0) (state : Status) → ((state ≡ status.Outside) × P × Q) ⊎ (state ≡ status.Memory) → IsClean state → ⊥
-no_fault P Q state (inl (is, rose, none)) (inl done) = cc
-no_fault P Q state (inl (is, rose, none)) (inr refused) = cc
-no_fault P Q state (inr is) (inl done) = cc
-no_fault P Q state (inr is) (inr refused) = cc
+no_fault : (from to : SourceView) (gave behind : List ℕ) (state : Status) → SourceFailed from to gave behind state ⊎ WantedMemory from to state → IsClean state → ⊥
+no_fault from to gave behind state (inl failed) clean = not_outside state failed.state_is clean
+no_fault from to gave behind state (inr memory) clean = not_memory state memory.state_is clean
 
-clean_through : (limit : ℕ) (script : List ℕ) (from to : SourceView) (old new : StoreView) (held now : SinkView) (state : Status) → HasRun limit from to old new held now state → from.left ≡ Some script → IsClean state → RanThrough limit script old new held now state
-clean_through limit script from to old new held now state (inl (read, told, inl ran)) is clean =
-    let P : Option (List ℕ) → Type 0 = λ left. IsTold left read in
-    let same : read ≡ script = subst P is told in
-    let Q : List ℕ → Type 0 = λ s. RanThrough limit s old new held now state in subst Q same ran
-clean_through limit script from to old new held now state (inl (read, told, inr ran)) is clean = absurd (not_stopped ran.fault held now state ran.state_is clean)
-clean_through limit script from to old new held now state (inr fault) is clean = absurd (no_fault (Rose from.faults to.faults) (HasNoCommand fault.behind) state fault.cause clean)
+-- all of the script is what was given and what is left
+whole_script : (from to : Option (List ℕ)) (gave more script : List ℕ) → Consumes from to gave → IsTold to more → from ≡ Some script → gave ++ more ≡ script
+whole_script None to gave more script taken told is = cc
+whole_script (Some left) None gave more script taken told is = absurd taken
+whole_script (Some left) (Some rest) gave more script taken told is = let same : left ≡ script = cc in ap (λ (xs : List ℕ). gave ++ xs) told ∙ (sym taken ∙ same)
+
+clean_through : (limit : ℕ) (script : List ℕ) (from to : SourceView) (old new : StoreView) (held now : SinkView) (state : Status) → HasRun limit from to old new held now state → from.left ≡ Some script → IsClean state → RanThrough limit script from to old new held now state
+clean_through limit script from to old new held now state (gave, more, given, inl ran) is clean =
+    let same : gave ++ more ≡ script = whole_script from.left to.left gave more script given.taken given.told is in
+    let Q : List ℕ → Type 0 = λ s. RanThrough limit s from to old new held now state in subst Q same ran
+clean_through limit script from to old new held now state (gave, more, given, inr (inl ran)) is clean = absurd (not_stopped ran.fault state ran.state_is clean)
+clean_through limit script from to old new held now state (gave, more, given, inr (inr ran)) is clean = absurd (no_fault from to gave ran.behind state ran.cause clean)
 
 -- a clean call ran with the limit that the words give
 clean_run : (words : List (List ℕ)) (from to : SourceView) (old new : StoreView) (held now : SinkView) (state : Status) → HasCalled words from to old new held now state → IsClean state → (limit : ℕ) × GivesLimit words limit × HasRun limit from to old new held now state
 clean_run words from to old new held now state (inl ran) clean = ran
-clean_run words from to old new held now state (inr (inl (none, usage))) clean = absurd (not_usage usage.shown)
+clean_run words from to old new held now state (inr (inl (none, usage))) clean = absurd (unclean (usage_or_memory usage.shown.0 state usage.shown.2))
   where
-    not_usage : PrintsUsage held now state → ⊥
-    not_usage (inl (sent, is)) = unclean is clean
-      where
-        unclean : state ≡ status.Usage → IsClean state → ⊥
-        unclean is (inl done) = cc
-        unclean is (inr refused) = cc
-    not_usage (inr (fault, sent, stops)) = not_stopped fault held now state stops clean
-clean_run words from to old new held now state (inr (inr unread)) clean = absurd (no_fault ⊤ ⊤ state (inr unread.state_is) clean)
+    unclean : (state ≡ status.Usage) ⊎ (state ≡ status.Memory) → ⊥
+    unclean (inl is) = not_usage state is clean
+    unclean (inr is) = not_memory state is clean
+clean_run words from to old new held now state (inr (inr unread)) clean = absurd (not_memory state unread.state_is clean)
 
 -- calls with the same words over one script, from the same files, that end clean end alike
 pub calls_alike : (words : List (List ℕ)) (script : List ℕ) (from to from' to' : SourceView) (old new old' new' : StoreView) (held now held' now' : SinkView) (state state' : Status)
@@ -212,5 +224,5 @@ calls_alike words script from to from' to' old new old' new' held now held' now'
     let ran' : (limit : ℕ) × GivesLimit words limit × HasRun limit from' to' old' new' held' now' state' = clean_run words from' to' old' new' held' now' state' call' clean' in
     let limits : ran'.0 ≡ ran.0 = one_limit words ran'.0 ran.0 ran'.1 ran.1 in
     let P : ℕ → Type 0 = λ limit. HasRun limit from' to' old' new' held' now' state' in
-    through_alike ran.0 script old new old' new' held now held' now' state state' (clean_through ran.0 script from to old new held now state ran.2 is clean)
+    through_alike ran.0 script from to from' to' old new old' new' held now held' now' state state' (clean_through ran.0 script from to old new held now state ran.2 is clean)
     (clean_through ran.0 script from' to' old' new' held' now' state' (subst P limits ran'.2) is' clean') same clean clean'

@@ -1,9 +1,7 @@
 -- Where a run stands between two items, and how it goes on and ends.
 use Rattle.std.proofs.Common.{◌≡◌, ℕ, ◌<◌, ◌≤◌, ◌⊎◌, Bool, true, false, ◌||◌, List, [], ◌∷◌, ◌++◌, length, Option, Result, Ok, Err, IsErrOf, refl, sym, ap, subst, inl, inr, arith}
-use Rattle.wal_outside.specs.Causes.{Rose}
 use Rattle.wal_outside.specs.Sending.{Sends, HasSent}
 use Rattle.wal_outside.specs.declared.sink.WriteFault.{WriteFault}
-use Rattle.wal_outside.specs.declared.sink.WriteFault.TheVariants as writes
 use Rattle.wal_outside.proofs.SendingSteps.{none_sent, sends_then}
 use Rattle.script_cut.specs.Cuts.{Ended, Terminated, Unterminated, PastLimit, Item, Place, Next, start, CutsTo, CutsOff, IsAtEnd}
 use Rattle.session_cli.specs.declared.fault.Part.TheVariants as parts
@@ -14,39 +12,29 @@ use Rattle.session_cli.specs.declared.status.Status.{Status}
 use Rattle.session_cli.specs.Trees.{Ledger}
 use Rattle.session_cli.specs.Lines.{fault_line}
 use Rattle.session_cli.specs.Outcomes.{Success, Answer, after}
-use Rattle.session_cli.specs.Views.{StoreView, SinkView}
+use Rattle.wal_outside.specs.Views.{SourceView, StoreView, SinkView}
 use Rattle.session_cli.specs.Runs.{IsAnswerOf, Answers, Run, of_fault, is_refusal, is_store_fault, is_memory_fault, some_of, first_ledger, StoresTold, line_of, printed}
-use Rattle.session_cli.specs.Whole.{StopsWith, RanThrough, RanToStop}
+use Rattle.session_cli.specs.Whole.{stop_status, RanThrough, RanToStop, Ran}
 use Rattle.session_cli.specs.Commands.{Gives, Stored, Commands}
 use Rattle.session_cli.specs.Tallies.{AddsFault, AddsResult, Counts, tally_status}
-use Rattle.session_cli.specs.Handing.{result_text, HasAnswered, stop_status}
-use Rattle.session_cli.specs.Ending.{Finishes}
+use Rattle.session_cli.specs.Handing.{result_text, HasAnswered}
+use Rattle.session_cli.specs.Ending.{ended_status, Finishes}
 use Rattle.session_cli.proofs.CommandSteps.{kept_store}
 use Rattle.session_cli.proofs.RunSteps.{stores_first, stores_after, run_more, cuts_more, printed_more, some_of-append}
 
 -- what was answered and printed so far
-pub record Stands (limit : ℕ) (script : List ℕ) (old now : StoreView) (held told : Option (List ℕ)) (place : Place) (tally : Tally) : Type 0 where
+pub record Stands (limit : ℕ) (script : List ℕ) (old now : StoreView) (held told : SinkView) (place : Place) (tally : Tally) : Type 0 where
   pub items : List Item
   pub answers : List Answer
   pub ledger : Ledger
   pub cut : CutsTo (start script) items place
   pub run : Run limit (first_ledger old.files) old items answers ledger now
   pub stores : StoresTold ledger now.files
-  pub sent : HasSent held told (printed items answers)
+  pub sent : HasSent held (printed items answers) told
   pub counts : Counts tally answers
 
--- a count that rose in a part of a call rose in the call
-pub stops_later : (stop : WriteFault) (held told now : SinkView) (state : Status) → held.faults ≤ told.faults → StopsWith stop told now state → StopsWith stop held now state
-stops_later writes.Failed held told now state later (is, rose) = (is, omega arith)
-stops_later writes.Memory held told now state later is = is
-
--- how a sink stops a run
-pub stop_is : (stop : WriteFault) (held told now : SinkView) (state : Status) → state ≡ stop_status stop → held.faults ≤ told.faults → (IsErrOf {T = Unit {0}} (Err stop) writes.Failed → Rose told.faults now.faults) → StopsWith stop held now state
-stop_is writes.Failed held told now state is later cause = stops_later writes.Failed held told now state later (is, cause refl)
-stop_is writes.Memory held told now state is later cause = is
-
 -- before the first item
-pub begins : (limit : ℕ) (script : List ℕ) (old : StoreView) (held : Option (List ℕ)) → Stands limit script old old held held (start script) (record { refused = false; store = false; memory = false })
+pub begins : (limit : ℕ) (script : List ℕ) (old : StoreView) (held : SinkView) → Stands limit script old old held held (start script) (record { refused = false; store = false; memory = false })
 begins limit script old held = record {
   items = [];
   answers = [];
@@ -104,7 +92,7 @@ step_of limit ledger old new text shown line result printed c = record {
 }
 
 -- a command was answered and its line handed over
-pub goes_on : (limit : ℕ) (script : List ℕ) (old mid new : StoreView) (held told now : Option (List ℕ)) (place next : Place) (tally counted : Tally) (text : List ℕ) (shown : Bool) (line : ℕ)
+pub goes_on : (limit : ℕ) (script : List ℕ) (old mid new : StoreView) (held told now : SinkView) (place next : Place) (tally counted : Tally) (text : List ℕ) (shown : Bool) (line : ℕ)
     → Stands limit script old mid held told place tally → Next place (record { text = text; line = line; ended = Terminated shown }) next
     → ((ledger : Ledger) → StoresTold ledger mid.files → HasAnswered limit ledger mid text shown line told tally (Ok tt) new now counted)
     → Stands limit script old new held now next counted
@@ -121,17 +109,17 @@ goes_on limit script old mid new held told now place next tally counted text sho
       run = run_more limit stands.items stands.answers (first_ledger old.files) stands.ledger old mid item c.answer new stands.run (step_of limit stands.ledger mid new text shown line a.result a.printed c);
       stores = stores_after stands.ledger c.answer mid.files new.files stands.stores c.stored.files;
       sent = rw (printed_more limit stands.items stands.answers (first_ledger old.files) stands.ledger old mid item c.answer stands.run)
-          (sends_then {T = Unit {0}} held told now (printed stands.items stands.answers) (line_of item c.answer) (Ok tt) stands.sent (rw text_is at a.sends));
+          (sends_then held told now (printed stands.items stands.answers) (line_of item c.answer) (Ok tt) stands.sent (rw text_is at a.sends));
       counts = counts_more tally counted stands.answers a.result a.printed c.answer c.gives stands.counts a.adds;
     }
 
 -- a command was answered, and the sink stopped in its line
-pub stops : (limit : ℕ) (script : List ℕ) (old mid new : StoreView) (held now : SinkView) (told : Option (List ℕ)) (place next : Place) (tally counted : Tally) (text : List ℕ) (shown : Bool) (line : ℕ) (fault : WriteFault) (state : Status)
-    → Stands limit script old mid held.held told place tally → Next place (record { text = text; line = line; ended = Terminated shown }) next
-    → ((ledger : Ledger) → StoresTold ledger mid.files → HasAnswered limit ledger mid text shown line told tally (Err fault) new now.held counted)
-    → StopsWith fault held now state → RanToStop limit script old new held now state
-stops limit script old mid new held now told place next tally counted text shown line fault state stands cut answered state_is =
-    let a : HasAnswered limit stands.ledger mid text shown line told tally (Err fault) new now.held counted = answered stands.ledger stands.stores in
+pub stops : (limit : ℕ) (script : List ℕ) (from to : SourceView) (old mid new : StoreView) (held told now : SinkView) (place next : Place) (tally counted : Tally) (text : List ℕ) (shown : Bool) (line : ℕ) (fault : WriteFault) (state : Status)
+    → Stands limit script old mid held told place tally → Next place (record { text = text; line = line; ended = Terminated shown }) next
+    → ((ledger : Ledger) → StoresTold ledger mid.files → HasAnswered limit ledger mid text shown line told tally (Err fault) new now counted)
+    → to.faults ≡ from.faults → state ≡ stop_status fault → RanToStop limit script from to old new held now state
+stops limit script from to old mid new held told now place next tally counted text shown line fault state stands cut answered kept state_is =
+    let a : HasAnswered limit stands.ledger mid text shown line told tally (Err fault) new now counted = answered stands.ledger stands.stores in
     let c : Commands limit stands.ledger mid text shown a.result a.printed new = a.commands in
     let item : Item = record { text = text; line = line; ended = Terminated shown } in
     record {
@@ -148,12 +136,13 @@ stops limit script old mid new held now told place next tally counted text shown
       sent = stands.sent;
       fault = fault;
       stopped = rw (text_same text line (Terminated shown) a.result a.printed c.answer c.gives) at a.sends;
+      source_kept = kept;
       state_is = state_is;
     }
 
 -- nothing but gaps is left
-pub ends_there : (limit : ℕ) (script : List ℕ) (old now : StoreView) (held told : SinkView) (place : Place) (tally : Tally) (state : Status) → Stands limit script old now held.held told.held place tally → IsAtEnd place → state ≡ tally_status tally → RanThrough limit script old now held told state
-ends_there limit script old now held told place tally state stands end state_is = record {
+pub ends_there : (limit : ℕ) (script : List ℕ) (from to : SourceView) (old now : StoreView) (held told : SinkView) (place : Place) (tally : Tally) (state : Status) → Stands limit script old now held told place tally → IsAtEnd place → to.faults ≡ from.faults → state ≡ tally_status tally → RanThrough limit script from to old now held told state
+ends_there limit script from to old now held told place tally state stands end kept state_is = record {
   items = stands.items;
   answers = stands.answers;
   last = place;
@@ -163,6 +152,7 @@ ends_there limit script old now held told place tally state stands end state_is 
   run = stands.run;
   stores = stands.stores;
   sent = stands.sent;
+  source_kept = kept;
   state_is = rw (state_is, stands.counts.refused, stands.counts.store, stands.counts.memory) refl;
 }
 
@@ -195,9 +185,9 @@ pub none_left : (place : Place) → place.left ≡ [] → IsAtEnd place
 none_left place is = record { gaps = rw is refl; within = omega (arith, ap length is) }
 
 -- an item was refused, its line handed over, and the store stays
-pub refuses : (limit : ℕ) (script : List ℕ) (old mid : StoreView) (held told now : Option (List ℕ)) (place next : Place) (tally counted : Tally) (item : Item) (fault : Fault)
+pub refuses : (limit : ℕ) (script : List ℕ) (old mid : StoreView) (held told now : SinkView) (place next : Place) (tally counted : Tally) (item : Item) (fault : Fault)
     → Stands limit script old mid held told place tally → Next place item next → ((ledger : Ledger) → Answers limit ledger mid item (Err fault) mid)
-    → HasSent told now (fault_line item.line fault) → AddsFault tally fault counted → Stands limit script old mid held now next counted
+    → HasSent told (fault_line item.line fault) now → AddsFault tally fault counted → Stands limit script old mid held now next counted
 refuses limit script old mid held told now place next tally counted item fault stands cut step sent adds = record {
   items = stands.items ++ item ∷ [];
   answers = stands.answers ++ Err fault ∷ [];
@@ -206,15 +196,15 @@ refuses limit script old mid held told now place next tally counted item fault s
   run = run_more limit stands.items stands.answers (first_ledger old.files) stands.ledger old mid item (Err fault) mid stands.run (step stands.ledger);
   stores = stands.stores;
   sent = rw (printed_more limit stands.items stands.answers (first_ledger old.files) stands.ledger old mid item (Err fault) stands.run)
-      (sends_then {T = Unit {0}} held told now (printed stands.items stands.answers) (fault_line item.line fault) (Ok tt) stands.sent sent);
+      (sends_then held told now (printed stands.items stands.answers) (fault_line item.line fault) (Ok tt) stands.sent sent);
   counts = counts_fault tally counted stands.answers fault stands.counts adds;
 }
 
 -- or the sink stopped in its line
-pub refuses_stop : (limit : ℕ) (script : List ℕ) (old mid : StoreView) (held now : SinkView) (told : Option (List ℕ)) (place next : Place) (tally : Tally) (item : Item) (fault : Fault) (stop : WriteFault) (state : Status)
-    → Stands limit script old mid held.held told place tally → Next place item next → ((ledger : Ledger) → Answers limit ledger mid item (Err fault) mid)
-    → Sends {T = Unit {0}} told now.held (fault_line item.line fault) (Err stop) → StopsWith stop held now state → RanToStop limit script old mid held now state
-refuses_stop limit script old mid held now told place next tally item fault stop state stands cut step stopped state_is = record {
+pub refuses_stop : (limit : ℕ) (script : List ℕ) (from to : SourceView) (old mid : StoreView) (held told now : SinkView) (place next : Place) (tally : Tally) (item : Item) (fault : Fault) (stop : WriteFault) (state : Status)
+    → Stands limit script old mid held told place tally → Next place item next → ((ledger : Ledger) → Answers limit ledger mid item (Err fault) mid)
+    → Sends told (fault_line item.line fault) (Err stop) now → to.faults ≡ from.faults → state ≡ stop_status stop → RanToStop limit script from to old mid held now state
+refuses_stop limit script from to old mid held told now place next tally item fault stop state stands cut step stopped kept state_is = record {
   items = stands.items;
   answers = stands.answers;
   item = item;
@@ -228,15 +218,17 @@ refuses_stop limit script old mid held now told place next tally item fault stop
   sent = stands.sent;
   fault = stop;
   stopped = stopped;
+  source_kept = kept;
   state_is = state_is;
 }
 
 -- the last item is a refusal that leaves the store
-pub finishes : (limit : ℕ) (script : List ℕ) (old mid : StoreView) (held told now : SinkView) (place last : Place) (tally : Tally) (item : Item) (fault : Fault) (state : Status)
-    → Stands limit script old mid held.held told.held place tally → Next place item last → IsAtEnd last → held.faults ≤ told.faults
+pub finishes : (limit : ℕ) (gave more : List ℕ) (from to : SourceView) (old mid : StoreView) (held told now : SinkView) (place last : Place) (tally : Tally) (item : Item) (fault : Fault) (state : Status)
+    → Stands limit (gave ++ more) old mid held told place tally → Next place item last → IsAtEnd last → to.faults ≡ from.faults
     → ((ledger : Ledger) → Answers limit ledger mid item (Err fault) mid)
-    → Finishes told item.line fault tally now state → RanThrough limit script old mid held now state ⊎ RanToStop limit script old mid held now state
-finishes limit script old mid held told now place last tally item fault state stands cut end later step (inl whole) =
-    inl (ends_there limit script old mid held now last whole.counted state (refuses limit script old mid held.held told.held now.held place last tally whole.counted item fault stands cut step whole.sent whole.adds) end whole.state_is)
-finishes limit script old mid held told now place last tally item fault state stands cut end later step (inr part) =
-    inr (refuses_stop limit script old mid held now told.held place last tally item fault part.stop state stands cut step part.stopped (stops_later part.stop held told now state later part.state_is))
+    → Finishes told item.line fault tally now state → Ran limit gave more from to old mid held now state
+finishes limit gave more from to old mid held told now place last tally item fault state stands cut end kept step f = by_sent f.sent f.sends f.state_is
+  where
+    by_sent : (sent : Result (Unit {0}) WriteFault) → Sends told (fault_line item.line fault) sent now → state ≡ ended_status sent f.counted → Ran limit gave more from to old mid held now state
+    by_sent (Ok done) sends is = inl (ends_there limit (gave ++ more) from to old mid held now last f.counted state (refuses limit (gave ++ more) old mid held told now place last tally f.counted item fault stands cut step sends f.adds) end kept is)
+    by_sent (Err stop) sends is = inr (inl (refuses_stop limit (gave ++ more) from to old mid held told now place last tally item fault stop state stands cut step sends kept is))

@@ -9,7 +9,7 @@ use Rattle.session_cli.specs.declared.fault.Fault.TheVariants as faults
 use Rattle.session_cli.specs.Trees.{Ledger}
 use Rattle.session_cli.specs.Outcomes.{Answer}
 use Rattle.session_cli.specs.Runs.{IsAnswer, Changes, of_fault, is_store_fault, failed_after}
-use Rattle.session_cli.specs.Views.{StoreView}
+use Rattle.wal_outside.specs.Views.{StoreView}
 
 -- A call's result and the text to print are the answer: accepted, with what it prints; or the same fault, and then the text is empty.
 abbrev pub Gives : Result (Unit {0}) Fault → List ℕ → Answer → Type 0

@@ -7,7 +7,7 @@ use Rattle.session_cli.specs.declared.status.Status.TheVariants as status
 use Rattle.session_cli.specs.Trees.{Entry, Ledger}
 use Rattle.session_cli.specs.Texts.{HasText}
 use Rattle.session_cli.specs.Outcomes.{Answer, Outcome}
-use Rattle.session_cli.specs.Views.{SourceView, SinkView, StoreView}
+use Rattle.wal_outside.specs.Views.{SourceView, SinkView, StoreView}
 use Rattle.session_cli.specs.Runs.{Run, of_fault, is_store_fault}
 use Rattle.session_cli.specs.Whole.{HasCalled}
 
@@ -28,8 +28,8 @@ pub record EndAlike (new new' : StoreView) (held now held' now' : SinkView) (sta
   pub status : state ≡ state'
   pub files : new.files ≡ new'.files
   pub text : List ℕ
-  pub printed : HasSent held.held now.held text
-  pub printed' : HasSent held'.held now'.held text
+  pub printed : HasSent held text now
+  pub printed' : HasSent held' text now'
 
 -- Where the status is Done or Refused, what was printed, the files and the status are a function of the words, of the script and of the
 -- files at the beginning: how the bytes of the script came does not change them.

@@ -12,7 +12,7 @@ use Rattle.session_cli.specs.declared.status.Status.TheVariants as status
 use Rattle.session_cli.specs.Trees.{Ledger, ledger_of}
 use Rattle.session_cli.specs.Texts.{HasText, Stores}
 use Rattle.session_cli.specs.Outcomes.{Success, Answer, after, Outcome, OpenOutcome}
-use Rattle.session_cli.specs.Views.{StoreView}
+use Rattle.wal_outside.specs.Views.{StoreView}
 use Rattle.session_cli.specs.Lines.{fault_line}
 
 -- A command's answer is its proper outcome. Or the write of what it makes failed; or memory ran out.

@@ -1,26 +1,33 @@
 -- The whole call: from the words and the script to the status.
-use Rattle.std.specs.Prelude.{◌≡◌, ◌⊎◌, ℕ, List, [], ◌∷◌, ◌++◌, Option, codes, Err}
+use Rattle.std.specs.Prelude.{◌≡◌, ◌⊎◌, ℕ, ◌≤◌, List, [], ◌∷◌, ◌++◌, length, codes, Result, Ok, Err}
+use Rattle.std.specs.Io.KnownBytes.{Consumes}
 use Rattle.wal_outside.specs.Causes.{Rose}
 use Rattle.wal_outside.specs.Sending.{Sends, HasSent}
+use Rattle.wal_outside.specs.Views.{SourceView, SinkView, StoreView}
 use Rattle.wal_outside.specs.declared.sink.WriteFault.{WriteFault}
 use Rattle.wal_outside.specs.declared.sink.WriteFault.TheVariants as writes
-use Rattle.std.specs.Io.KnownBytes.{Consumes}
 use Rattle.script_cut.specs.Cuts.{Item, Place, start, CutsTo, IsAtEnd, HasNoCommand}
 use Rattle.session_cli.specs.declared.status.Status.{Status}
 use Rattle.session_cli.specs.declared.status.Status.TheVariants as status
 use Rattle.session_cli.specs.Words.{GivesLimit, GivesNone}
 use Rattle.session_cli.specs.Trees.{Ledger}
 use Rattle.session_cli.specs.Outcomes.{Answer}
-use Rattle.session_cli.specs.Views.{SourceView, SinkView, StoreView, IsTold}
+use Rattle.session_cli.specs.Views.{IsTold}
 use Rattle.session_cli.specs.Runs.{Run, first_ledger, StoresTold, line_of, printed, status_of}
 
--- a sink that failed, and one that had no memory
-abbrev pub StopsWith : WriteFault → SinkView → SinkView → Status → Type 0
-StopsWith writes.Failed old new state = (state ≡ status.Outside) × Rose old.faults new.faults
-StopsWith writes.Memory old new state = state ≡ status.Memory
+-- how a run ends that a sink stopped
+abbrev pub stop_status : WriteFault → Status
+stop_status writes.Failed = status.Outside
+stop_status writes.Memory = status.Memory
 
--- All items were answered and all lines printed.
-pub record RanThrough (limit : ℕ) (script : List ℕ) (old new : StoreView) (held now : SinkView) (state : Status) : Type 0 where
+-- The source gave these bytes, at most one more than a script may have; and what it has left is this, where it is told.
+pub record HasGiven (from to : SourceView) (gave more : List ℕ) : Type 0 where
+  pub taken : Consumes from.left to.left gave
+  pub within : length gave ≤ 16777217
+  pub told : IsTold to.left more
+
+-- All items were answered and all lines printed. Neither source nor sink failed.
+pub record RanThrough (limit : ℕ) (script : List ℕ) (from to : SourceView) (old new : StoreView) (held now : SinkView) (state : Status) : Type 0 where
   pub items : List Item
   pub answers : List Answer
   pub last : Place
@@ -29,11 +36,12 @@ pub record RanThrough (limit : ℕ) (script : List ℕ) (old new : StoreView) (h
   pub ledger : Ledger
   pub run : Run limit (first_ledger old.files) old items answers ledger new
   pub stores : StoresTold ledger new.files
-  pub sent : HasSent held.held now.held (printed items answers)
+  pub sent : HasSent held (printed items answers) now
+  pub source_kept : to.faults ≡ from.faults
   pub state_is : state ≡ status_of answers
 
--- The sink stopped the run in the line of its last answer: the lines before were printed whole, and some front of that one.
-pub record RanToStop (limit : ℕ) (script : List ℕ) (old new : StoreView) (held now : SinkView) (state : Status) : Type 0 where
+-- The sink stopped the run in the line of its last answer: the lines before were printed whole, and a part of that one. The source did not fail.
+pub record RanToStop (limit : ℕ) (script : List ℕ) (from to : SourceView) (old new : StoreView) (held now : SinkView) (state : Status) : Type 0 where
   pub items : List Item
   pub answers : List Answer
   pub item : Item
@@ -43,19 +51,28 @@ pub record RanToStop (limit : ℕ) (script : List ℕ) (old new : StoreView) (he
   pub ledger : Ledger
   pub run : Run limit (first_ledger old.files) old (items ++ item ∷ []) (answers ++ answer ∷ []) ledger new
   pub stores : StoresTold ledger new.files
-  pub mid : Option (List ℕ)
-  pub sent : HasSent held.held mid (printed items answers)
+  pub mid : SinkView
+  pub sent : HasSent held (printed items answers) mid
   pub fault : WriteFault
-  pub stopped : Sends {T = Unit {0}} mid now.held (line_of item answer) (Err fault)
-  pub state_is : StopsWith fault held now state
+  pub stopped : Sends mid (line_of item answer) (Err fault) now
+  pub source_kept : to.faults ≡ from.faults
+  pub state_is : state ≡ stop_status fault
+
+-- the source failed, and no further command has its terminator in what it gave, which is no longer than a script may be
+pub record SourceFailed (from to : SourceView) (gave behind : List ℕ) (state : Status) : Type 0 where
+  pub rose : Rose from.faults to.faults
+  pub none : HasNoCommand behind
+  pub within : length gave ≤ 16777216
+  pub state_is : state ≡ status.Outside
+
+-- there was no memory to cut the next command
+pub record WantedMemory (from to : SourceView) (state : Status) : Type 0 where
+  pub source_kept : to.faults ≡ from.faults
+  pub state_is : state ≡ status.Memory
 
 -- The source failed, or there was no memory to cut the next command. The items answered are those of what the source gave, and their
--- lines were printed whole. Where the source failed, no further command has its terminator in what it gave.
-pub record RanToFault (limit : ℕ) (from to : SourceView) (old new : StoreView) (held now : SinkView) (state : Status) : Type 0 where
-  pub gave : List ℕ
-  pub more : List ℕ
-  pub taken : Consumes from.left to.left gave
-  pub told : IsTold to.left more
+-- lines were printed whole. The sink did not fail.
+pub record RanToFault (limit : ℕ) (gave more : List ℕ) (from to : SourceView) (old new : StoreView) (held now : SinkView) (state : Status) : Type 0 where
   pub items : List Item
   pub answers : List Answer
   pub last : Place
@@ -65,22 +82,32 @@ pub record RanToFault (limit : ℕ) (from to : SourceView) (old new : StoreView)
   pub ledger : Ledger
   pub run : Run limit (first_ledger old.files) old items answers ledger new
   pub stores : StoresTold ledger new.files
-  pub sent : HasSent held.held now.held (printed items answers)
-  pub cause : ((state ≡ status.Outside) × Rose from.faults to.faults × HasNoCommand behind) ⊎ (state ≡ status.Memory)
+  pub sent : HasSent held (printed items answers) now
+  pub cause : SourceFailed from to gave behind state ⊎ WantedMemory from to state
 
--- A run over a script, whose steps may have `limit` values each: all of what the source had left, where that is told; or what it gave of
--- that.
+-- a run over the bytes that the source gave and those that it has left
+abbrev pub Ran : ℕ → List ℕ → List ℕ → SourceView → SourceView → StoreView → StoreView → SinkView → SinkView → Status → Type 0
+Ran limit gave more from to old new held now state =
+    RanThrough limit (gave ++ more) from to old new held now state
+    ⊎ (RanToStop limit (gave ++ more) from to old new held now state
+    ⊎ RanToFault limit gave more from to old new held now state)
+
+-- A run whose steps may have `limit` values each.
 abbrev pub HasRun : ℕ → SourceView → SourceView → StoreView → StoreView → SinkView → SinkView → Status → Type 0
-HasRun limit from to old new held now state =
-    ((script : List ℕ) × IsTold from.left script × (RanThrough limit script old new held now state ⊎ RanToStop limit script old new held now state))
-    ⊎ RanToFault limit from to old new held now state
+HasRun limit from to old new held now state = (gave : List ℕ) × (more : List ℕ) × HasGiven from to gave more × Ran limit gave more from to old new held now state
 
 abbrev pub usage_line : List ℕ
 usage_line = codes "usage: walnut [--states N] [--stop] [--make SEED]\n"
 
--- the usage line was printed, or a front of it where the sink stopped it
+-- where words are refused a sink that fails changes nothing of the status
+abbrev pub usage_status : Result (Unit {0}) WriteFault → Status
+usage_status (Ok done) = status.Usage
+usage_status (Err writes.Failed) = status.Usage
+usage_status (Err writes.Memory) = status.Memory
+
+-- the usage line was printed, or a part of it where the sink stopped it
 abbrev pub PrintsUsage : SinkView → SinkView → Status → Type 0
-PrintsUsage held now state = (HasSent held.held now.held usage_line × (state ≡ status.Usage)) ⊎ ((fault : WriteFault) × Sends {T = Unit {0}} held.held now.held usage_line (Err fault) × StopsWith fault held now state)
+PrintsUsage held now state = (sent : Result (Unit {0}) WriteFault) × Sends held usage_line sent now × (state ≡ usage_status sent)
 
 -- and source and store stay
 pub record ShowsUsage (from to : SourceView) (old new : StoreView) (held now : SinkView) (state : Status) : Type 0 where

@@ -1,12 +1,11 @@
-ghost use Rattle.std.specs.Prelude.{◌≡◌, ◌≤◌, IsErrOf};
-ghost use Rattle.wal_outside.specs.Causes.{Rose};
+ghost use Rattle.std.specs.Prelude.{◌≡◌};
 ghost use Rattle.wal_outside.specs.Sending.{Sends};
 ghost use Rattle.session_cli.specs.Tallies.{AddsFault, AddsResult};
 ghost use Rattle.session_cli.specs.Lines.{fault_line};
 ghost use Rattle.session_cli.specs.Trees.{Ledger};
 ghost use Rattle.session_cli.specs.Runs.{StoresTold};
-ghost use Rattle.session_cli.specs.Views.{StoreView};
-ghost use Rattle.session_cli.specs.Handing.{HasAnswered, result_text, stop_status as status_of_stop};
+ghost use Rattle.session_cli.specs.Handing.{HasAnswered, result_text};
+ghost use Rattle.session_cli.specs.Whole.{stop_status as status_of_stop};
 
 use crate::answer::Answer;
 use crate::fault::Fault;
@@ -29,10 +28,8 @@ pub(crate) fn hand_over<K: Sink>(
     answered: &Result<(), Fault>,
     tally: &mut Tally,
 ) -> Result<(), WriteFault>
-    ensures sent { Sends (K.held out.old) (K.held out.new) (result_text line answer.now answered.now) result }
+    ensures sent { Sends (K.view out.old) (result_text line answer.now answered.now) result (K.view out.new) }
     ensures counts { AddsResult tally.old answered.now tally.new }
-    ensures later { K.faults out.old ≤ K.faults out.new }
-    ensures cause { IsErrOf result WriteFault.Failed → Rose (K.faults out.old) (K.faults out.new) }
 {
     match answered {
         Ok(()) => send(out, answer.bytes()),
@@ -50,10 +47,8 @@ pub(crate) fn hand_over_fault<K: Sink>(
     fault: &Fault,
     tally: &mut Tally,
 ) -> Result<(), WriteFault>
-    ensures sent { Sends (K.held out.old) (K.held out.new) (fault_line line fault.now) result }
+    ensures sent { Sends (K.view out.old) (fault_line line fault.now) result (K.view out.new) }
     ensures counts { AddsFault tally.old fault.now tally.new }
-    ensures later { K.faults out.old ≤ K.faults out.new }
-    ensures cause { IsErrOf result WriteFault.Failed → Rose (K.faults out.old) (K.faults out.new) }
 {
     *tally = tally.with(fault);
     send_fault(out, line, fault)
@@ -74,11 +69,8 @@ pub(crate) fn answer_command<K: Sink, T: Store>(
     tally: &mut Tally,
 ) -> Result<(), WriteFault>
     ensures session { session.new ≡ session.old }
-    ensures answered { (ledger : Ledger) → StoresTold ledger (T.files store.old) → HasAnswered session.old.limit ledger
-        (record { files = T.files store.old; faults = T.faults store.old; failed = T.failed store.old }) text.now shown line (K.held out.old) tally.old result
-        (record { files = T.files store.new; faults = T.faults store.new; failed = T.failed store.new }) (K.held out.new) tally.new }
-    ensures later { K.faults out.old ≤ K.faults out.new }
-    ensures cause { IsErrOf result WriteFault.Failed → Rose (K.faults out.old) (K.faults out.new) }
+    ensures answered { (ledger : Ledger) → StoresTold ledger (T.view store.old).files → HasAnswered session.old.limit ledger (T.view store.old) text.now shown line (K.view out.old) tally.old result
+        (T.view store.new) (K.view out.new) tally.new }
 {
     let mut answer = Answer::new(alloc);
     let answered = session.command(alloc, text, shown, store, &mut answer);

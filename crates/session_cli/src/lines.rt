@@ -1,6 +1,5 @@
-ghost use Rattle.std.specs.Prelude.{◌≡◌, ◌≤◌, ◌++◌, IsErrOf, codes, decimal};
+ghost use Rattle.std.specs.Prelude.{◌≡◌, ◌++◌, codes, decimal};
 ghost use Rattle.wal_outside.specs.Folders.{folder_text};
-ghost use Rattle.wal_outside.specs.Causes.{Rose};
 ghost use Rattle.wal_outside.specs.Sending.{Sends};
 ghost use Rattle.session_cli.specs.Lines.{part_name as part_text, detail, fault_line};
 
@@ -26,9 +25,7 @@ impl Part {
 /// # Errors
 /// As `send`: what was appended is a front of the line.
 pub(crate) fn send_fault<K: Sink>(out: &mut K, line: u64, fault: &Fault) -> Result<(), WriteFault>
-    ensures sent { Sends (K.held out.old) (K.held out.new) (fault_line line fault.now) result }
-    ensures later { K.faults out.old ≤ K.faults out.new }
-    ensures cause { IsErrOf result WriteFault.Failed → Rose (K.faults out.old) (K.faults out.new) }
+    ensures { Sends (K.view out.old) (fault_line line fault.now) result (K.view out.new) }
 {
     let mut buffer = Buffer::new();
     send_two(out, b"error ", buffer.format(line).as_bytes())?;
@@ -38,9 +35,7 @@ pub(crate) fn send_fault<K: Sink>(out: &mut K, line: u64, fault: &Fault) -> Resu
 
 /// Hands over the number, name and kept values of a fault.
 fn send_detail<K: Sink>(out: &mut K, fault: &Fault) -> Result<(), WriteFault>
-    ensures sent { Sends (K.held out.old) (K.held out.new) (detail fault.now) result }
-    ensures later { K.faults out.old ≤ K.faults out.new }
-    ensures cause { IsErrOf result WriteFault.Failed → Rose (K.faults out.old) (K.faults out.new) }
+    ensures { Sends (K.view out.old) (detail fault.now) result (K.view out.new) }
 {
     match fault {
         Fault::Command => send(out, b": F01 Command"),
@@ -66,9 +61,7 @@ fn send_detail<K: Sink>(out: &mut K, fault: &Fault) -> Result<(), WriteFault>
 
 /// Hands over a fault's number and name, its part, and the byte in that.
 fn send_place<K: Sink>(out: &mut K, name: &[u8], part: Part, at: usize) -> Result<(), WriteFault>
-    ensures sent { Sends (K.held out.old) (K.held out.new) ((name.now ++ part_text part) ++ (codes " at " ++ decimal at)) result }
-    ensures later { K.faults out.old ≤ K.faults out.new }
-    ensures cause { IsErrOf result WriteFault.Failed → Rose (K.faults out.old) (K.faults out.new) }
+    ensures { Sends (K.view out.old) ((name.now ++ part_text part) ++ (codes " at " ++ decimal at)) result (K.view out.new) }
 {
     let mut buffer = Buffer::new();
     send_four(
@@ -82,9 +75,7 @@ fn send_place<K: Sink>(out: &mut K, name: &[u8], part: Part, at: usize) -> Resul
 
 /// Hands over a fault's number and name, and the number behind it.
 fn send_number<K: Sink>(out: &mut K, name: &[u8], number: u64) -> Result<(), WriteFault>
-    ensures sent { Sends (K.held out.old) (K.held out.new) (name.now ++ decimal number) result }
-    ensures later { K.faults out.old ≤ K.faults out.new }
-    ensures cause { IsErrOf result WriteFault.Failed → Rose (K.faults out.old) (K.faults out.new) }
+    ensures { Sends (K.view out.old) (name.now ++ decimal number) result (K.view out.new) }
 {
     let mut buffer = Buffer::new();
     send_two(out, name, buffer.format(number).as_bytes())
@@ -92,9 +83,7 @@ fn send_number<K: Sink>(out: &mut K, name: &[u8], number: u64) -> Result<(), Wri
 
 /// Hands over the fault of a store and its file.
 fn send_file<K: Sink>(out: &mut K, folder: Folder, name: &Name) -> Result<(), WriteFault>
-    ensures sent { Sends (K.held out.old) (K.held out.new) ((codes ": F26 Store " ++ folder_text folder) ++ (codes "/" ++ name.now)) result }
-    ensures later { K.faults out.old ≤ K.faults out.new }
-    ensures cause { IsErrOf result WriteFault.Failed → Rose (K.faults out.old) (K.faults out.new) }
+    ensures { Sends (K.view out.old) ((codes ": F26 Store " ++ folder_text folder) ++ (codes "/" ++ name.now)) result (K.view out.new) }
 {
     send_four(
         out,

@@ -1,4 +1,3 @@
-ghost use Rattle.session_cli.specs.Views.{SourceView, SinkView, StoreView};
 ghost use Rattle.session_cli.specs.Whole.{HasRun};
 ghost use Rattle.session_cli.specs.Ending.{Finishes};
 
@@ -20,13 +19,7 @@ pub(crate) fn answer_all<S: Source, K: Sink, T: Store>(
     out: &mut K,
     store: &mut T,
 ) -> Status
-    ensures { HasRun session.old.limit
-        (record { left = S.left script.old; faults = S.faults script.old })
-        (record { left = S.left script.new; faults = S.faults script.new })
-        (record { files = T.files store.old; faults = T.faults store.old; failed = T.failed store.old })
-        (record { files = T.files store.new; faults = T.faults store.new; failed = T.failed store.new })
-        (record { held = K.held out.old; faults = K.faults out.old })
-        (record { held = K.held out.new; faults = K.faults out.new }) result }
+    ensures { HasRun session.old.limit (S.view script.old) (S.view script.new) (T.view store.old) (T.view store.new) (K.view out.old) (K.view out.new) result }
 {
     let mut tally = Tally::new();
     let mut cutter = Cutter::new(alloc);
@@ -59,8 +52,7 @@ pub(crate) fn answer_all<S: Source, K: Sink, T: Store>(
 
 /// Hands over the line of the fault with which a script ends, and gives the status.
 fn finish<K: Sink>(out: &mut K, line: u64, fault: Fault, tally: Tally) -> Status
-    ensures { Finishes (record { held = K.held out.old; faults = K.faults out.old })
-        line fault tally (record { held = K.held out.new; faults = K.faults out.new }) result }
+    ensures { Finishes (K.view out.old) line fault tally (K.view out.new) result }
 {
     let mut tally = tally;
     match hand_over_fault(out, line, &fault, &mut tally) {

@@ -1,7 +1,7 @@
 ghost use Rattle.std.specs.Prelude.{◌≡◌};
 ghost use Rattle.session_cli.specs.Trees.{Ledger};
 ghost use Rattle.session_cli.specs.Runs.{StoresTold};
-ghost use Rattle.session_cli.specs.Views.{SessionView, StoreView};
+ghost use Rattle.session_cli.specs.Views.{SessionView};
 ghost use Rattle.session_cli.specs.Commands.{Commands, WritesPlan};
 
 use crate::answer::Answer;
@@ -46,9 +46,7 @@ impl Session {
         answer: &mut Answer,
     ) -> Result<(), Fault>
         ensures session { self.new ≡ self.old }
-        ensures command { (ledger : Ledger) → StoresTold ledger (T.files store.old) → Commands self.old.limit ledger
-            (record { files = T.files store.old; faults = T.faults store.old; failed = T.failed store.old }) text.now shown result answer.new
-            (record { files = T.files store.new; faults = T.faults store.new; failed = T.failed store.new }) }
+        ensures command { (ledger : Ledger) → StoresTold ledger (T.view store.old).files → Commands self.old.limit ledger (T.view store.old) text.now shown result answer.new (T.view store.new) }
     {
         answer.clear();
         let plan = plan_of(alloc, self.limit, text, shown)?;
@@ -64,8 +62,7 @@ impl Session {
 /// # Errors
 /// `Store` where the store failed, and `Memory` where it had none; the store's texts are as before.
 fn write_text<T: Store>(name: Name, text: &[u8], store: &mut T) -> Result<(), Fault>
-    ensures { WritesPlan (record { files = T.files store.old; faults = T.faults store.old; failed = T.failed store.old }) name text.now result
-        (record { files = T.files store.new; faults = T.faults store.new; failed = T.failed store.new }) }
+    ensures { WritesPlan (T.view store.old) name text.now result (T.view store.new) }
 {
     match store.write(Folder::Automata, name.as_str(), text) {
         Ok(()) => Ok(()),

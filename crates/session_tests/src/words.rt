@@ -1,6 +1,9 @@
 //! Words of the command line.
 
-use crate::whole::{SURE, run_words};
+use crate::whole::{Left, Outside, SURE, run_words};
+use session_cli::Status;
+use std::alloc::{AllocError, Global};
+use std::process::Abort;
 use std::test::Fail;
 
 const USAGE: &[u8] = b"usage: walnut [--states N] [--stop] [--make SEED]\n";
@@ -152,4 +155,34 @@ fn words_are_taken_or_refused_as_listed(rt: HostRuntime) -> Result<(), Fail> {
         assert_eq!(rt; left.store.len(), stored);
     }
     Ok(())
+}
+
+/// Runs words that are refused over a sink that takes pieces of these lengths and fails at these calls.
+fn run_refused(
+    alloc: Global,
+    writes: &'static [usize],
+    failing_writes: &'static [u64],
+) -> Result<Left, AllocError> {
+    let outside = Outside {
+        reads: &[],
+        failing_reads: &[],
+        writes,
+        failing_writes,
+        failing_store: &[],
+    };
+    run_words(alloc, &["walnut", "--states", "15"], SCRIPT, &outside)
+}
+
+fn expect_usage(rt: &impl Abort, left: &Left, printed: &[u8]) -> Result<(), Fail> {
+    assert_eq!(rt; left.status, Status::Usage);
+    assert_eq!(rt; left.out.held(), printed);
+    assert_eq!(rt; left.store.len(), 0);
+    Ok(())
+}
+
+#[test]
+fn refused_words_are_so_over_a_sink_that_fails(rt: HostRuntime) -> Result<(), Fail> {
+    expect_usage(&rt, &run_refused(rt.alloc(), &[], &[1])?, b"")?;
+    expect_usage(&rt, &run_refused(rt.alloc(), &[0], &[])?, b"")?;
+    expect_usage(&rt, &run_refused(rt.alloc(), &[3], &[2])?, b"usa")
 }

@@ -1,25 +1,25 @@
 use Rattle.session_cli.proofs.lines.send_detail.Goals as goal
 
-pub returns-in-Syntax-clause-sent : goal.returns-in-Syntax-clause-sent
-returns-in-Syntax-clause-sent g c = rw c.in-Syntax.is c.send_place.ensures.sent
+pub returns-in-Syntax : goal.returns-in-Syntax
+returns-in-Syntax g c = rw c.in-Syntax.is c.send_place.ensures
 
-pub returns-in-Number-clause-sent : goal.returns-in-Number-clause-sent
-returns-in-Number-clause-sent g c = rw c.in-Number.is c.send_place-in-Number.ensures.sent
+pub returns-in-Number : goal.returns-in-Number
+returns-in-Number g c = rw c.in-Number.is c.send_place-in-Number.ensures
 
-pub returns-in-Memory-clause-sent : goal.returns-in-Memory-clause-sent
-returns-in-Memory-clause-sent g c = rw c.in-Memory.is c.send-in-Memory.ensures.sent
+pub returns-in-Memory : goal.returns-in-Memory
+returns-in-Memory g c = rw c.in-Memory.is c.send-in-Memory.ensures.sent
 
-pub returns-in-ScriptLimit-clause-sent : goal.returns-in-ScriptLimit-clause-sent
-returns-in-ScriptLimit-clause-sent g c = rw c.in-ScriptLimit.is c.send-in-ScriptLimit.ensures.sent
+pub returns-in-ScriptLimit : goal.returns-in-ScriptLimit
+returns-in-ScriptLimit g c = rw c.in-ScriptLimit.is c.send-in-ScriptLimit.ensures.sent
 
-pub returns-in-Depth-clause-sent : goal.returns-in-Depth-clause-sent
-returns-in-Depth-clause-sent g c = rw c.in-Depth.is c.send_place-in-Depth.ensures.sent
+pub returns-in-Depth : goal.returns-in-Depth
+returns-in-Depth g c = rw c.in-Depth.is c.send_place-in-Depth.ensures
 
-pub returns-in-SystemUnknown-clause-sent : goal.returns-in-SystemUnknown-clause-sent
-returns-in-SystemUnknown-clause-sent g c = rw (c.in-SystemUnknown.is) (rw c.as_bytes.ensures at c.send_two.ensures.sent)
+pub returns-in-SystemUnknown : goal.returns-in-SystemUnknown
+returns-in-SystemUnknown g c = rw (c.in-SystemUnknown.is) (rw c.as_bytes.ensures at c.send_two.ensures)
 
-pub returns-in-States-clause-sent : goal.returns-in-States-clause-sent
-returns-in-States-clause-sent g c = rw c.in-States.is c.send_number-in-States.ensures.sent
+pub returns-in-States : goal.returns-in-States
+returns-in-States g c = rw c.in-States.is c.send_number-in-States.ensures
 
-pub returns-in-Direction-clause-sent : goal.returns-in-Direction-clause-sent
-returns-in-Direction-clause-sent g c = rw c.in-Direction.is (rw (c.as_bytes-in-Direction.ensures, c.as_bytes-in-Direction-2.ensures) at c.send_four.ensures.sent)
+pub returns-in-Direction : goal.returns-in-Direction
+returns-in-Direction g c = rw c.in-Direction.is (rw (c.as_bytes-in-Direction.ensures, c.as_bytes-in-Direction-2.ensures) at c.send_four.ensures)

@@ -4,18 +4,18 @@ use Rattle.wal_outside.proofs.SendingSteps.{sends_then, sends_cut}
 use Rattle.session_cli.specs.Lines.{detail}
 use Rattle.session_cli.proofs.lines.send_fault.Goals as goal
 
-pub returns-in_err-send_two-clause-sent : goal.returns-in_err-send_two-clause-sent
-returns-in_err-send_two-clause-sent g c =
+pub returns-in_err-send_two : goal.returns-in_err-send_two
+returns-in_err-send_two g c =
     let p = err_from_is_err_and c.from_residual.result c.from_residual.ensures.1 in
-    rw (p.1, p.2) (sends_cut _ _ _ (codes "error " ++ decimal c.args.line) (detail c.args.fault.now ++ codes "\n") _ (rw (c.as_bytes.ensures.value, c.format.ensures.text) at c.in_err-send_two.ensures.sent))
+    rw (p.1, p.2) (sends_cut _ _ (codes "error " ++ decimal c.args.line) (detail c.args.fault.now ++ codes "\n") _ (rw (c.as_bytes.ensures.value, c.format.ensures.text) at c.in_err-send_two.ensures))
 
-pub returns-in_err-send_detail-clause-sent : goal.returns-in_err-send_detail-clause-sent
-returns-in_err-send_detail-clause-sent g c =
+pub returns-in_err-send_detail : goal.returns-in_err-send_detail
+returns-in_err-send_detail g c =
     let p = err_from_is_err_and c.from_residual-in_err-send_detail.result c.from_residual-in_err-send_detail.ensures.1 in
-    rw (p.1, p.2) (sends_then _ _ _ (codes "error " ++ decimal c.args.line) (detail c.args.fault.now ++ codes "\n") _ (rw (c.as_bytes.ensures.value, c.format.ensures.text) at c.in_ok-send_two.ensures.sent)
-    (sends_cut _ _ _ (detail c.args.fault.now) (codes "\n") _ c.in_err-send_detail.ensures.sent))
+    rw (p.1, p.2) (sends_then _ _ _ (codes "error " ++ decimal c.args.line) (detail c.args.fault.now ++ codes "\n") _ (rw (c.as_bytes.ensures.value, c.format.ensures.text) at c.in_ok-send_two.ensures)
+    (sends_cut _ _ (detail c.args.fault.now) (codes "\n") _ c.in_err-send_detail.ensures))
 
-pub returns-clause-sent : goal.returns-clause-sent
-returns-clause-sent g c =
-    sends_then _ _ _ (codes "error " ++ decimal c.args.line) (detail c.args.fault.now ++ codes "\n") c.send.result (rw (c.as_bytes.ensures.value, c.format.ensures.text) at c.in_ok-send_two.ensures.sent)
-    (sends_then _ _ _ (detail c.args.fault.now) (codes "\n") c.send.result c.in_ok-send_detail.ensures.sent c.send.ensures.sent)
+pub returns : goal.returns
+returns g c =
+    sends_then _ _ _ (codes "error " ++ decimal c.args.line) (detail c.args.fault.now ++ codes "\n") c.send.result (rw (c.as_bytes.ensures.value, c.format.ensures.text) at c.in_ok-send_two.ensures)
+    (sends_then _ _ _ (detail c.args.fault.now) (codes "\n") c.send.result c.in_ok-send_detail.ensures c.send.ensures.sent)
