@@ -10,6 +10,9 @@ pub mod PairEdges
 pub mod PaddedPairLemmas
 pub mod PaddedSetLemmas
 pub mod ZeroEdges
+pub mod ValueWidths
+pub mod FoundEnds
+pub mod StayingZeros
 pub mod PartReadingLemmas
 pub mod FewerLemmas
 pub mod SubstitutionLemmas

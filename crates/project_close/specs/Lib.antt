@@ -5,6 +5,7 @@ pub mod Image
 pub mod Projection
 pub mod Padding
 pub mod SameBranching
+pub mod ZerosStay
 pub mod PaddedSets
 pub mod PaddedPairs
 pub mod PartReading

@@ -20,6 +20,9 @@ pub mod projection;
 /// Deterministic automata seen as nondeterministic ones.
 mod same_branching;
 
+/// Automata that are closed under leading zeros already.
+mod zeros_stay;
+
 /// Closure under leading zeros.
 mod padding_msd;
 

@@ -19,6 +19,7 @@ ghost use Rattle.project_close.specs.SameBranching.{branching_as};
 use crate::emptiness::accepts_nothing;
 use crate::same_branching::same_branching;
 use crate::zero_closure::zero_closure;
+use crate::zeros_stay::{pad_itself, zeros_stay};
 use determinise::subsets::Subsets;
 use digit_tuple::dfa::Dfa;
 use digit_tuple::faults::{OpFault, OutOfMemory};
@@ -152,6 +153,26 @@ fn first_set(alloc: Global, a: &Dfa, nfa: &Nfa) -> Result<Vec<u32>, OutOfMemory>
 
 /// The closure under leading zeros. `pad` says more.
 pub fn pad_msd(alloc: Global, a: &Dfa, limit: u32) -> Result<Stepped<Dfa>, OpFault>
+    requires { IsCanonical a.now }
+    ensures sizes { IfOk result (λ stepped. stepped.result.sizes ≡ a.now.sizes) }
+    ensures canonical { IfOk result (λ stepped. IsCanonical stepped.result) }
+    ensures language { IfOk result (λ stepped. (w : List ℕ) → IsWord (letters_of a.now) w
+        → IsTrue (accepts_of stepped.result w) ↔ IsPadded Msd a.now w) }
+    ensures width { IfOk result (λ stepped. HasWidth (PaddedAlike Msd a.now) (letters_of a.now) stepped.width) }
+    ensures size { IfOk result (λ stepped. states_of stepped.result ≤ stepped.width) }
+    ensures within { IfOk result (λ stepped. stepped.width ≤ limit) }
+    ensures states { IsErrOf result OpFault.States → HasApart (PaddedAlike Msd a.now) (letters_of a.now) (limit + 1) }
+    ensures no_letters { ¬ IsErrOf result OpFault.Letters }
+{
+    if zeros_stay(a) {
+        pad_itself(alloc, a, limit)
+    } else {
+        explore_sets(alloc, a, limit)
+    }
+}
+
+// The closure of an automaton at whose initial state zeros need not stay.
+fn explore_sets(alloc: Global, a: &Dfa, limit: u32) -> Result<Stepped<Dfa>, OpFault>
     requires { IsCanonical a.now }
     ensures sizes { IfOk result (λ stepped. stepped.result.sizes ≡ a.now.sizes) }
     ensures canonical { IfOk result (λ stepped. IsCanonical stepped.result) }

@@ -12,7 +12,7 @@ use Rattle.project_close.specs.PaddedSets.{AreFirst, IsStateList, padded_after, 
 use Rattle.project_close.specs.SameBranching.{branching_as}
 use Rattle.project_close.proofs.PaddedSetLemmas.{IsStateList-first, sets_accept-padded, alike_from_sets, sets_from_alike}
 use Rattle.project_close.proofs.SinkLeads.{IsBranchTable-as}
-use Rattle.project_close.proofs.padding_msd.pad_msd.Goals as goal
+use Rattle.project_close.proofs.padding_msd.explore_sets.Goals as goal
 
 pub explore_canonical-requires : goal.explore_canonical-requires
 explore_canonical-requires c =
