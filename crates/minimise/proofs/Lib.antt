@@ -13,5 +13,6 @@ pub mod SameLemmas
 pub mod GatheringLemmas
 pub mod PartitionLemmas
 pub mod LeadLemmas
+pub mod NoWordLemmas
 pub mod ApartLemmas
 pub mod KeySizes

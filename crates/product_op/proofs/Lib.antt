@@ -10,4 +10,3 @@ pub mod LeadingLemmas
 pub mod FoundLetters
 pub mod RuleLemmas
 pub mod WidthLaws
-pub mod NoWordLemmas

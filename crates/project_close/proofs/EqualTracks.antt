@@ -9,7 +9,7 @@ use Rattle.std.proofs.lemmas.List.FromFn.{get_or-range_with_len, length-range_wi
 use Rattle.digit_tuple.proofs.MemberLemmas.{Contains-from_filter}
 use Rattle.digit_tuple.specs.Deterministic.{Automaton, accepts_of}
 use Rattle.digit_tuple.specs.Letters.{product, code_of, IsWord}
-use Rattle.digit_tuple.specs.Names.{AreDistinct, place_of, places_of, names_without}
+use Rattle.digit_tuple.specs.Names.{place_of, places_of, names_without}
 use Rattle.digit_tuple.specs.Parts.{digits_of, picked, letter_part, part}
 use Rattle.digit_tuple.proofs.NameLemmas.{place_of-contained, place_of-is, places_of-within}
 use Rattle.digit_tuple.proofs.PartLemmas.{digits_of-fit, code_of-digits_of, part-part, part-all, IsWord-part}

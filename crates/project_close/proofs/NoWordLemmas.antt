@@ -1,16 +1,11 @@
--- Canonical automata that accept no word, and the automaton of no word.
-use Rattle.std.proofs.Common.{◌≡◌, ◌==◌, ◌&&◌, ℕ, zero, suc, ◌<◌, Bool, true, false, not, if◌then◌else◌, List, [], ◌∷◌, ◌++◌, length, get_or, Option, None, Some, ◌⊎◌, inl, inr, refl, sym, ap, ◌∙◌, subst, true≢false, lit<, arith}
-use Rattle.std.specs.List.{All}
+-- Canonical automata that accept no word.
+use Rattle.std.proofs.Common.{◌≡◌, ◌==◌, ◌&&◌, ℕ, Bool, true, false, not, if◌then◌else◌, List, [], ◌∷◌, ◌++◌, length, ◌⊎◌, inl, inr, refl, sym, ap, ◌∙◌, subst, true≢false, arith}
 use Rattle.std.specs.Option.{option_map_or}
 use Rattle.std.proofs.lemmas.Bool.{eqb-true}
 use Rattle.std.proofs.lemmas.List.{nil_from_length}
-use Rattle.std.proofs.lemmas.Option.{none-some, same_Some}
-use Rattle.digit_tuple.specs.Deterministic.{Automaton, State, IsPartTable, IsRow, IsTable, accepting_of, edges_of, target_by, letters_of, states_of, step_of, run_of, accepts_from, accepts_of}
-use Rattle.digit_tuple.specs.FirstWords.{IsNumberedByFirsts}
-use Rattle.digit_tuple.specs.Letters.{IsWord, product}
-use Rattle.digit_tuple.specs.NoWords.{bare_automaton}
+use Rattle.digit_tuple.specs.Deterministic.{Automaton, accepting_of, edges_of, target_by, letters_of, states_of, accepts_from}
+use Rattle.digit_tuple.specs.Letters.{IsWord}
 use Rattle.digit_tuple.specs.Paddings.{strip}
-use Rattle.digit_tuple.specs.Shortlex.{IsBefore}
 use Rattle.digit_tuple.specs.declared.edges.Edge.{Edge}
 use Rattle.digit_tuple.specs.declared.direction.Direction.{Direction}
 use Rattle.digit_tuple.specs.declared.direction.Direction.TheVariants.{Lsd}
@@ -23,52 +18,6 @@ use Rattle.minimise.proofs.LeadLemmas.{IsPlace, accepts_of-first, first_place}
 use Rattle.minimise.proofs.SinkLemmas.{sink_refuses}
 use Rattle.project_close.specs.Padding.{IsPadded, LsdPaddedAlike}
 use Rattle.project_close.proofs.SinkLeads.{first_cases}
-
--- the automaton of no word is canonical
-module _ (sizes : List ℕ) where
-  abbrev bare : Automaton
-  bare = bare_automaton sizes
-
-  bare_table : IsTable (product sizes) bare.states
-  bare_table = record { initial = omega arith; part = record { small = lit< tt; rows = rows } }
-    where
-      rows : All (λ state. IsRow (product sizes) 1 state.edges) bare.states
-      rows zero d within = record { in_range = λ k e inside. absurd (omega arith); ascending = λ i j e before inside. absurd (omega arith) }
-      rows (suc k) d within = absurd (omega arith)
-
-  bare_firsts : IsNumberedByFirsts bare ([] ∷ [])
-  bare_firsts = record {
-    count = refl;
-    over = over;
-    lead = lead;
-    least = least;
-    ordered = λ i j d before within. absurd (omega arith);
-  }
-    where
-      over : (q : ℕ) → q < 1 → IsWord (product sizes) (get_or ([] ∷ []) q [])
-      over zero within = tt
-      over (suc q) within = absurd (omega arith)
-
-      lead : (q : ℕ) → q < 1 → run_of bare 0 (get_or ([] ∷ []) q []) ≡ Some q
-      lead zero within = refl
-      lead (suc q) within = absurd (omega arith)
-
-      least : (q : ℕ) (w : List ℕ) → IsWord (product sizes) w → run_of bare 0 w ≡ Some q → (get_or ([] ∷ []) q [] ≡ w) ⊎ IsBefore (get_or ([] ∷ []) q []) w
-      least q [] inside run = inl (ap (λ p. get_or ([] ∷ []) p []) (sym (same_Some 0 q run)))
-      least q (a ∷ w) inside run = absurd (none-some q run)
-
-  pub IsCanonical-bare : IsCanonical bare
-  IsCanonical-bare = record {
-    table = bare_table;
-    firsts = [] ∷ [];
-    numbered = bare_firsts;
-    distinct = λ p q before within. absurd (omega arith);
-    live = λ p a q within small step. absurd (live p a q within step);
-  }
-    where
-      live : (p a q : ℕ) → p < 1 → ¬ (step_of bare p a ≡ Some q)
-      live zero a q within step = none-some q step
-      live (suc p) a q within step = omega arith
 
 -- an automaton that accepts no word begins at its sink
 pub sink_from_dead : (d : Automaton) → IsCanonical d → IsDead d 0 → first_of d ≡ states_of d

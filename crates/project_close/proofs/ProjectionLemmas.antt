@@ -1,8 +1,7 @@
 -- Projections: where words lead in the image of a canonical automaton, and the residuals that they have.
-use Rattle.std.proofs.Common.{◌≡◌, ◌≢◌, ◌==◌, ◌&&◌, ℕ, ◌<◌, Bool, true, false, not, if◌then◌else◌, List, [], ◌∷◌, ◌++◌, length, Option, None, Some, IsTrue, ◌↔◌, ◌⊎◌, inl, inr, refl, sym, ap, ◌∙◌, subst, true≢false, arith}
+use Rattle.std.proofs.Common.{◌≡◌, ◌≢◌, ℕ, ◌<◌, Bool, true, false, not, List, [], ◌∷◌, ◌++◌, length, Option, None, Some, IsTrue, ◌↔◌, ◌⊎◌, inl, inr, refl, sym, ap, ◌∙◌, subst, true≢false, arith}
 use Rattle.std.specs.List.{All, Contains}
 use Rattle.std.specs.Option.{option_map_or, option_and_then}
-use Rattle.std.proofs.lemmas.Bool.{eqb-true}
 use Rattle.std.specs.Str.{bytes_eq}
 use Rattle.std.proofs.lemmas.List.{append-nil}
 use Rattle.std.proofs.lemmas.List.Elements.{All-contains_itself, All-filter}
@@ -10,13 +9,12 @@ use Rattle.std.proofs.lemmas.List.Kept.{AllPairs-filter}
 use Rattle.std.proofs.lemmas.Option.{none-some, same_Some}
 use Rattle.digit_tuple.specs.Automaton as branching
 use Rattle.digit_tuple.specs.Automaton.{Branching, IsBranchTable, Path}
-use Rattle.digit_tuple.specs.Deterministic.{Automaton, accepting_of, accepts_from, accepts_of, edges_of, letters_of, run_of, states_of, target_by}
+use Rattle.digit_tuple.specs.Deterministic.{Automaton, accepting_of, accepts_from, accepts_of, letters_of, run_of}
 use Rattle.digit_tuple.specs.Keys.{LeadAlike, key_accepts, key_run}
 use Rattle.digit_tuple.specs.Letters.{IsWord, product}
 use Rattle.digit_tuple.specs.Names.{AreDistinct, names_without}
 use Rattle.digit_tuple.specs.Paddings.{zeros}
 use Rattle.digit_tuple.specs.Parts.{part, parts_of_letters, picked}
-use Rattle.digit_tuple.specs.declared.edges.Edge.{Edge}
 use Rattle.digit_tuple.specs.declared.direction.Direction.{Direction}
 use Rattle.digit_tuple.specs.declared.direction.Direction.TheVariants.{Msd, Lsd}
 use Rattle.digit_tuple.proofs.KeyLemmas.{key_accepts-run}
@@ -31,11 +29,9 @@ use Rattle.digit_tuple.proofs.MemberLemmas.{Contains-cases, Contains-head, Conta
 use Rattle.determinise.proofs.ReversalLemmas.{accepts_from-run}
 use Rattle.determinise.proofs.SubsetLemmas.{key_run-members, key_run-set, same_set, set_of}
 use Rattle.minimise.specs.Canonical.{IsCanonical}
-use Rattle.minimise.specs.Classes.{first_of}
 use Rattle.minimise.specs.Residuals.{IsEmptyAfter, IsDead, SameAfter}
 use Rattle.minimise.specs.Tracked.{IsTracked, NamedAutomaton}
 use Rattle.minimise.proofs.CanonicalLemmas.{live_after, one_state, run_within}
-use Rattle.minimise.proofs.LeadLemmas.{IsPlace, first_place}
 use Rattle.project_close.specs.Image.{AreFirst, IsEnd, IsImage, ReadsProjection}
 use Rattle.project_close.specs.Projection.{HaveResiduals, InProjection, ProjectionAlike, HasPart}
 use Rattle.project_close.specs.StayingTracks.{staying_places}

@@ -1,7 +1,7 @@
 -- Where words lead, with the sink, and the runs and paths that lead there.
 use Rattle.std.proofs.Common.{◌≡◌, ◌==◌, ℕ, ◌<◌, ◌≤◌, Bool, true, false, not, ◌&&◌, List, [], ◌∷◌, ◌++◌, map, length, get_or, Option, None, Some, unwrap_or, ◌⊎◌, inl, inr, refl, sym, ap, ◌∙◌, subst, true≢false, arith, if◌then◌else◌}
 use Rattle.std.specs.List.{All, Contains}
-use Rattle.std.specs.Option.{option_and_then, option_map_or}
+use Rattle.std.specs.Option.{option_and_then}
 use Rattle.std.proofs.lemmas.Bool.{cases_lt}
 use Rattle.std.proofs.lemmas.Option.{none-some, same_Some}
 use Rattle.std.proofs.lemmas.List.{get_or-map, get_or_past, length-map}
@@ -10,8 +10,7 @@ use Rattle.digit_tuple.specs.declared.edges.Edge.{Edge}
 use Rattle.digit_tuple.specs.AcceptingStates.{AreAccepting}
 use Rattle.digit_tuple.specs.Automaton as branching
 use Rattle.digit_tuple.specs.Automaton.{Branch, Branching, IsBefore, IsBranchTable, Leads, Path, no_branch}
-use Rattle.digit_tuple.specs.Deterministic.{Automaton, IsTable, no_state, state_of, letters_of, states_of, accepting_of, edges_of, step_of, target_by, run_of, accepts_from, accepts_of}
-use Rattle.digit_tuple.specs.Letters.{IsWord}
+use Rattle.digit_tuple.specs.Deterministic.{Automaton, IsTable, no_state, state_of, letters_of, states_of, accepting_of, edges_of, step_of, target_by, run_of, accepts_of}
 use Rattle.digit_tuple.proofs.DfaLemmas.{row_at}
 use Rattle.digit_tuple.specs.Reversed.{edge_to}
 use Rattle.digit_tuple.proofs.ReversedLemmas.{target_by-contains, contains_from_target_by}

@@ -1,11 +1,10 @@
 -- Automata at whose initial state zeros stay: where words lead, and what tells them apart.
 use Rattle.std.proofs.Common.{◌≡◌, ◌==◌, ℕ, zero, suc, ◌+◌, ◌<◌, ◌≤◌, Bool, true, false, List, [], ◌∷◌, ◌++◌, get_or, Option, None, Some, unwrap_or, ◌⊎◌, inl, inr, IsTrue, ◌↔◌, refl, sym, ap, ◌∙◌, subst, true≢false, arith}
-use Rattle.std.proofs.lemmas.Bool.{cases_lt, cases_order, eqb-false, eqb-true}
+use Rattle.std.proofs.lemmas.Bool.{cases_lt, eqb-false, eqb-true}
 use Rattle.std.proofs.lemmas.List.Elements.{All-contains}
-use Rattle.std.proofs.lemmas.Option.{same_Some}
 use Rattle.digit_tuple.specs.declared.direction.Direction.TheVariants.{Msd}
 use Rattle.digit_tuple.specs.declared.edges.Edge.{Edge}
-use Rattle.digit_tuple.specs.Deterministic.{Automaton, accepting_of, accepts_from, accepts_of, edges_of, letters_of, states_of, step_of, target_by}
+use Rattle.digit_tuple.specs.Deterministic.{Automaton, accepting_of, accepts_of, edges_of, letters_of, states_of, step_of, target_by}
 use Rattle.digit_tuple.specs.Letters.{IsWord}
 use Rattle.digit_tuple.specs.Paddings.{zeros, without_zeros}
 use Rattle.digit_tuple.specs.Reversed.{edge_to}

@@ -1,12 +1,11 @@
--- Words that are alike to projections, or to closures under padding: these are equivalences, and have one width.
-use Rattle.std.proofs.Common.{◌≡◌, ◌<◌, ℕ, List, sym, ◌∙◌, refl}
+-- Words that are alike to projections, or to closures under padding: these are equivalences.
+use Rattle.std.proofs.Common.{ℕ, List, sym, ◌∙◌, refl}
 use Rattle.digit_tuple.specs.Deterministic.{Automaton}
-use Rattle.digit_tuple.specs.Width.{HasApart, HasWidth, IsEquivalence}
+use Rattle.digit_tuple.specs.Width.{IsEquivalence}
 use Rattle.digit_tuple.specs.declared.direction.Direction.{Direction}
 use Rattle.digit_tuple.specs.declared.direction.Direction.TheVariants.{Msd, Lsd}
-use Rattle.digit_tuple.proofs.WidthLemmas.{HasWidth-excludes, HasWidth-unique}
-use Rattle.project_close.specs.Padding.{HasResidualsOf, LsdPaddedAlike, MsdPaddedAlike, OnePaddingWidth, PaddedAlike}
-use Rattle.project_close.specs.Projection.{HaveResiduals, OneProjectionWidth, ProjectionAlike}
+use Rattle.project_close.specs.Padding.{HasResidualsOf, PaddedAlike}
+use Rattle.project_close.specs.Projection.{HaveResiduals, ProjectionAlike}
 
 module _ (d : Automaton) where
   HaveResiduals-trans : (places : List ℕ) (direction : Direction) (w v u : List ℕ) → HaveResiduals d places direction w v → HaveResiduals d places direction v u → HaveResiduals d places direction w u
@@ -15,7 +14,7 @@ module _ (d : Automaton) where
       let z = two y.0 y.1 y.2 (λ empty. some (λ t more. y.3 t more ∙ empty t more)) in
       (z.0, z.1, z.2, λ t more. y.3 t more ∙ z.3 t more)
 
-  IsEquivalence-projection : (places : List ℕ) (direction : Direction) → IsEquivalence (ProjectionAlike d places direction)
+  pub IsEquivalence-projection : (places : List ℕ) (direction : Direction) → IsEquivalence (ProjectionAlike d places direction)
   IsEquivalence-projection places direction = record {
     reflexive = λ w. record { forth = itself w; back = itself w };
     symmetric = λ w v alike. record { forth = alike.back; back = alike.forth };
@@ -34,7 +33,7 @@ module _ (d : Automaton) where
       let m = two l.0 (λ empty. some (λ t more. l.1 t more ∙ empty t more)) in
       (m.0, λ t more. l.1 t more ∙ m.1 t more)
 
-  IsEquivalence-padded : (direction : Direction) → IsEquivalence (PaddedAlike direction d)
+  pub IsEquivalence-padded : (direction : Direction) → IsEquivalence (PaddedAlike direction d)
   IsEquivalence-padded Msd = record {
     reflexive = λ w. record { zeros = ((λ are. are), (λ are. are)); to = λ k some. (k, λ t more. refl); back = λ k some. (k, λ t more. refl) };
     symmetric = λ w v alike. record { zeros = (alike.zeros.1, alike.zeros.0); to = alike.back; back = alike.to };
@@ -52,17 +51,3 @@ module _ (d : Automaton) where
       whole = λ t more. one.whole t more ∙ two.whole t more;
     };
   }
-
-pub one_projection_width : OneProjectionWidth
-one_projection_width d places direction letters k width =
-    let is = IsEquivalence-projection d places direction in (
-      (λ j other. HasWidth-unique (ProjectionAlike d places direction) letters is j k other width),
-      (λ j more. HasWidth-excludes (ProjectionAlike d places direction) letters is j k more width),
-    )
-
-pub one_padding_width : OnePaddingWidth
-one_padding_width d direction letters k width =
-    let is = IsEquivalence-padded d direction in (
-      (λ j other. HasWidth-unique (PaddedAlike direction d) letters is j k other width),
-      (λ j more. HasWidth-excludes (PaddedAlike direction d) letters is j k more width),
-    )

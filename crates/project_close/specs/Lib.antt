@@ -4,6 +4,7 @@ pub mod ZeroClosure
 pub mod Image
 pub mod Projection
 pub mod Padding
+pub mod OneWidth
 pub mod SameBranching
 pub mod ZerosStay
 pub mod PaddedSets

@@ -1,11 +1,10 @@
 -- Closure under zeros at the end of the most significant letters, and the kinds of words that it tells apart.
-use Rattle.std.specs.Prelude.{◌≡◌, ℕ, ◌<◌, List, [], ◌++◌, ◌↔◌, IsTrue}
+use Rattle.std.specs.Prelude.{◌≡◌, ℕ, List, [], ◌++◌, ◌↔◌, IsTrue}
 use Rattle.digit_tuple.specs.declared.direction.Direction.{Direction}
 use Rattle.digit_tuple.specs.declared.direction.Direction.TheVariants.{Msd, Lsd}
 use Rattle.digit_tuple.specs.Deterministic.{Automaton, letters_of, accepts_of}
 use Rattle.digit_tuple.specs.Letters.{IsWord}
 use Rattle.digit_tuple.specs.Paddings.{zeros, without_zeros, strip}
-use Rattle.digit_tuple.specs.Width.{HasApart, HasWidth}
 use Rattle.minimise.specs.Residuals.{IsEmptyAfter, SameAfter}
 
 -- some word is accepted that is the same but for the zeros at the end of the most significant letters
@@ -36,8 +35,3 @@ pub record LsdPaddedAlike (d : Automaton) (w v : List ℕ) : Type 0 where
 abbrev pub PaddedAlike : Direction → Automaton → List ℕ → List ℕ → Type 0
 PaddedAlike Msd d w v = MsdPaddedAlike d w v
 PaddedAlike Lsd d w v = LsdPaddedAlike d w v
-
--- The width of a closure under padding is one number, and no more words than that differ to it: it excludes a refusal.
-abbrev pub OnePaddingWidth : Type 0
-OnePaddingWidth = (d : Automaton) (direction : Direction) (letters k : ℕ) → HasWidth (PaddedAlike direction d) letters k
-    → ((j : ℕ) → HasWidth (PaddedAlike direction d) letters j → j ≡ k) × ((j : ℕ) → k < j → ¬ HasApart (PaddedAlike direction d) letters j)

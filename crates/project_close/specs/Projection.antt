@@ -1,10 +1,9 @@
 -- The projection of a language to some of its tracks.
-use Rattle.std.specs.Prelude.{◌≡◌, ◌++◌, ◌<◌, ℕ, List, IsTrue}
+use Rattle.std.specs.Prelude.{◌≡◌, ◌++◌, ℕ, List, IsTrue}
 use Rattle.digit_tuple.specs.Deterministic.{Automaton, letters_of, accepts_of}
 use Rattle.digit_tuple.specs.Letters.{IsWord}
 use Rattle.digit_tuple.specs.Paddings.{zeros, padded}
 use Rattle.digit_tuple.specs.Parts.{part}
-use Rattle.digit_tuple.specs.Width.{HasApart, HasWidth}
 use Rattle.digit_tuple.specs.declared.direction.Direction.{Direction}
 use Rattle.digit_tuple.specs.declared.direction.Direction.TheVariants.{Msd, Lsd}
 use Rattle.minimise.specs.Residuals.{IsEmptyAfter, SameAfter}
@@ -29,8 +28,3 @@ HaveResiduals d places direction w v = (x : List ℕ) → IsWord (letters_of d) 
 pub record ProjectionAlike (d : Automaton) (places : List ℕ) (direction : Direction) (w v : List ℕ) : Type 0 where
   pub forth : HaveResiduals d places direction w v
   pub back : HaveResiduals d places direction v w
-
--- The width of a projection is one number, and no more words than that have sets of residuals that differ: it excludes a refusal.
-abbrev pub OneProjectionWidth : Type 0
-OneProjectionWidth = (d : Automaton) (places : List ℕ) (direction : Direction) (letters k : ℕ) → HasWidth (ProjectionAlike d places direction) letters k
-    → ((j : ℕ) → HasWidth (ProjectionAlike d places direction) letters j → j ≡ k) × ((j : ℕ) → k < j → ¬ HasApart (ProjectionAlike d places direction) letters j)

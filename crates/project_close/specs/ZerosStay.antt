@@ -1,6 +1,6 @@
 -- Automata at whose initial state zeros stay. Their language is closed under leading zeros.
 use Rattle.std.specs.Prelude.{◌≡◌, ℕ, ◌<◌, Bool, true, ◌↔◌, None, Some}
-use Rattle.digit_tuple.specs.Deterministic.{Automaton, letters_of, states_of, step_of}
+use Rattle.digit_tuple.specs.Deterministic.{Automaton, letters_of, step_of}
 
 -- the zero letter leads from the initial state to itself
 abbrev pub ZerosStay : Automaton → Type 0

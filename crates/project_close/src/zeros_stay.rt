@@ -21,6 +21,7 @@ use std::alloc::Global;
 pub fn zeros_stay(a: &Dfa) -> bool
     ensures { IsTrue result ↔ ZerosStay a.now }
 {
+    // The call tells that there is an initial state.
     let _states = a.states();
     matches!(a.step(0, 0), Some(0))
 }
@@ -85,6 +86,5 @@ fn find_ends(alloc: Global, a: &Dfa) -> Result<Ends, OutOfMemory>
 fn has_return(row: &[Edge], state: u32) -> bool
     ensures { result ≡ list_any (λ edge. (edge.target == 0) && not ((state == 0) && (edge.letter == 0))) row.now }
 {
-    row.iter()
-        .any(|edge| edge.target == 0 && !(state == 0 && edge.letter == 0))
+    row.iter().any(|edge| edge.target == 0 && !(state == 0 && edge.letter == 0))
 }

@@ -10,7 +10,7 @@ use Rattle.minimise.specs.Canonical.{IsCanonical}
 use Rattle.product_op.specs.Readings.{readings_in, AreAlike, first_key}
 use Rattle.product_op.specs.SinkKeys.{is_dead_key, live_key_after}
 use Rattle.product_op.proofs.KeyLemmas.{key_accepts-flags, alike_from_keys, keys_from_alike, dead-alike, dead-flags}
-use Rattle.product_op.proofs.NoWordLemmas.{IsCanonical-bare}
+use Rattle.minimise.proofs.NoWordLemmas.{IsCanonical-bare}
 use Rattle.product_op.proofs.side_by_side.side_by_side.Goals as goal
 
 pub returns-then-is_dead-clause-canonical : goal.returns-then-is_dead-clause-canonical

@@ -8,7 +8,8 @@ use Rattle.digit_tuple.proofs.WidthLemmas.{HasApart-one, HasWidth-one}
 use Rattle.minimise.specs.Canonical.{IsCanonical}
 use Rattle.minimise.specs.Residuals.{IsDead}
 use Rattle.project_close.specs.Padding.{PaddedAlike}
-use Rattle.project_close.proofs.NoWordLemmas.{IsCanonical-bare, LsdPaddedAlike-none, none_padded}
+use Rattle.minimise.proofs.NoWordLemmas.{IsCanonical-bare}
+use Rattle.project_close.proofs.NoWordLemmas.{LsdPaddedAlike-none, none_padded}
 use Rattle.project_close.proofs.padding_lsd.pad_lsd.Goals as goal
 
 pub returns-then-accepts_nothing-clause-canonical : goal.returns-then-accepts_nothing-clause-canonical

@@ -1,4 +1,4 @@
-use Rattle.std.proofs.Common.{◌≡◌, ◌++◌, List, [], filter, sym, ap, ◌∙◌, subst}
+use Rattle.std.proofs.Common.{◌++◌, List, [], filter, sym, ap, ◌∙◌, subst}
 use Rattle.std.proofs.lemmas.Result.{on_ok_weaker}
 use Rattle.digit_tuple.specs.Automaton as branching
 use Rattle.digit_tuple.specs.Keys.{KeyEdge, AreKeyEdges}

@@ -8,7 +8,7 @@ use Rattle.digit_tuple.proofs.WidthLemmas.{HasApart-one, HasWidth-one}
 use Rattle.minimise.specs.Canonical.{IsCanonical}
 use Rattle.minimise.specs.Residuals.{IsDead}
 use Rattle.project_close.specs.Projection.{ProjectionAlike}
-use Rattle.project_close.proofs.NoWordLemmas.{IsCanonical-bare}
+use Rattle.minimise.proofs.NoWordLemmas.{IsCanonical-bare}
 use Rattle.project_close.proofs.ProjectionLemmas.{ProjectionAlike-dead, none_in_projection}
 use Rattle.project_close.proofs.projection.projected.Goals as goal
 

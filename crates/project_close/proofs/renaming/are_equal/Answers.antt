@@ -1,4 +1,4 @@
-use Rattle.std.proofs.Common.{◌≡◌, [], refl, arith}
+use Rattle.std.proofs.Common.{[], refl, arith}
 use Rattle.std.proofs.lemmas.List.{ext_get_or}
 use Rattle.project_close.proofs.renaming.are_equal.Goals as goal
 

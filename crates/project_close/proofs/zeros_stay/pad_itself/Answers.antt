@@ -3,7 +3,6 @@ use mir.Val.{bool_byte}
 use Rattle.digit_tuple.specs.Deterministic.{Automaton, accepts_of, letters_of, states_of}
 use Rattle.digit_tuple.specs.Width.{HasWidth}
 use Rattle.project_close.specs.Padding.{MsdPaddedAlike}
-use Rattle.project_close.specs.ZerosStay.{AreEnds}
 use Rattle.project_close.proofs.StayingZeros.{HasApart-ends, HasWidth-ends, accepts-padded, one_if}
 use Rattle.project_close.proofs.zeros_stay.pad_itself.Goals as goal
 

@@ -1,4 +1,4 @@
-use Rattle.std.proofs.Common.{◌≡◌, ◌++◌, List, sym, ap, ◌∙◌, subst}
+use Rattle.std.proofs.Common.{◌++◌, List, sym, ap, ◌∙◌, subst}
 use Rattle.std.proofs.lemmas.Result.{on_ok_weaker}
 use Rattle.digit_tuple.specs.Keys.{KeyEdge, AreKeyEdges}
 use Rattle.project_close.specs.PaddedPairs.{edges_by_others, edges_by_zero, pair_after}
