@@ -8,7 +8,9 @@ pub mod RefiningLemmas
 pub mod StabilityLemmas
 pub mod HashLemmas
 pub mod ResidualLemmas
+pub mod LeaderLemmas
 pub mod QuotientLemmas
+pub mod LeastLemmas
 pub mod SameLemmas
 pub mod GatheringLemmas
 pub mod PartitionLemmas

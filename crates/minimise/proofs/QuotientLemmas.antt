@@ -1,8 +1,8 @@
 -- The automaton whose states are classes is canonical.
-use Rattle.std.proofs.Common.{◌≡◌, ◌≢◌, ◌==◌, ℕ, ◌+◌, ◌<◌, ◌≤◌, Bool, true, false, List, [], ◌∷◌, ◌++◌, map, take, length, get_or, set, Option, None, Some, MatchOption, if◌then◌else◌, ◌⊎◌, inl, inr, refl, sym, ap, ◌∙◌, subst, append_assoc, arith, get_or-set_same, get_or-set_other, length-set}
+use Rattle.std.proofs.Common.{◌≡◌, ◌≢◌, ◌==◌, ℕ, ◌+◌, ◌<◌, ◌≤◌, Bool, true, false, List, [], ◌∷◌, ◌++◌, map, take, length, get_or, Option, None, Some, MatchOption, if◌then◌else◌, refl, sym, ap, ◌∙◌, subst, append_assoc, arith}
 use Rattle.std.specs.List.{All}
 use Rattle.std.specs.Option.{option_map, option_map_or}
-use Rattle.std.proofs.lemmas.Bool.{cases_lt, cases_eq, eqb-true, eqb-false}
+use Rattle.std.proofs.lemmas.Bool.{eqb-true, eqb-false}
 use Rattle.std.proofs.lemmas.List.{get_or-map, length-map, map-append}
 use Rattle.std.proofs.lemmas.Option.{none-some, same_Some}
 use Rattle.digit_tuple.specs.declared.edges.Edge.{Edge}
@@ -13,38 +13,13 @@ use Rattle.digit_tuple.specs.Keys.{KeyEdge, AreKeyEdges, key_by}
 use Rattle.digit_tuple.specs.Explored.{IsExplored, key_at}
 use Rattle.minimise.specs.Residuals.{SameResidual, SameLanguage}
 use Rattle.minimise.specs.Canonical.{IsCanonical}
-use Rattle.minimise.specs.Classes.{AreResiduals, class_of, next_of, dead_class}
+use Rattle.minimise.specs.Classes.{class_of, next_of, dead_class}
+use Rattle.minimise.specs.CoarseClasses.{AreResidualClasses}
 use Rattle.minimise.specs.Leaders.{AreLeaders}
 use Rattle.minimise.specs.Signatures.{class_edges}
 use Rattle.minimise.specs.Quotient.{IsQuotient, IsClass, leader_of, class_after, class_accepts, key_edge}
 use Rattle.minimise.proofs.SinkLemmas.{sink_refuses, accepts_from-next, row_of, next_within}
 use Rattle.minimise.proofs.SignatureLemmas.{class_edge, class_edges-dead, class_edges-live, class_edges-all, class_edges-pairs, class_edges-lead}
-
--- leaders of no states yet
-pub AreLeaders-none : (classes leaders : List ℕ) → length leaders ≡ length classes → AreLeaders classes leaders 0
-AreLeaders-none classes leaders width = record { width = width; within = λ q less. absurd (omega arith); same = λ q less. absurd (omega arith) }
-
--- one more state leads its class
-pub AreLeaders-more : (classes old new : List ℕ) (count : ℕ) → AreLeaders classes old count → class_of classes count < length old → new ≡ set old (class_of classes count) count → AreLeaders classes new (count + 1)
-AreLeaders-more classes old new count so_far inside is = record {
-  width = ap length is ∙ length-set old (class_of classes count) count ∙ so_far.width;
-  within = λ q less. (by q less (cases_eq (class_of classes q) (class_of classes count))).0;
-  same = λ q less. (by q less (cases_eq (class_of classes q) (class_of classes count))).1;
-}
-  where
-    by : (q : ℕ) → q < count + 1 → (class_of classes q ≡ class_of classes count) ⊎ (class_of classes q ≡ class_of classes count → ⊥)
-        → (class_of new (class_of classes q) < count + 1) × (class_of classes (class_of new (class_of classes q)) ≡ class_of classes q)
-    by q less (inl one) =
-        let at : class_of new (class_of classes q) ≡ count = ap (class_of new) one ∙ ap (λ ns. class_of ns (class_of classes count)) is ∙ get_or-set_same old (class_of classes count) count 0 inside in
-        (omega (arith, at), ap (class_of classes) at ∙ sym one)
-    by q less (inr other) =
-        let at : class_of new (class_of classes q) ≡ class_of old (class_of classes q) = ap (λ ns. class_of ns (class_of classes q)) is ∙ get_or-set_other old (class_of classes count) (class_of classes q) count 0 other in
-        before (cases_lt q count) at
-      where
-        before : (q < count) ⊎ (count ≤ q) → class_of new (class_of classes q) ≡ class_of old (class_of classes q)
-            → (class_of new (class_of classes q) < count + 1) × (class_of classes (class_of new (class_of classes q)) ≡ class_of classes q)
-        before (inl earlier) at = (omega (arith, at, so_far.within q earlier), ap (class_of classes) at ∙ so_far.same q earlier)
-        before (inr later) at = let same : q ≡ count = omega arith in absurd (other (ap (class_of classes) same))
 
 -- key edges lead where the edges do
 pub key_by-edges : (es : List Edge) (a : ℕ) → key_by (map key_edge es) a ≡ option_map (λ class. class ∷ []) (target_by es a)
@@ -165,17 +140,15 @@ module _ (d least : Automaton) (classes leaders : List ℕ) (quotient : IsQuotie
       letter : (a : ℕ) → a < letters_of least → a < letters_of d
       letter a small = omega (arith, small, letters)
 
--- the classes and their leaders, read through slices
-pub IsQuotient-read : (d : Automaton) (items ls one two three : List ℕ) → one ≡ items → two ≡ items → three ≡ ls → IsTable (letters_of d) d.states → length items ≡ states_of d + 1 → All (λ c. c ≤ states_of d) items → AreResiduals d items
-    → AreLeaders one ls (states_of d) → IsQuotient d two three
-IsQuotient-read d items ls one two three first second third table width below residuals leaders =
-    subst (λ (xs : List ℕ). IsQuotient d two xs) (sym third) (subst (λ (xs : List ℕ). IsQuotient d xs ls) (sym second) (record {
-      table = table;
-      width = width;
-      below = λ q within. below q 0 (omega (arith, within, width));
-      residuals = residuals;
-      leaders_are = subst (λ (xs : List ℕ). AreLeaders xs ls (states_of d)) first leaders;
-    }))
+-- the classes and their leaders, read through a slice
+pub IsQuotient-read : (d : Automaton) (classes leaders read : List ℕ) (count : ℕ) → read ≡ leaders → count ≡ states_of d → IsTable (letters_of d) d.states → AreResidualClasses d classes → AreLeaders classes leaders count → IsQuotient d classes read
+IsQuotient-read d classes leaders read count is all table are led = subst (λ (ls : List ℕ). IsQuotient d classes ls) (sym is) (record {
+  table = table;
+  width = are.width;
+  below = λ q within. are.below q 0 (omega (arith, within, are.width));
+  residuals = are.residuals;
+  leaders_are = subst (AreLeaders classes leaders) all led;
+})
 
 -- the key edge of the next edge, if it leads to a class
 module _ (classes : List ℕ) (dead : ℕ) (es : List Edge) (k : ℕ) (z : Edge) (within : k < length es) (old now : List KeyEdge) (so_far : now ≡ old ++ map key_edge (class_edges classes dead (take k es))) where

@@ -8,7 +8,7 @@ ghost use Rattle.digit_tuple.specs.Letters.{product, IsWord};
 ghost use Rattle.digit_tuple.specs.Width.{HasApart, HasWidth};
 ghost use Rattle.minimise.specs.Canonical.{IsCanonical};
 
-use crate::canonical::canonical;
+use crate::canonical::canonical_of_numbered;
 use digit_tuple::alphabet::Alphabet;
 use digit_tuple::dfa::Dfa;
 use digit_tuple::exploration::explore;
@@ -42,9 +42,7 @@ pub fn explore_canonical<G: KeyGraph>(
     ensures no_letters { ¬ IsErrOf result OpFault.Letters }
 {
     let explored = explore(alloc, graph, alphabet, limit)?;
-    let result = canonical(alloc, &explored.result)?;
-    Ok(Stepped {
-        result,
-        width: explored.width,
-    })
+    let width = explored.width;
+    let result = canonical_of_numbered(alloc, explored.result)?;
+    Ok(Stepped { result, width })
 }

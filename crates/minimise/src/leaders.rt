@@ -1,8 +1,8 @@
-//! A state of each class.
+//! States that stand for their classes.
 
-ghost use Rattle.std.specs.Prelude.{◌<◌, ◌≤◌, ◌^◌, length, IfOk};
+ghost use Rattle.std.specs.Prelude.{◌<◌, ◌≤◌, ◌^◌, ◌↔◌, length, IfOk, IsTrue};
 ghost use Rattle.std.specs.List.{All};
-ghost use Rattle.minimise.specs.Leaders.{AreLeaders};
+ghost use Rattle.minimise.specs.Leaders.{AreLeaders, AreAlone};
 
 use digit_tuple::faults::OutOfMemory;
 use std::alloc::Global;
@@ -20,4 +20,19 @@ pub fn leaders(alloc: Global, classes: &[u32], count: usize) -> Result<Vec<u32>,
         leaders[classes[state] as usize] = state as u32;
     }
     Ok(leaders)
+}
+
+/// Whether no two states have one class.
+pub fn are_alone(alloc: Global, classes: &[u32]) -> Result<bool, OutOfMemory>
+    requires small { length classes.now ≤ 2 ^ 32 }
+    requires below { All (λ class. class < length classes.now) classes.now }
+    ensures { IfOk result (λ alone. IsTrue alone ↔ AreAlone classes.now) }
+{
+    let leaders = leaders(alloc, classes, classes.len())?;
+    for place in 0..classes.len() {
+        if leaders[classes[place] as usize] != place as u32 {
+            return Ok(false);
+        }
+    }
+    Ok(true)
 }

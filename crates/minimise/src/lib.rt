@@ -16,7 +16,7 @@ mod class_row;
 /// What tells states of one class apart.
 mod signatures;
 
-/// A state of each class.
+/// States that stand for their classes.
 mod leaders;
 
 /// Whether letters keep classes.

@@ -2,8 +2,7 @@
 //! lead to, in time linear in the table. Where two hashes happen to be equal, states stay together that
 //! a round could part; they are never parted wrongly.
 
-ghost use Rattle.std.specs.Prelude.{◌≡◌, ◌<◌, ◌≤◌, IfOk, IfSome};
-ghost use Rattle.std.specs.List.{All};
+ghost use Rattle.std.specs.Prelude.{◌==◌, ℕ, ◌≤◌, not, count_by, IfOk, IfSome, IsTrue};
 ghost use Rattle.minimise.specs.CoarseClasses.{AreCoarseClasses, AreResidualClasses};
 
 use crate::hashing::state_hash;
@@ -13,15 +12,19 @@ use digit_tuple::faults::OutOfMemory;
 use indexmap::IndexSet;
 use std::alloc::Global;
 
-/// The residual languages as classes, unless more rounds would have to part states.
+/// The residual languages as classes, unless it takes many rounds to part all states: more than about
+/// two for each binary digit of their number, or more than eight that part a few states each.
 pub fn classes_by_rounds(alloc: Global, dfa: &Dfa) -> Result<Option<Vec<u32>>, OutOfMemory>
     ensures { IfOk result (λ made. IfSome made (λ classes. AreResidualClasses dfa.now classes.items)) }
 {
     let states = dfa.states();
     let mut classes = vec![in alloc; 0; states as usize + 1]?;
-    for _ in 0..2 * (32 - states.leading_zeros()) + 8 {
+    for round in 0..2 * (32 - states.leading_zeros()) + 8 {
         if is_stable(alloc, dfa, &classes)? {
             return Ok(Some(classes));
+        }
+        if round == 8 && are_nearly_one(&classes) {
+            return Ok(None);
         }
         classes = rehashed(alloc, dfa, &classes)?;
     }
@@ -43,4 +46,30 @@ fn rehashed(alloc: Global, dfa: &Dfa, classes: &[u32]) -> Result<Vec<u32>, OutOf
         numbers.push(number as u32)?;
     }
     Ok(numbers)
+}
+
+// Whether nearly all have one class: all but 256 at most, and but one of sixteen.
+fn are_nearly_one(classes: &[u32]) -> bool
+    ensures { IsTrue result → (class : ℕ) × (count_by (λ c. not (c == class)) classes.now ≤ 256) }
+{
+    let class = prevailing(classes);
+    let others = classes.iter().filter(|c| **c != class).count();
+    others <= 256 && 16 * others < classes.len()
+}
+
+// A class that more than half have, if there is one (Robert Boyer and J Strother Moore, "MJRTY").
+fn prevailing(classes: &[u32]) -> u32 {
+    let mut prevailing = 0;
+    let mut lead: usize = 0;
+    for class in classes {
+        if *class == prevailing {
+            lead += 1;
+        } else if lead == 0 {
+            prevailing = *class;
+            lead = 1;
+        } else {
+            lead -= 1;
+        }
+    }
+    prevailing
 }
