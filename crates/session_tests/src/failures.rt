@@ -35,13 +35,7 @@ fn run_in_pieces(
     script: &[u8],
     reads: &'static [usize],
 ) -> Result<Left, AllocError> {
-    let outside = Outside {
-        reads,
-        failing_reads: &[],
-        writes: &[],
-        failing_writes: &[],
-        failing_store: &[],
-    };
+    let outside = Outside { reads, ..SURE };
     run_script(alloc, script, &outside)
 }
 
@@ -88,9 +82,7 @@ fn run_to_failure(
     let outside = Outside {
         reads,
         failing_reads: &[2],
-        writes: &[],
-        failing_writes: &[],
-        failing_store: &[],
+        ..SURE
     };
     run_script(alloc, script, &outside)
 }
@@ -123,11 +115,8 @@ fn run_over_failing_store(
     failing_store: &'static [u64],
 ) -> Result<Left, AllocError> {
     let outside = Outside {
-        reads: &[],
-        failing_reads: &[],
-        writes: &[],
-        failing_writes: &[],
         failing_store,
+        ..SURE
     };
     run_script(alloc, THREE, &outside)
 }
@@ -165,11 +154,9 @@ fn run_over_sink(
     failing_writes: &'static [u64],
 ) -> Result<Left, AllocError> {
     let outside = Outside {
-        reads: &[],
-        failing_reads: &[],
         writes,
         failing_writes,
-        failing_store: &[],
+        ..SURE
     };
     run_script(alloc, REFUSED, &outside)
 }

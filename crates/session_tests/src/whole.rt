@@ -8,7 +8,7 @@ use wal_outside::{Folder, MemSink, MemSource, MemStore};
 
 /// What a run is over: lengths of pieces, and the numbers of the calls that fail. An empty list stands for whole pieces
 /// and no failure.
-#[derive(Drop)]
+#[derive(Clone, Copy)]
 pub struct Outside {
     pub reads: &'static [usize],
     pub failing_reads: &'static [u64],

@@ -15,144 +15,41 @@ const SHOWN: &[u8] = b"step 1 regex 33 32\n";
 
 const EXCEEDED: &[u8] = b"error 1: F19 States step 1\n";
 
-/// Words, and what is printed of the script, with the status.
-struct Words {
-    texts: &'static [&'static str],
-    printed: &'static [u8],
-    code: u8,
-}
-
-static WORDS: [Words; 24] = [
-    Words {
-        texts: &["walnut"],
-        printed: SHOWN,
-        code: 0,
-    },
-    Words {
-        texts: &["walnut", "--states", "33"],
-        printed: SHOWN,
-        code: 0,
-    },
-    Words {
-        texts: &["walnut", "--states=33"],
-        printed: SHOWN,
-        code: 0,
-    },
-    Words {
-        texts: &["walnut", "--states", "32"],
-        printed: EXCEEDED,
-        code: 1,
-    },
-    Words {
-        texts: &["walnut", "--states=32"],
-        printed: EXCEEDED,
-        code: 1,
-    },
-    Words {
-        texts: &["walnut", "--states", "16"],
-        printed: EXCEEDED,
-        code: 1,
-    },
-    Words {
-        texts: &["walnut", "--states", "1000000"],
-        printed: SHOWN,
-        code: 0,
-    },
-    Words {
-        texts: &["walnut", "--states", "33", "--"],
-        printed: SHOWN,
-        code: 0,
-    },
-    Words {
-        texts: &["walnut", "--"],
-        printed: SHOWN,
-        code: 0,
-    },
-    Words {
-        texts: &["walnut", "--states", "15"],
-        printed: USAGE,
-        code: 2,
-    },
-    Words {
-        texts: &["walnut", "--states", "1000001"],
-        printed: USAGE,
-        code: 2,
-    },
-    Words {
-        texts: &["walnut", "--states", "33", "--states", "33"],
-        printed: USAGE,
-        code: 2,
-    },
-    Words {
-        texts: &["walnut", "--states=33", "--states=33"],
-        printed: USAGE,
-        code: 2,
-    },
-    Words {
-        texts: &["walnut", "--states"],
-        printed: USAGE,
-        code: 2,
-    },
-    Words {
-        texts: &["walnut", "--states="],
-        printed: USAGE,
-        code: 2,
-    },
-    Words {
-        texts: &["walnut", "--states", "033"],
-        printed: USAGE,
-        code: 2,
-    },
-    Words {
-        texts: &["walnut", "--states", "+33"],
-        printed: USAGE,
-        code: 2,
-    },
-    Words {
-        texts: &["walnut", "--states", "-33"],
-        printed: USAGE,
-        code: 2,
-    },
-    Words {
-        texts: &["walnut", "--states", "many"],
-        printed: USAGE,
-        code: 2,
-    },
-    Words {
-        texts: &["walnut", "--help"],
-        printed: USAGE,
-        code: 2,
-    },
-    Words {
-        texts: &["walnut", "-h"],
-        printed: USAGE,
-        code: 2,
-    },
-    Words {
-        texts: &["walnut", "--version"],
-        printed: USAGE,
-        code: 2,
-    },
-    Words {
-        texts: &["walnut", "33"],
-        printed: USAGE,
-        code: 2,
-    },
-    Words {
-        texts: &["walnut", "--", "33"],
-        printed: USAGE,
-        code: 2,
-    },
+/// Words, what is printed of the script, and the status.
+const WORDS: [(&[&str], &[u8], u8); 24] = [
+    (&["walnut"], SHOWN, 0),
+    (&["walnut", "--states", "33"], SHOWN, 0),
+    (&["walnut", "--states=33"], SHOWN, 0),
+    (&["walnut", "--states", "32"], EXCEEDED, 1),
+    (&["walnut", "--states=32"], EXCEEDED, 1),
+    (&["walnut", "--states", "16"], EXCEEDED, 1),
+    (&["walnut", "--states", "1000000"], SHOWN, 0),
+    (&["walnut", "--states", "33", "--"], SHOWN, 0),
+    (&["walnut", "--"], SHOWN, 0),
+    (&["walnut", "--states", "15"], USAGE, 2),
+    (&["walnut", "--states", "1000001"], USAGE, 2),
+    (&["walnut", "--states", "33", "--states", "33"], USAGE, 2),
+    (&["walnut", "--states=33", "--states=33"], USAGE, 2),
+    (&["walnut", "--states"], USAGE, 2),
+    (&["walnut", "--states="], USAGE, 2),
+    (&["walnut", "--states", "033"], USAGE, 2),
+    (&["walnut", "--states", "+33"], USAGE, 2),
+    (&["walnut", "--states", "-33"], USAGE, 2),
+    (&["walnut", "--states", "many"], USAGE, 2),
+    (&["walnut", "--help"], USAGE, 2),
+    (&["walnut", "-h"], USAGE, 2),
+    (&["walnut", "--version"], USAGE, 2),
+    (&["walnut", "33"], USAGE, 2),
+    (&["walnut", "--", "33"], USAGE, 2),
 ];
 
 #[test]
 fn words_are_taken_or_refused_as_listed(rt: HostRuntime) -> Result<(), Fail> {
-    for words in &WORDS {
-        let left = run_words(rt.alloc(), words.texts, SCRIPT, &SURE)?;
-        assert_eq!(rt; left.out.held(), words.printed);
-        assert_eq!(rt; left.status.code(), words.code);
-        let stored = usize::from(words.code == 0);
-        assert_eq!(rt; left.store.len(), stored);
+    for (texts, printed, code) in WORDS {
+        let left = run_words(rt.alloc(), texts, SCRIPT, &SURE)?;
+        assert_eq!(rt; left.out.held(), printed);
+        assert_eq!(rt; left.status.code(), code);
+        assert_eq!(rt; left.store.len(), usize::from(code == 0));
     }
     Ok(())
 }
