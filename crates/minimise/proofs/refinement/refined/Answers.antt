@@ -12,7 +12,7 @@ loop-state-preserved c =
     let classes = c.args.classes.now in
     subst (λ (ns : List ℕ). AreNumberedBy (signature_of d classes) c.number_of.new.self ns (c.loop-state.state + 1)) (sym c.in_ok-push.ensures.items)
     (AreNumberedBy-more (signature_of d classes) c.loop-state.signatures c.number_of.new.self c.loop-state.numbers.items c.loop-state.state c.deref.result.now c.in_ok-number.number
-    c.loop-state.invariant c.in_ok-number.ensures (c.deref.ensures.value ∙ c.in_ok-write_signature.ensures))
+    c.loop-state.invariant c.in_ok-number.ensures.number (c.deref.ensures.value ∙ c.in_ok-write_signature.ensures))
 
 pub returns-clause-refined : goal.returns-clause-refined
 returns-clause-refined c =
@@ -21,7 +21,7 @@ returns-clause-refined c =
     let all : c.loop-state.state ≡ states_of d = omega arith in
     let sink : c.deref-2.result.now ≡ signature_of d classes (states_of d) = c.deref-2.ensures.value ∙ c.in_ok-write_signature-2.ensures ∙ ap (signature_of d classes) c.states-states.ensures.value in
     let done = AreNumberedBy-more (signature_of d classes) c.loop-state.signatures c.number_of-2.new.self c.loop-state.numbers.items (states_of d) c.deref-2.result.now c.in_ok-number-2.number
-    (subst (λ (n : ℕ). AreNumberedBy (signature_of d classes) c.loop-state.signatures c.loop-state.numbers.items n) all c.loop-state.invariant) c.in_ok-number-2.ensures sink in
+    (subst (λ (n : ℕ). AreNumberedBy (signature_of d classes) c.loop-state.signatures c.loop-state.numbers.items n) all c.loop-state.invariant) c.in_ok-number-2.ensures.number sink in
     subst (λ (n : ℕ). AreRefined d classes c.push-2.new.self.items n) (sym c.len.ensures.len)
     (subst (λ (ns : List ℕ). AreRefined d classes ns (length c.number_of-2.new.self)) (sym c.in_ok-push-2.ensures.items)
     (AreRefined-done d classes c.number_of-2.new.self (c.loop-state.numbers.items ++ c.in_ok-number-2.number ∷ []) (states_of d + 1) c.states-states.ensures.table refl done))
