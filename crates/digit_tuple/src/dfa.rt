@@ -181,8 +181,8 @@ fn target_in(edges: &[Edge], letter: u32) -> Option<u32>
     }
 }
 
-/// The place of the edge by the letter, or where it would stand.
-pub fn place_in(edges: &[Edge], letter: u32) -> usize
+// The place of the edge by the letter, or where it would stand.
+pub(crate) fn place_in(edges: &[Edge], letter: u32) -> usize
     requires { AllPairs IsByEarlier edges.now }
     ensures within { result ≤ length edges.now }
     ensures before { AllWithin (λ edge. edge.letter < letter) edges.now 0 result }
