@@ -81,8 +81,8 @@ impl Dfa {
         self.rows[state as usize].accepting
     }
 
-    /// The edges of a state, by letter.
-    pub fn edges(&self, state: u32) -> &[Edge]
+    // The edges of a state, by letter.
+    pub(crate) fn row_of(&self, state: u32) -> &[Edge]
         requires { state < states_of self.now }
         ensures edges { result.now ≡ edges_of self.now state }
         ensures row { IsRow (letters_of self.now) (states_of self.now) result.now }
@@ -98,7 +98,7 @@ impl Dfa {
         ensures row { OnOk result (IsRow (letters_of self.now) (states_of self.now) row.new.items) }
         ensures table { IsTable (letters_of self.now) self.now.states }
     {
-        let edges = self.edges(state);
+        let edges = self.row_of(state);
         row.clear();
         row.extend_from_slice(edges)?;
         Ok(())
@@ -109,7 +109,7 @@ impl Dfa {
         requires { state < states_of self.now }
         ensures { IsTrue result ↔ (edges_of self.now state ≡ []) }
     {
-        self.edges(state).is_empty()
+        self.row_of(state).is_empty()
     }
 
     /// Whether the state is the same in both automata.
@@ -118,7 +118,7 @@ impl Dfa {
         requires second { state < states_of other.now }
         ensures { IsTrue result ↔ (state_of self.now state ≡ state_of other.now state) }
     {
-        self.accepting(state) == other.accepting(state) && self.edges(state) == other.edges(state)
+        self.accepting(state) == other.accepting(state) && self.row_of(state) == other.row_of(state)
     }
 
     /// Where a letter leads from a state, unless it leads nowhere.
@@ -127,7 +127,7 @@ impl Dfa {
         ensures target { result ≡ step_of self.now state letter }
         ensures in_range { IfSome result (λ next. next < states_of self.now) }
     {
-        target_in(self.edges(state), letter)
+        target_in(self.row_of(state), letter)
     }
 
     /// Whether the automaton accepts the word.

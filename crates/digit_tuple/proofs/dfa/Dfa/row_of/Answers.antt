@@ -1,7 +1,7 @@
 use Rattle.std.proofs.Common.{◌≡◌, ◌<◌, length, sym, ap, ◌∙◌, subst}
 use Rattle.digit_tuple.specs.Deterministic.{Automaton, State, IsTable, IsRow, edges_of, states_of, letters_of}
 use Rattle.digit_tuple.proofs.DfaLemmas.{row_at, state_in_row}
-use Rattle.digit_tuple.proofs.dfa.Dfa.edges.Goals as goal
+use Rattle.digit_tuple.proofs.dfa.Dfa.row_of.Goals as goal
 
 pub returns-clause-row : goal.returns-clause-row
 returns-clause-row c =
