@@ -1,13 +1,12 @@
--- Words that are alike to products and to valid parts: these are equivalences, and have one width.
+-- Words that are alike to products and to valid parts: these are equivalences.
 use Rattle.std.proofs.Common.{List, sym, ◌∙◌, refl}
 use Rattle.digit_tuple.specs.Deterministic.{Automaton}
 use Rattle.digit_tuple.specs.Width.{IsEquivalence}
-use Rattle.digit_tuple.proofs.WidthLemmas.{HasWidth-excludes, HasWidth-unique}
 use Rattle.minimise.specs.Tracked.{NamedAutomaton}
 use Rattle.product_op.specs.declared.op.Op.{Op}
-use Rattle.product_op.specs.Products.{ProductAlike, ValidityAlike, OneProductWidth, OneValidityWidth}
+use Rattle.product_op.specs.Products.{ProductAlike, ValidityAlike}
 
-IsEquivalence-product : (op : Op) (a b : NamedAutomaton) (languages : List Automaton) → IsEquivalence (ProductAlike op a b languages)
+pub IsEquivalence-product : (op : Op) (a b : NamedAutomaton) (languages : List Automaton) → IsEquivalence (ProductAlike op a b languages)
 IsEquivalence-product op a b languages = record {
   reflexive = λ w. record { first = λ t more. refl; second = λ t more. refl; tracks = λ counts track less t more. refl };
   symmetric = λ w v alike. record {
@@ -22,7 +21,7 @@ IsEquivalence-product op a b languages = record {
   };
 }
 
-IsEquivalence-validity : (a : NamedAutomaton) (languages : List Automaton) → IsEquivalence (ValidityAlike a languages)
+pub IsEquivalence-validity : (a : NamedAutomaton) (languages : List Automaton) → IsEquivalence (ValidityAlike a languages)
 IsEquivalence-validity a languages = record {
   reflexive = λ w. record { argument = λ t more. refl; tracks = λ track less t more. refl };
   symmetric = λ w v alike. record { argument = λ t more. sym (alike.argument t more); tracks = λ track less t more. sym (alike.tracks track less t more) };
@@ -31,19 +30,3 @@ IsEquivalence-validity a languages = record {
     tracks = λ track less t more. one.tracks track less t more ∙ two.tracks track less t more;
   };
 }
-
-pub one_product_width : OneProductWidth
-one_product_width op a b languages letters k width =
-    let alike = ProductAlike op a b languages in
-    let equivalence = IsEquivalence-product op a b languages in (
-      (λ j other. HasWidth-unique alike letters equivalence j k other width),
-      (λ j more apart. HasWidth-excludes alike letters equivalence j k more width apart),
-    )
-
-pub one_validity_width : OneValidityWidth
-one_validity_width a languages letters k width =
-    let alike = ValidityAlike a languages in
-    let equivalence = IsEquivalence-validity a languages in (
-      (λ j other. HasWidth-unique alike letters equivalence j k other width),
-      (λ j more apart. HasWidth-excludes alike letters equivalence j k more width apart),
-    )

@@ -2,6 +2,7 @@ pub mod Connectives
 pub mod Tracks
 pub mod Validity
 pub mod Products
+pub mod OneWidth
 pub mod Readings
 pub mod ReadingLaws
 pub mod TrackReadings

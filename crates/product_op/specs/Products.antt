@@ -1,12 +1,11 @@
 -- Products of two automata over the tracks of both.
-use Rattle.std.specs.Prelude.{◌≡◌, ◌<◌, ℕ, Bool, true, not, ◌&&◌, List, IsTrue, if◌then◌else◌}
+use Rattle.std.specs.Prelude.{ℕ, Bool, true, not, ◌&&◌, List, IsTrue, if◌then◌else◌}
 use Rattle.digit_tuple.specs.Deterministic.{Automaton, accepts_of}
 use Rattle.minimise.specs.Tracked.{NamedAutomaton}
 use Rattle.product_op.specs.declared.op.Op.{Op}
 use Rattle.product_op.specs.Connectives.{connective, among_valid}
 use Rattle.minimise.specs.Residuals.{SameAfter}
 use Rattle.digit_tuple.specs.Names.{joint_names}
-use Rattle.digit_tuple.specs.Width.{HasApart, HasWidth}
 use Rattle.product_op.specs.Tracks.{joint_sizes, part_on}
 use Rattle.product_op.specs.Validity.{is_valid, TracksAlike}
 
@@ -39,14 +38,3 @@ in_valid_part a languages w = accepts_of a.automaton w && is_valid a.automaton.s
 pub record ValidityAlike (a : NamedAutomaton) (languages : List Automaton) (w v : List ℕ) : Type 0 where
   pub argument : SameAfter a.automaton w v
   pub tracks : TracksAlike a.automaton.sizes languages w v
-
--- The width of a product is one number, and excludes that more words have different values: so it excludes a refusal under a limit
--- that it does not pass.
-abbrev pub OneProductWidth : Type 0
-OneProductWidth = (op : Op) (a b : NamedAutomaton) (languages : List Automaton) (letters k : ℕ) → HasWidth (ProductAlike op a b languages) letters k
-    → ((j : ℕ) → HasWidth (ProductAlike op a b languages) letters j → j ≡ k) × ((j : ℕ) → k < j → ¬ HasApart (ProductAlike op a b languages) letters j)
-
--- The same of a complement among valid words and of a valid part.
-abbrev pub OneValidityWidth : Type 0
-OneValidityWidth = (a : NamedAutomaton) (languages : List Automaton) (letters k : ℕ) → HasWidth (ValidityAlike a languages) letters k
-    → ((j : ℕ) → HasWidth (ValidityAlike a languages) letters j → j ≡ k) × ((j : ℕ) → k < j → ¬ HasApart (ValidityAlike a languages) letters j)

@@ -1,0 +1,15 @@
+-- Widths of products, of complements among valid words and of valid parts.
+use Rattle.std.specs.Prelude.{ℕ, List}
+use Rattle.digit_tuple.specs.Deterministic.{Automaton}
+use Rattle.digit_tuple.specs.Width.{IsOneWidth}
+use Rattle.minimise.specs.Tracked.{NamedAutomaton}
+use Rattle.product_op.specs.declared.op.Op.{Op}
+use Rattle.product_op.specs.Products.{ProductAlike, ValidityAlike}
+
+-- a product has one width
+abbrev pub OneProductWidth : Type 0
+OneProductWidth = (op : Op) (a b : NamedAutomaton) (languages : List Automaton) (letters : ℕ) → IsOneWidth (ProductAlike op a b languages) letters
+
+-- a complement among valid words has one width, and a valid part the same
+abbrev pub OneValidityWidth : Type 0
+OneValidityWidth = (a : NamedAutomaton) (languages : List Automaton) (letters : ℕ) → IsOneWidth (ValidityAlike a languages) letters
