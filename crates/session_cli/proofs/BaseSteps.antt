@@ -16,30 +16,43 @@ use Rattle.base_k.specs.declared.base_k.BaseK.{BaseK}
 use Rattle.base_k.specs.Positional.{base}
 use Rattle.base_k.specs.BaseLaws.{base_is_system}
 use Rattle.reg_steps.specs.Relations.{IsSystemLanguage, AreSystemLanguages}
-use Rattle.session_cli.specs.BaseSystems.{base_name, IsBase, AreBases, IsOf, IsKnown, IsFirstWithout, PartInDirection, base_names, base_tracks}
-use Rattle.session_cli.specs.Bases.{name_of, digits_in, IsIn, IsFirstApart}
-use Rattle.session_cli.specs.Tracks.{bases}
-use Rattle.session_cli.proofs.BaseLemmas.{one_direction}
+use Rattle.system_names.specs.Names.{base_name, IsBase, IsBuiltInName}
+use Rattle.session_cli.specs.Tracks.{NamedSystem, names_of, systems_of, track_of, header_tracks}
+use Rattle.session_cli.specs.Named.{Custom, IsSystemNamed, IsOf, IsKnown, AreNamed, IsFirstWithout, PartInDirection}
+use Rattle.command_head.specs.Heads as heads
+use Rattle.session_cli.specs.declared.fault.Fault.{Fault}
+use Rattle.session_cli.specs.declared.fault.Fault.TheVariants as faults
+use Rattle.session_cli.specs.Checks.{Pure, Fails}
+use Rattle.session_cli.specs.RegOutcomes.{TracksAnswers}
+use Rattle.session_cli.specs.Bases.{name_of, named_of, named_in, IsIn, IsUnknown, IsFirstApart}
+use Rattle.session_cli.proofs.NameLemmas.{one_direction, known_of, of_known, first_so}
 
 -- the bounds of a base
 pub base_bounds : (s : BaseK) → IsBase s.base
 base_bounds s = record { least = s.at_least; most = s.at_most }
 
 -- names of bases are known
-pub named_known : (systems : List BaseK) → AllByRecursion IsKnown (map name_of systems)
-named_known [] = tt
-named_known (s ∷ systems) = ((s.direction, (s.base, base_bounds s, refl)), named_known systems)
+pub built_in_names : (systems : List BaseK) → AllByRecursion IsBuiltInName (map name_of systems)
+built_in_names [] = tt
+built_in_names (s ∷ systems) = ((s.direction, s.base, (base_bounds s, refl)), built_in_names systems)
 
-pub digits_are_bases : (systems : List BaseK) → AreBases (digits_in systems)
-digits_are_bases [] = tt
-digits_are_bases (s ∷ systems) = (base_bounds s, digits_are_bases systems)
+pub names_known : (custom : Custom) (systems : List BaseK) → AllByRecursion (IsKnown custom) (map name_of systems)
+names_known custom [] = tt
+names_known custom (s ∷ systems) = (known_of custom (name_of s) (s.direction, s.base, (base_bounds s, refl)), names_known custom systems)
 
--- bases in one direction have the names of their digits
-pub names_in_direction : (direction : Direction) (systems : List BaseK) → All (IsIn direction) systems → map name_of systems ≡ base_names direction (digits_in systems)
-names_in_direction direction [] all = refl
-names_in_direction direction (s ∷ systems) all =
-    ap (λ (d : Direction). base_name d s.base ∷ map name_of systems) (all 0 s (omega arith))
-    ∙ ap (λ (ns : List (List ℕ)). base_name direction s.base ∷ ns) (names_in_direction direction systems (λ i d within. all (suc i) d (omega (arith, within))))
+-- bases have the names under which they stand
+pub names_in : (systems : List BaseK) → map name_of systems ≡ names_of (named_in systems)
+names_in [] = refl
+names_in (s ∷ systems) = ap (λ (ns : List (List ℕ)). name_of s ∷ ns) (names_in systems)
+
+-- what the name of a base means
+base_named : (custom : Custom) (way : Direction) (s : BaseK) → IsIn way s → IsSystemNamed custom (name_of s) way (base s.base)
+base_named custom way s is = let P : Direction → Type 0 = λ d. IsSystemNamed custom (name_of s) d (base s.base) in subst P is (s.base, (base_bounds s, refl), refl)
+
+-- bases in one direction are what their names mean
+pub bases_named : (custom : Custom) (way : Direction) (systems : List BaseK) → All (IsIn way) systems → AreNamed custom way (named_in systems)
+bases_named custom way [] all = tt
+bases_named custom way (s ∷ systems) all = (base_named custom way s (all 0 s (omega arith)), bases_named custom way systems (λ i d within. all (suc i) d (omega (arith, within))))
 
 -- one language more
 pub languages_push : (direction : Direction) (ss : List System) (languages : List Automaton) (s : System) (d : Automaton) → AreSystemLanguages direction ss languages → IsSystemLanguage direction s d → AreSystemLanguages direction (ss ++ s ∷ []) (languages ++ d ∷ [])
@@ -59,8 +72,9 @@ languages_push direction ss languages s d are last = record {
         let two : language_at (languages ++ d ∷ []) track ≡ d = get_or_push languages d no_language track (are.count ∙ at) in
         subst (λ (y : System). IsSystemLanguage direction y (language_at (languages ++ d ∷ []) track)) (sym one) (subst (λ (e : Automaton). IsSystemLanguage direction s e) (sym two) last)
 
-pub bases_push : (systems : List BaseK) (s : BaseK) → bases (digits_in (systems ++ s ∷ [])) ≡ bases (digits_in systems) ++ base s.base ∷ []
-bases_push systems s = ap bases (map-append (λ (x : BaseK). x.base) systems (s ∷ [])) ∙ map-append base (digits_in systems) (s.base ∷ [])
+pub systems_push : (systems : List BaseK) (s : BaseK) → systems_of (named_in (systems ++ s ∷ [])) ≡ systems_of (named_in systems) ++ base s.base ∷ []
+systems_push [] s = refl
+systems_push (x ∷ systems) s = ap (λ (ss : List System). base x.base ∷ ss) (systems_push systems s)
 
 -- the canonical language of a base
 pub base_language : (direction : Direction) (s : BaseK) (d e : Automaton) → IsIn direction s → IsLanguageOf s.direction (base s.base) d → e.sizes ≡ d.sizes → SameLanguage d e → IsCanonical e → IsSystemLanguage direction (base s.base) e
@@ -69,36 +83,51 @@ base_language direction s d e is language sizes same canonical =
     record { of_system = subst (λ (x : Direction). IsLanguageOf x (base s.base) e) is kept; canonical = canonical }
 
 -- the first base of another direction has the first name of the other direction
-first_apart : (d : Direction) (systems : List BaseK) (j : ℕ) (other : List ℕ) → j < length systems → All (IsIn d) (take j systems) → ((x : BaseK) → ¬ IsIn d (get_or systems j x)) → other ≡ get_or (map name_of systems) j other
-    → IsFirstWithout (IsOf d) (map name_of systems) other
-first_apart d [] j other within all apart is = absurd (omega (arith, within))
-first_apart d (s ∷ systems) zero other within all apart is = inl ((λ of. apart s (one_direction s.direction d (name_of s) (s.base, base_bounds s, refl) of)), is)
-first_apart d (s ∷ systems) (suc j) other within all apart is =
-    inr ((s.base, base_bounds s, ap (λ (x : Direction). base_name x s.base) (all 0 s (omega arith))), first_apart d systems j other (omega (arith, within)) (λ i x inside. all (suc i) x (omega (arith, inside))) apart is)
+first_apart : (custom : Custom) (d : Direction) (systems : List BaseK) (j : ℕ) (other : List ℕ) → j < length systems → All (IsIn d) (take j systems) → ((x : BaseK) → ¬ IsIn d (get_or systems j x)) → other ≡ get_or (map name_of systems) j other
+    → IsFirstWithout (IsOf custom d) (map name_of systems) other
+first_apart custom d [] j other within all apart is = absurd (omega (arith, within))
+first_apart custom d (s ∷ systems) zero other within all apart is =
+    inl ((λ of. apart s (one_direction custom s.direction d (name_of s) (base s.base, base_named custom s.direction s refl) of)), is)
+first_apart custom d (s ∷ systems) (suc j) other within all apart is =
+    inr ((base s.base, base_named custom d s (all 0 s (omega arith))), first_apart custom d systems j other (omega (arith, within)) (λ i x inside. all (suc i) x (omega (arith, inside))) apart is)
 
-pub parted : (names : List (List ℕ)) (systems : List BaseK) (d : Direction) (place : ℕ) (first other : List ℕ) → names ≡ map name_of systems → ((x : BaseK) → IsIn d (get_or systems 0 x)) → IsFirstApart d systems place
-    → first ≡ get_or names 0 first → other ≡ get_or names place other → PartInDirection names first other
-parted names [] d place first other named head apart is is' = absurd (omega (arith, apart.within))
-parted names (s ∷ systems) d zero first other named head apart is is' = absurd (apart.apart s (head s))
-parted names (s ∷ systems) d (suc j) first other named head apart is is' = record {
-  known = subst (AllByRecursion IsKnown) (sym named) (named_known (s ∷ systems));
-  direction = d;
+pub parted : (custom : Custom) (names : List (List ℕ)) (systems : List BaseK) (d : Direction) (place : ℕ) (first other : List ℕ) → names ≡ map name_of systems → ((x : BaseK) → IsIn d (get_or systems 0 x)) → IsFirstApart d systems place
+    → first ≡ get_or names 0 first → other ≡ get_or names place other → PartInDirection custom names first other
+parted custom names [] d place first other named head apart is is' = absurd (omega (arith, apart.within))
+parted custom names (s ∷ systems) d zero first other named head apart is is' = absurd (apart.apart s (head s))
+parted custom names (s ∷ systems) d (suc j) first other named head apart is is' = record {
+  known = subst (AllByRecursion (IsKnown custom)) (sym named) (names_known custom (s ∷ systems));
+  way = d;
   rest = map name_of systems;
   names_are = named ∙ ap (λ (n : List ℕ). n ∷ map name_of systems) (sym firsts);
-  first_of = (s.base, base_bounds s, firsts ∙ ap (λ (x : Direction). base_name x s.base) (head s));
-  other_is = first_apart d systems j other (omega (arith, apart.within)) (λ i x inside. apart.before (suc i) x (omega (arith, inside))) apart.apart (is' ∙ ap (λ (ns : List (List ℕ)). get_or ns (suc j) other) named);
+  first_of = (base s.base, let P : List ℕ → Type 0 = λ n. IsSystemNamed custom n d (base s.base) in subst P (sym firsts) (base_named custom d s (head s)));
+  other_is = first_apart custom d systems j other (omega (arith, apart.within)) (λ i x inside. apart.before (suc i) x (omega (arith, inside))) apart.apart (is' ∙ ap (λ (ns : List (List ℕ)). get_or ns (suc j) other) named);
 }
   where
     firsts : first ≡ name_of s
     firsts = is ∙ ap (λ (ns : List (List ℕ)). get_or ns 0 first) named
 
 -- one track more
-pub tracks_push : (direction : Direction) (systems : List BaseK) (s : BaseK) → base_tracks direction (digits_in (systems ++ s ∷ [])) ≡ base_tracks direction (digits_in systems) ++ (record { name = base_name direction s.base; digits = s.base }) ∷ []
-tracks_push direction systems s =
-    ap (base_tracks direction) (map-append (λ (x : BaseK). x.base) systems (s ∷ [])) ∙ map-append (λ (k : ℕ). let t : SystemTrack = record { name = base_name direction k; digits = k } in t) (digits_in systems) (s.base ∷ [])
+pub tracks_push : (systems : List BaseK) (s : BaseK) → header_tracks (named_in (systems ++ s ∷ [])) ≡ header_tracks (named_in systems) ++ (record { name = name_of s; digits = s.base }) ∷ []
+tracks_push [] s = refl
+tracks_push (x ∷ systems) s = ap (λ (ts : List SystemTrack). track_of (named_of x) ∷ ts) (tracks_push systems s)
 
 -- the name of a base at a place
-pub name_at : (direction : Direction) (systems : List BaseK) (place : ℕ) (s : BaseK) (d : List ℕ) → place < length systems → s ≡ get_or systems place s → get_or (base_names direction (digits_in systems)) place d ≡ base_name direction s.base
-name_at direction systems place s d within is =
-    get_or-map (base_name direction) (digits_in systems) place 0 d (omega (arith, within, length-map systems (λ (x : BaseK). x.base)))
-    ∙ ap (base_name direction) (get_or-map (λ (x : BaseK). x.base) systems place s 0 within ∙ ap (λ (x : BaseK). x.base) (sym is))
+pub name_at : (systems : List BaseK) (place : ℕ) (s : BaseK) (d : List ℕ) → place < length systems → s ≡ get_or systems place s → get_or (names_of (named_in systems)) place d ≡ name_of s
+name_at systems place s d within is =
+    ap (λ (ns : List (List ℕ)). get_or ns place d) (sym (names_in systems)) ∙ (get_or-map name_of systems place s d within ∙ ap name_of (sym is))
+
+-- a name that is not known is so whatever users defined
+pub unknown_named : (custom : Custom) (names : List (List ℕ)) (fault : Fault) → IsUnknown names fault → Fails (Pure (TracksAnswers custom (heads.Systems names))) fault
+unknown_named custom names (faults.SystemUnknown name) first = first_so IsBuiltInName (IsKnown custom) names name (known_of custom) (of_known custom) first
+unknown_named custom names faults.Memory refused = tt
+unknown_named custom names faults.Command refused = absurd refused
+unknown_named custom names (faults.Syntax part at) refused = absurd refused
+unknown_named custom names (faults.Number part at) refused = absurd refused
+unknown_named custom names (faults.Depth part at) refused = absurd refused
+unknown_named custom names (faults.Long bytes) refused = absurd refused
+unknown_named custom names (faults.Direction first second) refused = absurd refused
+unknown_named custom names (faults.Letters step) refused = absurd refused
+unknown_named custom names (faults.States step) refused = absurd refused
+unknown_named custom names (faults.Store folder name) refused = absurd refused
+unknown_named custom names faults.ScriptLimit refused = absurd refused

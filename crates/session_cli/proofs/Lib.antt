@@ -1,4 +1,6 @@
+-- Lemmas, in reading order.
 pub mod StepLines
+pub mod CheckSteps
 pub mod CommandSteps
 pub mod RunSteps
 pub mod Standing
@@ -7,12 +9,13 @@ pub mod Between
 pub mod WholeSteps
 pub mod RegexTexts
 pub mod TrackWidths
-pub mod BaseLemmas
+pub mod NameLemmas
 pub mod BaseSteps
 pub mod RegexPlans
-pub mod PlanSteps
+pub mod RegSteps
 pub mod OneLimits
 pub mod ClapTurns
 pub mod ClapWalks
 pub mod OneOutcomes
+pub mod AnyLedger
 pub mod OneRuns

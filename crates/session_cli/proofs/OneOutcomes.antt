@@ -1,33 +1,39 @@
--- A text has one proper outcome.
-use Rattle.std.proofs.Common.{◌≡◌, ◌≢◌, ℕ, ◌<◌, ◌≤◌, ◌⊎◌, Bool, true, false, List, [], ◌∷◌, length, get_or, drop, Result, Ok, Err, refl, sym, ap, ◌∙◌, subst, inl, inr, arith, codes}
-use Rattle.std.proofs.lemmas.Bool.{cases_lt}
-use Rattle.std.specs.List.{AllByRecursion}
-use Rattle.std.specs.Str.{bytes_eq}
-use Rattle.std.proofs.lemmas.Slice.Eq.{bytes_eq-Decides}
+-- A command has one proper outcome.
+use Rattle.std.proofs.Common.{◌≡◌, ◌≢◌, ℕ, ◌<◌, ◌≤◌, ◌^◌, ◌⊎◌, List, [], ◌∷◌, ℤ, length, None, Result, Ok, Err, refl, sym, ap, ◌∙◌, subst, inl, inr, arith}
+use Rattle.wal_outside.specs.declared.folder.Folder.TheVariants.{Automata, Bases}
 use Rattle.digit_tuple.specs.declared.direction.Direction.{Direction}
 use Rattle.digit_tuple.specs.declared.steps.StepLine.{StepLine}
-use Rattle.wal_outside.specs.declared.folder.Folder.TheVariants.{Automata}
+use Rattle.command_head.specs.declared.fault.HeadFault.{HeadFault}
+use Rattle.command_head.specs.declared.fault.HeadFault.TheVariants as head_faults
+use Rattle.command_head.specs.Heads as heads
+use Rattle.command_head.specs.Heads.{RegHead, AtWord, reg_at}
+use Rattle.command_head.specs.Parts.{parts_of, texts_of, first_word_of}
+use Rattle.command_head.specs.Grammar.{SpellsReg}
+use Rattle.command_head.proofs.Walks.{goes_run}
+use Rattle.command_head.proofs.SpelledHeads.{reg_goes}
+use Rattle.command_head.proofs.OneFault.{syntax_read, number_read}
 use Rattle.regex_build.specs.declared.fault.RegexFault.{RegexFault}
 use Rattle.regex_build.specs.declared.fault.RegexFault.TheVariants as regexes
+use Rattle.regex_build.specs.Expression.{Expression}
 use Rattle.regex_build.specs.Patterns.{Pattern}
 use Rattle.regex_build.specs.Parsing.{Parses}
 use Rattle.regex_build.proofs.OneParse.{one_parse}
-use Rattle.command_head.specs.declared.fault.HeadFault.{HeadFault}
-use Rattle.command_head.specs.declared.fault.HeadFault.TheVariants as heads
-use Rattle.command_head.specs.Heads as reading
-use Rattle.command_head.specs.Heads.{RegHead, Sets, Systems, reg_at}
-use Rattle.command_head.specs.Parts.{first_word_of}
 use Rattle.session_cli.specs.declared.fault.Part.TheVariants as parts
+use Rattle.session_cli.specs.declared.fault.Fault.{Fault}
 use Rattle.session_cli.specs.declared.fault.Fault.TheVariants as faults
-use Rattle.session_cli.specs.Lines.{shown_steps}
+use Rattle.session_cli.specs.declared.command_word.CommandWord.{CommandWord}
+use Rattle.session_cli.specs.declared.command_word.CommandWord.TheVariants as words
+use Rattle.session_cli.specs.Checks.{Check, Pure, Then}
 use Rattle.session_cli.specs.Trees.{File, Regex, Entry, Bytes, Defined, Ledger}
-use Rattle.session_cli.specs.Texts.{IsTrackText, HasText}
-use Rattle.session_cli.specs.BaseSystems.{IsKnown, IsOf, IsFirstWithout, PartInDirection, AreBases, base_names}
-use Rattle.session_cli.specs.Tracks.{Tracks, OverSets, OverBases, AreTracks, letter_sets}
-use Rattle.session_cli.specs.TrackSteps.{AreSteps, ExceedsLetters, ExceedsStates}
-use Rattle.session_cli.specs.Outcomes.{Success, Answer, IsReg, IsRegex, Outcome, IsOverSystems, head_over}
+use Rattle.session_cli.specs.Texts.{HasText}
+use Rattle.session_cli.specs.Tracks.{NamedSystem, Tracks, OverSets, OverSystems, letter_sets}
+use Rattle.session_cli.specs.Named.{Custom, IsKnown, AreTracksOf}
+use Rattle.session_cli.specs.Accepting.{Success, Answer, StoredAnswers, stored}
+use Rattle.session_cli.specs.RegOutcomes.{HeadAnswers, TracksAnswers, ParsedAnswers, StepsAnswers, after_expression, after_tracks, after_head, reg_checks}
+use Rattle.session_cli.specs.Outcomes.{IsShort, LengthAnswers, WordAnswers, word_text, checks_by, after_length, checks_of, Outcome}
+use Rattle.session_cli.proofs.CheckSteps.{IsSingle, then_single}
 use Rattle.session_cli.proofs.TrackWidths.{one_track_text, one_lines, done_not_letters, done_not_states, letters_not_states, one_excess}
-use Rattle.session_cli.proofs.BaseLemmas.{one_direction, one_first, no_first, bases_known, bases_of_direction, one_list_of_bases}
+use Rattle.session_cli.proofs.NameLemmas.{one_first, no_first, one_list_of_systems, not_unknown, not_parted, same_part}
 
 -- an entry has one text
 pub one_text : (entry : Entry) (text other : List ℕ) → HasText entry text → HasText entry other → text ≡ other
@@ -35,255 +41,278 @@ one_text (Bytes bytes) text other a b = a ∙ sym b
 one_text (Defined (File bytes)) text other a b = a ∙ sym b
 one_text (Defined (Regex tracks e)) text other a b = one_track_text tracks e text other a b
 
--- what a `reg` with this name, these tracks, this expression and these steps makes
-abbrev success_of : Bool → List ℕ → Tracks → Pattern → List StepLine → Success
-success_of shown name tracks pattern lines = record { folder = Automata; name = name; entry = Defined (Regex tracks pattern.tree); shown = shown_steps shown lines }
+-- an answer is that of one function of what was read
+single_by : {Y : Type 0} (c : Check Y) (value : Result Y Fault) → ((r : Result Y Fault) → c.answers r → r ≡ value) → IsSingle c
+single_by c value is = λ r s a b. is r a ∙ sym (is s b)
 
--- the answer where the steps are within the limits: by the length of the text
-record ByText (limit : ℕ) (shown : Bool) (name : List ℕ) (tracks : Tracks) (pattern : Pattern) (answer : Answer) : Type 0 where
-  lines : List StepLine
-  steps : AreSteps limit tracks pattern.tree lines
-  stored : List ℕ
-  has : IsTrackText tracks pattern.tree stored
-  by_length : ((length stored ≤ 16777216) × (answer ≡ Ok (success_of shown name tracks pattern lines))) ⊎ ((16777216 < length stored) × (answer ≡ Err (faults.Long 16777216)))
+-- what is stored
+stored_is : (made : Success) (text : List ℕ) → HasText made.entry text → (r : Answer) → StoredAnswers made r → ((length text ≤ 16777216) × (r ≡ Ok made)) ⊎ ((16777216 < length text) × (r ≡ Err (faults.Long 16777216)))
+stored_is made text has (Ok success) (is, (other, has', fits)) = inl (rw (one_text made.entry text other has has') fits, ap (λ (s : Success). let a : Answer = Ok s in a) is)
+stored_is made text has (Err (faults.Long bytes)) (is, (other, has', long)) = inr (rw (one_text made.entry text other has has') long, ap (λ (n : ℕ). let a : Answer = Err (faults.Long n) in a) is)
+stored_is made text has (Err faults.Command) a = absurd a
+stored_is made text has (Err (faults.Syntax part at)) a = absurd a
+stored_is made text has (Err (faults.Number part at)) a = absurd a
+stored_is made text has (Err (faults.Depth part at)) a = absurd a
+stored_is made text has (Err (faults.SystemUnknown name)) a = absurd a
+stored_is made text has (Err (faults.Direction first other)) a = absurd a
+stored_is made text has (Err (faults.Letters step)) a = absurd a
+stored_is made text has (Err (faults.States step)) a = absurd a
+stored_is made text has (Err (faults.Store folder name)) a = absurd a
+stored_is made text has (Err faults.Memory) a = absurd a
+stored_is made text has (Err faults.ScriptLimit) a = absurd a
 
--- the answer by the steps
-abbrev ByStep : ℕ → Bool → List ℕ → Tracks → Pattern → Answer → Type 0
-ByStep limit shown name tracks pattern answer =
-    (ExceedsLetters tracks × (answer ≡ Err (faults.Letters 1)))
-    ⊎ (((step : ℕ) × ExceedsStates limit tracks pattern.tree step × (answer ≡ Err (faults.States step)))
-    ⊎ ByText limit shown name tracks pattern answer)
+some_text : (made : Success) (r : Answer) → StoredAnswers made r → (text : List ℕ) × HasText made.entry text
+some_text made (Ok success) (is, (text, has, fits)) = (text, has)
+some_text made (Err (faults.Long bytes)) (is, (text, has, long)) = (text, has)
+some_text made (Err faults.Command) a = absurd a
+some_text made (Err (faults.Syntax part at)) a = absurd a
+some_text made (Err (faults.Number part at)) a = absurd a
+some_text made (Err (faults.Depth part at)) a = absurd a
+some_text made (Err (faults.SystemUnknown name)) a = absurd a
+some_text made (Err (faults.Direction first other)) a = absurd a
+some_text made (Err (faults.Letters step)) a = absurd a
+some_text made (Err (faults.States step)) a = absurd a
+some_text made (Err (faults.Store folder name)) a = absurd a
+some_text made (Err faults.Memory) a = absurd a
+some_text made (Err faults.ScriptLimit) a = absurd a
 
--- the answer by what parsing the quoted text gives
-abbrev ByRegex : ℕ → Bool → List ℕ → Tracks → Result Pattern RegexFault → Answer → Type 0
-ByRegex limit shown name tracks (Ok pattern) answer = ByStep limit shown name tracks pattern answer
-ByRegex limit shown name tracks (Err (regexes.Syntax at)) answer = answer ≡ Err (faults.Syntax parts.Regex at)
-ByRegex limit shown name tracks (Err (regexes.Number at)) answer = answer ≡ Err (faults.Number parts.Regex at)
-ByRegex limit shown name tracks (Err (regexes.Depth at)) answer = answer ≡ Err (faults.Depth parts.Regex at)
-ByRegex limit shown name tracks (Err regexes.Memory) answer = ⊥
-
--- the answer by parsing the quoted text over tracks
-abbrev ByBody : ℕ → Bool → List ℕ → List ℕ → Tracks → Answer → Type 0
-ByBody limit shown name body tracks answer =
-    (result : Result Pattern RegexFault) × Parses (letter_sets tracks) body result × (result ≢ Err regexes.Memory) × ByRegex limit shown name tracks result answer
-
--- the names are those of bases in one direction
-record AreOfBases (limit : ℕ) (shown : Bool) (name body : List ℕ) (names : List (List ℕ)) (answer : Answer) : Type 0 where
-  direction : Direction
-  ks : List ℕ
-  names_are : names ≡ base_names direction ks
-  are : AreTracks (OverBases direction ks)
-  by : ByBody limit shown name body (OverBases direction ks) answer
-
--- the answer by the names of systems
-abbrev BySystems : ℕ → Bool → List ℕ → List ℕ → List (List ℕ) → Answer → Type 0
-BySystems limit shown name body names answer =
-    ((unknown : List ℕ) × IsFirstWithout IsKnown names unknown × (answer ≡ Err (faults.SystemUnknown unknown)))
-    ⊎ (((first : List ℕ) × (other : List ℕ) × PartInDirection names first other × (answer ≡ Err (faults.Direction first other)))
-    ⊎ AreOfBases limit shown name body names answer)
-
--- the answer by what the tracks are over
-abbrev ByTracks : ℕ → Bool → List ℕ → List ℕ → reading.Tracks → Answer → Type 0
-ByTracks limit shown name body (Sets sets) answer = ByBody limit shown name body (OverSets sets) answer
-ByTracks limit shown name body (Systems names) answer = BySystems limit shown name body names answer
-
--- the answer by what reading the head gives
-abbrev ByHead : ℕ → Bool → Result RegHead HeadFault → Answer → Type 0
-ByHead limit shown (Ok head) answer = ByTracks limit shown head.name head.body head.tracks answer
-ByHead limit shown (Err (heads.Syntax at)) answer = answer ≡ Err (faults.Syntax parts.Command at)
-ByHead limit shown (Err (heads.Number at)) answer = answer ≡ Err (faults.Number parts.Command at)
-ByHead limit shown (Err heads.Memory) answer = ⊥
-
--- the answer by the checks in their order
-record ByChecks (limit : ℕ) (text : List ℕ) (shown : Bool) (answer : Answer) : Type 0 where
-  long : 65536 < length text → answer ≡ Err (faults.Long 65536)
-  word : length text ≤ 65536 → first_word_of text ≢ codes "reg" → answer ≡ Err faults.Command
-  head : length text ≤ 65536 → first_word_of text ≡ codes "reg" → ByHead limit shown (reg_at text) answer
-
-by_head : (limit : ℕ) (text : List ℕ) (shown : Bool) (result : Result RegHead HeadFault) (answer : Answer) → IsReg text result → ByHead limit shown result answer → ByChecks limit text shown answer
-by_head limit text shown result answer reg by = record {
-  long = λ more. absurd (omega (arith, reg.short));
-  word = λ short no_word. absurd (no_word reg.word);
-  head = λ short word. let P : Result RegHead HeadFault → Type 0 = λ r. ByHead limit shown r answer in subst P (sym reg.parts) by;
-}
-
-by_regex : (limit : ℕ) (text : List ℕ) (shown : Bool) (tracks : Tracks) (result : Result Pattern RegexFault) (answer : Answer) → (r : IsRegex text tracks result) → result ≢ Err regexes.Memory → ByRegex limit shown r.name tracks result answer → ByChecks limit text shown answer
-by_regex limit text shown (OverSets sets) result answer r some by = by_head limit text shown (Ok (head_over r.name (OverSets sets) r.body)) answer r.reg (result, r.parses, some, by)
-by_regex limit text shown (OverBases direction ks) result answer r some by =
-    by_head limit text shown (Ok (head_over r.name (OverBases direction ks) r.body)) answer r.reg
-    (inr (inr (record { direction = direction; ks = ks; names_are = refl; are = r.are; by = (result, r.parses, some, by) })))
-
-by_systems : (limit : ℕ) (text : List ℕ) (shown : Bool) (names : List (List ℕ)) (answer : Answer) → (o : IsOverSystems text names) → BySystems limit shown o.head.name o.head.body names answer → ByChecks limit text shown answer
-by_systems limit text shown names answer o by =
-    by_head limit text shown (Ok o.head) answer o.reg
-    (let P : reading.Tracks → Type 0 = λ tracks. ByTracks limit shown o.head.name o.head.body tracks answer in subst P (sym o.tracks_are) by)
-
-by_long : (limit : ℕ) (text : List ℕ) (shown : Bool) (bytes : ℕ) → bytes ≡ 65536 → 65536 < length text → ByChecks limit text shown (Err (faults.Long bytes))
-by_long limit text shown bytes is long = record {
-  long = λ _. ap (λ (n : ℕ). let a : Answer = Err (faults.Long n) in a) is;
-  word = λ short no_word. absurd (omega arith);
-  head = λ short word. absurd (omega arith);
-}
-
-success_is : (shown : Bool) (success : Success) (name : List ℕ) (tracks : Tracks) (pattern : Pattern) (lines : List StepLine) → success.folder ≡ Automata → success.name ≡ name → success.entry ≡ Defined (Regex tracks pattern.tree)
-    → success.shown ≡ shown_steps shown lines → success ≡ success_of shown name tracks pattern lines
-success_is shown success name tracks pattern lines folders names entries showns = λ i. record { folder = folders i; name = names i; entry = entries i; shown = showns i }
-
-made_text : (success : Success) (tracks : Tracks) (pattern : Pattern) (stored : List ℕ) → success.entry ≡ Defined (Regex tracks pattern.tree) → HasText success.entry stored → IsTrackText tracks pattern.tree stored
-made_text success tracks pattern stored is has = let P : Entry → Type 0 = λ entry. HasText entry stored in subst P is has
-
-not_memory : (pattern : Pattern) → let r : Result Pattern RegexFault = Ok pattern in r ≢ Err regexes.Memory
-not_memory pattern = λ is. cc
-
-by_checks : (limit : ℕ) (ledger : Ledger) (text : List ℕ) (shown : Bool) (answer : Answer) → Outcome limit ledger text shown answer → ByChecks limit text shown answer
-by_checks limit ledger text shown (Ok success) (makes, stored, has, fits) =
-    by_regex limit text shown makes.tracks (Ok makes.pattern) (Ok success) makes.regex (not_memory makes.pattern) (inr (inr (record {
-      lines = makes.lines;
-      steps = makes.steps;
-      stored = stored;
-      has = made_text success makes.tracks makes.pattern stored makes.entry_is has;
-      by_length = inl (fits, ap (λ (s : Success). let a : Answer = Ok s in a) (success_is shown success makes.regex.name makes.tracks makes.pattern makes.lines makes.folder_is makes.name_is makes.entry_is makes.shown_is));
-    })))
-by_checks limit ledger text shown (Err faults.Command) (short, missing) = record { long = λ more. absurd (omega arith); word = λ _ _. refl; head = λ _ word. absurd (missing word) }
-by_checks limit ledger text shown (Err (faults.Syntax parts.Command at)) reg = by_head limit text shown (Err (heads.Syntax at)) (Err (faults.Syntax parts.Command at)) reg refl
-by_checks limit ledger text shown (Err (faults.Number parts.Command at)) reg = by_head limit text shown (Err (heads.Number at)) (Err (faults.Number parts.Command at)) reg refl
-by_checks limit ledger text shown (Err (faults.Depth parts.Command at)) outcome = absurd outcome
-by_checks limit ledger text shown (Err (faults.Syntax parts.Regex at)) (tracks, regex) = by_regex limit text shown tracks (Err (regexes.Syntax at)) (Err (faults.Syntax parts.Regex at)) regex (λ is. cc) refl
-by_checks limit ledger text shown (Err (faults.Number parts.Regex at)) (tracks, regex) = by_regex limit text shown tracks (Err (regexes.Number at)) (Err (faults.Number parts.Regex at)) regex (λ is. cc) refl
-by_checks limit ledger text shown (Err (faults.Depth parts.Regex at)) (tracks, regex) = by_regex limit text shown tracks (Err (regexes.Depth at)) (Err (faults.Depth parts.Regex at)) regex (λ is. cc) refl
-by_checks limit ledger text shown (Err (faults.Long bytes)) (inl (is, long)) = by_long limit text shown bytes is long
-by_checks limit ledger text shown (Err (faults.Long bytes)) (inr (is, success, stored, makes, has, long)) =
-    by_regex limit text shown makes.tracks (Ok makes.pattern) (Err (faults.Long bytes)) makes.regex (not_memory makes.pattern) (inr (inr (record {
-      lines = makes.lines;
-      steps = makes.steps;
-      stored = stored;
-      has = made_text success makes.tracks makes.pattern stored makes.entry_is has;
-      by_length = inr (long, ap (λ (n : ℕ). let a : Answer = Err (faults.Long n) in a) is);
-    })))
-by_checks limit ledger text shown (Err (faults.SystemUnknown name)) (names, over, first) = by_systems limit text shown names (Err (faults.SystemUnknown name)) over (inl (name, first, refl))
-by_checks limit ledger text shown (Err (faults.Direction first other)) (names, over, part) = by_systems limit text shown names (Err (faults.Direction first other)) over (inr (inl (first, other, part, refl)))
-by_checks limit ledger text shown (Err (faults.Letters step)) (is, (tracks, pattern, regex, passes)) =
-    by_regex limit text shown tracks (Ok pattern) (Err (faults.Letters step)) regex (not_memory pattern) (inl (passes, ap (λ (n : ℕ). let a : Answer = Err (faults.Letters n) in a) is))
-by_checks limit ledger text shown (Err (faults.States step)) (tracks, pattern, regex, passes) =
-    by_regex limit text shown tracks (Ok pattern) (Err (faults.States step)) regex (not_memory pattern) (inr (inl (step, passes, refl)))
-by_checks limit ledger text shown (Err (faults.Store folder name)) outcome = absurd outcome
-by_checks limit ledger text shown (Err faults.Memory) outcome = absurd outcome
-by_checks limit ledger text shown (Err faults.ScriptLimit) outcome = absurd outcome
-
-same_by_text : (limit : ℕ) (shown : Bool) (name : List ℕ) (tracks : Tracks) (pattern : Pattern) (a b : Answer) → ByText limit shown name tracks pattern a → ByText limit shown name tracks pattern b → a ≡ b
-same_by_text limit shown name tracks pattern a b one other = by_lengths (ap length (one_track_text tracks pattern.tree one.stored other.stored one.has other.has)) one.by_length other.by_length
+stored_single : (made : Success) → IsSingle (stored made)
+stored_single made r s a b =
+    let there : (text : List ℕ) × HasText made.entry text = some_text made r a in
+    by_length there.0 (stored_is made there.0 there.1 r a) (stored_is made there.0 there.1 s b)
   where
-    same : one.lines ≡ other.lines
-    same = one_lines limit tracks pattern.tree one.lines other.lines one.steps other.steps
+    by_length : (text : List ℕ) → ((length text ≤ 16777216) × (r ≡ Ok made)) ⊎ ((16777216 < length text) × (r ≡ Err (faults.Long 16777216)))
+        → ((length text ≤ 16777216) × (s ≡ Ok made)) ⊎ ((16777216 < length text) × (s ≡ Err (faults.Long 16777216))) → r ≡ s
+    by_length text (inl (fits, is)) (inl (fits', is')) = is ∙ sym is'
+    by_length text (inl (fits, is)) (inr (long, is')) = absurd (omega arith)
+    by_length text (inr (long, is)) (inl (fits, is')) = absurd (omega arith)
+    by_length text (inr (long, is)) (inr (long', is')) = is ∙ sym is'
 
-    by_lengths : length one.stored ≡ length other.stored → ((length one.stored ≤ 16777216) × (a ≡ Ok (success_of shown name tracks pattern one.lines))) ⊎ ((16777216 < length one.stored) × (a ≡ Err (faults.Long 16777216)))
-        → ((length other.stored ≤ 16777216) × (b ≡ Ok (success_of shown name tracks pattern other.lines))) ⊎ ((16777216 < length other.stored) × (b ≡ Err (faults.Long 16777216))) → a ≡ b
-    by_lengths lengths (inl (fits, is)) (inl (fits', is')) = is ∙ (ap (λ (lines : List StepLine). let x : Answer = Ok (success_of shown name tracks pattern lines) in x) same ∙ sym is')
-    by_lengths lengths (inl (fits, is)) (inr (long, is')) = absurd (omega arith)
-    by_lengths lengths (inr (long, is)) (inl (fits, is')) = absurd (omega arith)
-    by_lengths lengths (inr (long, is)) (inr (long', is')) = is ∙ sym is'
+-- the steps are within the limits, or one of them is the first to pass one
+steps_is : (limit : ℕ) (tracks : Tracks) (e : Expression (List ℤ)) (r : Result (List StepLine) Fault) → StepsAnswers limit tracks e r
+    → ((lines : List StepLine) × StepsAnswers limit tracks e (Ok lines) × (r ≡ Ok lines)) ⊎ ((StepsAnswers limit tracks e (Err (faults.Letters 1)) × (r ≡ Err (faults.Letters 1))) ⊎ ((step : ℕ) × StepsAnswers limit tracks e (Err (faults.States step)) × (r ≡ Err (faults.States step))))
+steps_is limit tracks e (Ok lines) a = inl (lines, a, refl)
+steps_is limit tracks e (Err (faults.Letters step)) (is, passes) = inr (inl ((refl, passes), ap (λ (n : ℕ). let x : Result (List StepLine) Fault = Err (faults.Letters n) in x) is))
+steps_is limit tracks e (Err (faults.States step)) a = inr (inr (step, a, refl))
+steps_is limit tracks e (Err faults.Command) a = absurd a
+steps_is limit tracks e (Err (faults.Syntax part at)) a = absurd a
+steps_is limit tracks e (Err (faults.Number part at)) a = absurd a
+steps_is limit tracks e (Err (faults.Depth part at)) a = absurd a
+steps_is limit tracks e (Err (faults.Long bytes)) a = absurd a
+steps_is limit tracks e (Err (faults.SystemUnknown name)) a = absurd a
+steps_is limit tracks e (Err (faults.Direction first other)) a = absurd a
+steps_is limit tracks e (Err (faults.Store folder name)) a = absurd a
+steps_is limit tracks e (Err faults.Memory) a = absurd a
+steps_is limit tracks e (Err faults.ScriptLimit) a = absurd a
 
-same_by_step : (limit : ℕ) (shown : Bool) (name : List ℕ) (tracks : Tracks) (pattern : Pattern) (a b : Answer) → ByStep limit shown name tracks pattern a → ByStep limit shown name tracks pattern b → a ≡ b
-same_by_step limit shown name tracks pattern a b (inl (passes, is)) (inl (passes', is')) = is ∙ sym is'
-same_by_step limit shown name tracks pattern a b (inl (passes, is)) (inr (inl (step, above, is'))) = absurd (letters_not_states limit tracks pattern.tree step passes above)
-same_by_step limit shown name tracks pattern a b (inl (passes, is)) (inr (inr by)) = absurd (done_not_letters limit tracks pattern.tree by.lines by.steps passes)
-same_by_step limit shown name tracks pattern a b (inr (inl (step, above, is))) (inl (passes, is')) = absurd (letters_not_states limit tracks pattern.tree step passes above)
-same_by_step limit shown name tracks pattern a b (inr (inl (step, above, is))) (inr (inl (step', above', is'))) =
-    is ∙ (ap (λ (n : ℕ). let x : Answer = Err (faults.States n) in x) (one_excess limit tracks pattern.tree step step' above above') ∙ sym is')
-same_by_step limit shown name tracks pattern a b (inr (inl (step, above, is))) (inr (inr by)) = absurd (done_not_states limit tracks pattern.tree by.lines step by.steps above)
-same_by_step limit shown name tracks pattern a b (inr (inr by)) (inl (passes, is')) = absurd (done_not_letters limit tracks pattern.tree by.lines by.steps passes)
-same_by_step limit shown name tracks pattern a b (inr (inr by)) (inr (inl (step, above, is'))) = absurd (done_not_states limit tracks pattern.tree by.lines step by.steps above)
-same_by_step limit shown name tracks pattern a b (inr (inr by)) (inr (inr by')) = same_by_text limit shown name tracks pattern a b by by'
-
-same_by_regex : (limit : ℕ) (shown : Bool) (name : List ℕ) (tracks : Tracks) (r : Result Pattern RegexFault) (a b : Answer) → ByRegex limit shown name tracks r a → ByRegex limit shown name tracks r b → a ≡ b
-same_by_regex limit shown name tracks (Ok pattern) a b one other = same_by_step limit shown name tracks pattern a b one other
-same_by_regex limit shown name tracks (Err (regexes.Syntax at)) a b one other = one ∙ sym other
-same_by_regex limit shown name tracks (Err (regexes.Number at)) a b one other = one ∙ sym other
-same_by_regex limit shown name tracks (Err (regexes.Depth at)) a b one other = one ∙ sym other
-same_by_regex limit shown name tracks (Err regexes.Memory) a b one other = absurd one
-
-same_by_body : (limit : ℕ) (shown : Bool) (name body : List ℕ) (tracks : Tracks) (a b : Answer) → ByBody limit shown name body tracks a → ByBody limit shown name body tracks b → a ≡ b
-same_by_body limit shown name body tracks a b (r, parses, some, by) (r', parses', some', by') =
-    let same : r' ≡ r = one_parse (letter_sets tracks) body r' r parses' parses some' some in
-    let P : Result Pattern RegexFault → Type 0 = λ x. ByRegex limit shown name tracks x b in
-    same_by_regex limit shown name tracks r a b by (subst P same by')
-
--- names of bases in one direction are known, and none is of the other
-not_unknown : (direction : Direction) (ks : List ℕ) (names : List (List ℕ)) (unknown : List ℕ) → names ≡ base_names direction ks → AreTracks (OverBases direction ks) → IsFirstWithout IsKnown names unknown → ⊥
-not_unknown direction ks names unknown are known first =
-    no_first IsKnown (base_names direction ks) unknown (bases_known direction ks known.1) (let P : List (List ℕ) → Type 0 = λ ns. IsFirstWithout IsKnown ns unknown in subst P are first)
-
-not_both : (direction : Direction) (ks : List ℕ) (names : List (List ℕ)) (first other : List ℕ) → names ≡ base_names direction ks → AreTracks (OverBases direction ks) → PartInDirection names first other → ⊥
-not_both direction ks names first other are known part = by (sym part.names_are ∙ are) known.1
+steps_single : (limit : ℕ) (tracks : Tracks) (e : Expression (List ℤ)) → IsSingle (Pure (StepsAnswers limit tracks e))
+steps_single limit tracks e r s a b = by_step (steps_is limit tracks e r a) (steps_is limit tracks e s b)
   where
-    by : first ∷ part.rest ≡ base_names direction ks → AreBases ks → ⊥
-    by same bases = by_all (let P : List (List ℕ) → Type 0 = λ xs. AllByRecursion (IsOf direction) xs in subst P (sym same) (bases_of_direction direction ks bases))
-      where
-        by_all : AllByRecursion (IsOf direction) (first ∷ part.rest) → ⊥
-        by_all all =
-            let turned : part.direction ≡ direction = one_direction part.direction direction first part.first_of all.0 in
-            let P : Direction → Type 0 = λ d. IsFirstWithout (IsOf d) part.rest other in
-            no_first (IsOf direction) part.rest other all.1 (subst P turned part.other_is)
+    by_step : ((lines : List StepLine) × StepsAnswers limit tracks e (Ok lines) × (r ≡ Ok lines)) ⊎ ((StepsAnswers limit tracks e (Err (faults.Letters 1)) × (r ≡ Err (faults.Letters 1))) ⊎ ((step : ℕ) × StepsAnswers limit tracks e (Err (faults.States step)) × (r ≡ Err (faults.States step))))
+        → ((lines : List StepLine) × StepsAnswers limit tracks e (Ok lines) × (s ≡ Ok lines)) ⊎ ((StepsAnswers limit tracks e (Err (faults.Letters 1)) × (s ≡ Err (faults.Letters 1))) ⊎ ((step : ℕ) × StepsAnswers limit tracks e (Err (faults.States step)) × (s ≡ Err (faults.States step)))) → r ≡ s
+    by_step (inl (lines, done, is)) (inl (other, done', is')) = is ∙ (ap (λ (ls : List StepLine). let x : Result (List StepLine) Fault = Ok ls in x) (one_lines limit tracks e lines other done done') ∙ sym is')
+    by_step (inl (lines, done, is)) (inr (inl (passes, is'))) = absurd (done_not_letters limit tracks e lines done passes.1)
+    by_step (inl (lines, done, is)) (inr (inr (step, above, is'))) = absurd (done_not_states limit tracks e lines step done above)
+    by_step (inr (inl (passes, is))) (inl (lines, done, is')) = absurd (done_not_letters limit tracks e lines done passes.1)
+    by_step (inr (inl (passes, is))) (inr (inl (passes', is'))) = is ∙ sym is'
+    by_step (inr (inl (passes, is))) (inr (inr (step, above, is'))) = absurd (letters_not_states limit tracks e step passes.1 above)
+    by_step (inr (inr (step, above, is))) (inl (lines, done, is')) = absurd (done_not_states limit tracks e lines step done above)
+    by_step (inr (inr (step, above, is))) (inr (inl (passes, is'))) = absurd (letters_not_states limit tracks e step passes.1 above)
+    by_step (inr (inr (step, above, is))) (inr (inr (step', above', is'))) = is ∙ (ap (λ (n : ℕ). let x : Result (List StepLine) Fault = Err (faults.States n) in x) (one_excess limit tracks e step step' above above') ∙ sym is')
 
-same_both : (names : List (List ℕ)) (first other first' other' : List ℕ) → PartInDirection names first other → PartInDirection names first' other' → (first ≡ first') × (other ≡ other')
-same_both names first other first' other' one two =
-    let lists : first ∷ one.rest ≡ first' ∷ two.rest = sym one.names_are ∙ two.names_are in
-    let firsts : first ≡ first' = ap (λ (xs : List (List ℕ)). get_or xs 0 []) lists in
-    let rests : one.rest ≡ two.rest = ap (λ (xs : List (List ℕ)). drop 1 xs) lists in
-    let directions : one.direction ≡ two.direction = one_direction one.direction two.direction first' (let P : List ℕ → Type 0 = λ n. IsOf one.direction n in subst P firsts one.first_of) two.first_of in
-    let P : Direction → Type 0 = λ d. IsFirstWithout (IsOf d) one.rest other in
-    let Q : List (List ℕ) → Type 0 = λ xs. IsFirstWithout (IsOf two.direction) xs other in
-    (firsts, one_first (IsOf two.direction) two.rest other other' (subst Q rests (subst P directions one.other_is)) two.other_is)
+-- the fault of an expression
+abbrev of_parse : Result Pattern RegexFault → Result Pattern Fault
+of_parse (Ok pattern) = Ok pattern
+of_parse (Err (regexes.Syntax at)) = Err (faults.Syntax parts.Regex at)
+of_parse (Err (regexes.Number at)) = Err (faults.Number parts.Regex at)
+of_parse (Err (regexes.Depth at)) = Err (faults.Depth parts.Regex at)
+of_parse (Err regexes.Memory) = Err faults.Memory
 
-same_by_bases : (limit : ℕ) (shown : Bool) (name body : List ℕ) (names : List (List ℕ)) (a b : Answer) → AreOfBases limit shown name body names a → AreOfBases limit shown name body names b → a ≡ b
-same_by_bases limit shown name body names a b one other =
-    let same = one_list_of_bases other.direction one.direction other.ks one.ks other.are.0 other.are.1 one.are.1 (sym other.names_are ∙ one.names_are) in
-    let P : Direction → Type 0 = λ d. ByBody limit shown name body (OverBases d other.ks) b in
-    let Q : List ℕ → Type 0 = λ ks. ByBody limit shown name body (OverBases one.direction ks) b in
-    same_by_body limit shown name body (OverBases one.direction one.ks) a b one.by (subst Q same.1 (subst P same.0 other.by))
+record IsParse (sets : List (List ℤ)) (body : List ℕ) (r : Result Pattern Fault) : Type 0 where
+  parse : Result Pattern RegexFault
+  parses : Parses sets body parse
+  some : parse ≢ Err regexes.Memory
+  is : r ≡ of_parse parse
 
-same_by_systems : (limit : ℕ) (shown : Bool) (name body : List ℕ) (names : List (List ℕ)) (a b : Answer) → BySystems limit shown name body names a → BySystems limit shown name body names b → a ≡ b
-same_by_systems limit shown name body names a b (inl (unknown, first, is)) (inl (unknown', first', is')) =
-    is ∙ (ap (λ (n : List ℕ). let x : Answer = Err (faults.SystemUnknown n) in x) (one_first IsKnown names unknown unknown' first first') ∙ sym is')
-same_by_systems limit shown name body names a b (inl (unknown, first, is)) (inr (inl (x, y, part, is'))) = absurd (no_first IsKnown names unknown part.known first)
-same_by_systems limit shown name body names a b (inl (unknown, first, is)) (inr (inr other)) = absurd (not_unknown other.direction other.ks names unknown other.names_are other.are first)
-same_by_systems limit shown name body names a b (inr (inl (x, y, part, is))) (inl (unknown, first, is')) = absurd (no_first IsKnown names unknown part.known first)
-same_by_systems limit shown name body names a b (inr (inl (x, y, part, is))) (inr (inl (x', y', part', is'))) =
-    let same = same_both names x y x' y' part part' in
-    is ∙ (ap (λ (n : List ℕ). let z : Answer = Err (faults.Direction n y) in z) same.0 ∙ (ap (λ (n : List ℕ). let z : Answer = Err (faults.Direction x' n) in z) same.1 ∙ sym is'))
-same_by_systems limit shown name body names a b (inr (inl (x, y, part, is))) (inr (inr other)) = absurd (not_both other.direction other.ks names x y other.names_are other.are part)
-same_by_systems limit shown name body names a b (inr (inr one)) (inl (unknown, first, is)) = absurd (not_unknown one.direction one.ks names unknown one.names_are one.are first)
-same_by_systems limit shown name body names a b (inr (inr one)) (inr (inl (x, y, part, is))) = absurd (not_both one.direction one.ks names x y one.names_are one.are part)
-same_by_systems limit shown name body names a b (inr (inr one)) (inr (inr other)) = same_by_bases limit shown name body names a b one other
+parsed_is : (sets : List (List ℤ)) (body : List ℕ) (r : Result Pattern Fault) → ParsedAnswers sets body r → IsParse sets body r
+parsed_is sets body (Ok pattern) a = record { parse = Ok pattern; parses = a; some = λ is. cc; is = refl }
+parsed_is sets body (Err (faults.Syntax parts.Regex at)) a = record { parse = Err (regexes.Syntax at); parses = a; some = λ is. cc; is = refl }
+parsed_is sets body (Err (faults.Number parts.Regex at)) a = record { parse = Err (regexes.Number at); parses = a; some = λ is. cc; is = refl }
+parsed_is sets body (Err (faults.Depth parts.Regex at)) a = record { parse = Err (regexes.Depth at); parses = a; some = λ is. cc; is = refl }
+parsed_is sets body (Err (faults.Syntax parts.Command at)) a = absurd a
+parsed_is sets body (Err (faults.Number parts.Command at)) a = absurd a
+parsed_is sets body (Err (faults.Depth parts.Command at)) a = absurd a
+parsed_is sets body (Err faults.Command) a = absurd a
+parsed_is sets body (Err (faults.Long bytes)) a = absurd a
+parsed_is sets body (Err (faults.SystemUnknown name)) a = absurd a
+parsed_is sets body (Err (faults.Direction first other)) a = absurd a
+parsed_is sets body (Err (faults.Letters step)) a = absurd a
+parsed_is sets body (Err (faults.States step)) a = absurd a
+parsed_is sets body (Err (faults.Store folder name)) a = absurd a
+parsed_is sets body (Err faults.Memory) a = absurd a
+parsed_is sets body (Err faults.ScriptLimit) a = absurd a
 
-same_by_tracks : (limit : ℕ) (shown : Bool) (name body : List ℕ) (tracks : reading.Tracks) (a b : Answer) → ByTracks limit shown name body tracks a → ByTracks limit shown name body tracks b → a ≡ b
-same_by_tracks limit shown name body (Sets sets) a b one other = same_by_body limit shown name body (OverSets sets) a b one other
-same_by_tracks limit shown name body (Systems names) a b one other = same_by_systems limit shown name body names a b one other
+parsed_single : (sets : List (List ℤ)) (body : List ℕ) → IsSingle (Pure (ParsedAnswers sets body))
+parsed_single sets body r s a b =
+    let p : IsParse sets body r = parsed_is sets body r a in
+    let q : IsParse sets body s = parsed_is sets body s b in
+    p.is ∙ (ap of_parse (one_parse sets body p.parse q.parse p.parses q.parses p.some q.some) ∙ sym q.is)
 
-same_by_head : (limit : ℕ) (shown : Bool) (r : Result RegHead HeadFault) (a b : Answer) → ByHead limit shown r a → ByHead limit shown r b → a ≡ b
-same_by_head limit shown (Ok head) a b one other = same_by_tracks limit shown head.name head.body head.tracks a b one other
-same_by_head limit shown (Err (heads.Syntax at)) a b one other = one ∙ sym other
-same_by_head limit shown (Err (heads.Number at)) a b one other = one ∙ sym other
-same_by_head limit shown (Err heads.Memory) a b one other = absurd one
+-- what names of systems give
+abbrev IsNames : Custom → List (List ℕ) → Result Tracks Fault → Type 0
+IsNames custom names x = ((way : Direction) × (named : List NamedSystem) × AreTracksOf custom (heads.Systems names) (OverSystems way named) × (x ≡ Ok (OverSystems way named)))
+    ⊎ (((name : List ℕ) × TracksAnswers custom (heads.Systems names) (Err (faults.SystemUnknown name)) × (x ≡ Err (faults.SystemUnknown name)))
+    ⊎ ((first : List ℕ) × (other : List ℕ) × TracksAnswers custom (heads.Systems names) (Err (faults.Direction first other)) × (x ≡ Err (faults.Direction first other))))
 
-same_word : (xs ys : List ℕ) → (xs ≡ ys) ⊎ (xs ≢ ys)
-same_word xs ys = by_test (bytes_eq xs ys) refl
+names_is : (custom : Custom) (names : List (List ℕ)) (x : Result Tracks Fault) → TracksAnswers custom (heads.Systems names) x → IsNames custom names x
+names_is custom names (Ok (OverSets others)) a = absurd a
+names_is custom names (Ok (OverSystems way named)) a = inl (way, named, a, refl)
+names_is custom names (Err (faults.SystemUnknown name)) a = inr (inl (name, a, refl))
+names_is custom names (Err (faults.Direction first other)) a = inr (inr (first, other, a, refl))
+names_is custom names (Err faults.Command) a = absurd a
+names_is custom names (Err (faults.Syntax part at)) a = absurd a
+names_is custom names (Err (faults.Number part at)) a = absurd a
+names_is custom names (Err (faults.Depth part at)) a = absurd a
+names_is custom names (Err (faults.Long bytes)) a = absurd a
+names_is custom names (Err (faults.Letters step)) a = absurd a
+names_is custom names (Err (faults.States step)) a = absurd a
+names_is custom names (Err (faults.Store folder name)) a = absurd a
+names_is custom names (Err faults.Memory) a = absurd a
+names_is custom names (Err faults.ScriptLimit) a = absurd a
+
+by_names : (custom : Custom) (names : List (List ℕ)) (r s : Result Tracks Fault) → IsNames custom names r → IsNames custom names s → r ≡ s
+by_names custom names r s (inl (way, named, are, is)) (inl (way', named', are', is')) =
+    let same = one_list_of_systems custom names way way' named named' are are' in
+    is ∙ ((λ i. let x : Result Tracks Fault = Ok (OverSystems (same.0 i) (same.1 i)) in x) ∙ sym is')
+by_names custom names r s (inl (way, named, are, is)) (inr (inl (name, first, is'))) = absurd (not_unknown custom names way named name are first)
+by_names custom names r s (inl (way, named, are, is)) (inr (inr (first, other, part, is'))) = absurd (not_parted custom names way named first other are part)
+by_names custom names r s (inr (inl (name, first, is))) (inl (way, named, are, is')) = absurd (not_unknown custom names way named name are first)
+by_names custom names r s (inr (inl (name, first, is))) (inr (inl (name', first', is'))) =
+    is ∙ (ap (λ (n : List ℕ). let x : Result Tracks Fault = Err (faults.SystemUnknown n) in x) (one_first (IsKnown custom) names name name' first first') ∙ sym is')
+by_names custom names r s (inr (inl (name, first, is))) (inr (inr (x, y, part, is'))) = absurd (no_first (IsKnown custom) names name part.known first)
+by_names custom names r s (inr (inr (x, y, part, is))) (inl (way, named, are, is')) = absurd (not_parted custom names way named x y are part)
+by_names custom names r s (inr (inr (x, y, part, is))) (inr (inl (name, first, is'))) = absurd (no_first (IsKnown custom) names name part.known first)
+by_names custom names r s (inr (inr (x, y, part, is))) (inr (inr (x', y', part', is'))) =
+    let same = same_part custom names x y x' y' part part' in
+    is ∙ ((λ i. let z : Result Tracks Fault = Err (faults.Direction (same.0 i) (same.1 i)) in z) ∙ sym is')
+
+-- the tracks that a head means, or why it means none
+tracks_single : (custom : Custom) (of_head : heads.Tracks) → IsSingle (Pure (TracksAnswers custom of_head))
+tracks_single custom (heads.Sets sets) r s a b = single_by (Pure (TracksAnswers custom (heads.Sets sets))) (Ok (OverSets sets)) is r s a b
   where
-    by_test : (v : Bool) → bytes_eq xs ys ≡ v → (xs ≡ ys) ⊎ (xs ≢ ys)
-    by_test true is = inl ((bytes_eq-Decides xs ys).0 is)
-    by_test false is = inr (λ same. let yes : bytes_eq xs ys ≡ true = (bytes_eq-Decides xs ys).1 same in cc)
+    is : (r : Result Tracks Fault) → TracksAnswers custom (heads.Sets sets) r → r ≡ Ok (OverSets sets)
+    is (Ok (OverSets others)) a = ap (λ (ss : List (List ℤ)). let x : Result Tracks Fault = Ok (OverSets ss) in x) a
+    is (Ok (OverSystems way named)) a = absurd a
+    is (Err faults.Command) a = absurd a
+    is (Err (faults.Syntax part at)) a = absurd a
+    is (Err (faults.Number part at)) a = absurd a
+    is (Err (faults.Depth part at)) a = absurd a
+    is (Err (faults.Long bytes)) a = absurd a
+    is (Err (faults.SystemUnknown name)) a = absurd a
+    is (Err (faults.Direction first other)) a = absurd a
+    is (Err (faults.Letters step)) a = absurd a
+    is (Err (faults.States step)) a = absurd a
+    is (Err (faults.Store folder name)) a = absurd a
+    is (Err faults.Memory) a = absurd a
+    is (Err faults.ScriptLimit) a = absurd a
+tracks_single custom (heads.Systems names) r s a b = by_names custom names r s (names_is custom names r a) (names_is custom names s b)
 
--- a text has one proper outcome
-pub one_answer : (limit : ℕ) (ledger : Ledger) (text : List ℕ) (shown : Bool) (answer other : Answer) → Outcome limit ledger text shown answer → Outcome limit ledger text shown other → answer ≡ other
-one_answer limit ledger text shown answer other one two = same (by_checks limit ledger text shown answer one) (by_checks limit ledger text shown other two)
+-- what is read of the text is its head
+abbrev of_head : Result RegHead HeadFault → Result RegHead Fault
+of_head (Ok head) = Ok head
+of_head (Err (head_faults.Syntax at)) = Err (faults.Syntax parts.Command at)
+of_head (Err (head_faults.Number at)) = Err (faults.Number parts.Command at)
+of_head (Err head_faults.Memory) = Err faults.Memory
+
+spelled_read : (text : List ℕ) (head : RegHead) → SpellsReg (texts_of (parts_of text)) head → reg_at text ≡ Ok head
+unfolding reg_at
+spelled_read text head spells = goes_run (length text) AtWord (parts_of text) head (reg_goes (texts_of (parts_of text)) head spells)
+
+head_is : (text : List ℕ) → IsShort text → (r : Result RegHead Fault) → HeadAnswers text r → r ≡ of_head (reg_at text)
+head_is text short (Ok head) a = rw (spelled_read text head a) refl
+head_is text short (Err (faults.Syntax parts.Command at)) a = rw (syntax_read text at (omega (arith, short)) a) refl
+head_is text short (Err (faults.Number parts.Command at)) a = rw (number_read text at (omega (arith, short)) a) refl
+head_is text short (Err (faults.Syntax parts.Regex at)) a = absurd a
+head_is text short (Err (faults.Number parts.Regex at)) a = absurd a
+head_is text short (Err (faults.Depth part at)) a = absurd a
+head_is text short (Err faults.Command) a = absurd a
+head_is text short (Err (faults.Long bytes)) a = absurd a
+head_is text short (Err (faults.SystemUnknown name)) a = absurd a
+head_is text short (Err (faults.Direction first other)) a = absurd a
+head_is text short (Err (faults.Letters step)) a = absurd a
+head_is text short (Err (faults.States step)) a = absurd a
+head_is text short (Err (faults.Store folder name)) a = absurd a
+head_is text short (Err faults.Memory) a = absurd a
+head_is text short (Err faults.ScriptLimit) a = absurd a
+
+-- a `reg` has one outcome
+reg_single : (limit : ℕ) (ledger : Ledger) (text : List ℕ) → IsShort text → IsSingle (reg_checks limit ledger text)
+reg_single limit ledger text short =
+    then_single (Pure (HeadAnswers text)) (λ head. after_head limit (ledger Bases) head) (single_by (Pure (HeadAnswers text)) (of_head (reg_at text)) (head_is text short)) (λ head spells.
+    then_single (Pure (TracksAnswers (ledger Bases) head.tracks)) (λ tracks. after_tracks limit head.name head.body tracks) (tracks_single (ledger Bases) head.tracks) (λ tracks means.
+    then_single (Pure (ParsedAnswers (letter_sets tracks) head.body)) (λ (pattern : Pattern). after_expression limit head.name tracks pattern.tree) (parsed_single (letter_sets tracks) head.body) (λ pattern parses.
+    then_single (Pure (StepsAnswers limit tracks pattern.tree)) (λ lines. stored (record { folder = Automata; name = head.name; entry = Defined (Regex tracks pattern.tree); lines = lines; verdict = None })) (steps_single limit tracks pattern.tree) (λ lines steps.
+    stored_single (record { folder = Automata; name = head.name; entry = Defined (Regex tracks pattern.tree); lines = lines; verdict = None })))))
+
+-- the length, and the first word
+length_single : (text : List ℕ) → IsSingle (Pure (LengthAnswers text))
+length_single text r s a b = by_length (length_is r a) (length_is s b)
   where
-    same : ByChecks limit text shown answer → ByChecks limit text shown other → answer ≡ other
-    same a b = by_length a b (cases_lt 65536 (length text))
-      where
-        by_word : ByChecks limit text shown answer → ByChecks limit text shown other → length text ≤ 65536 → (first_word_of text ≡ codes "reg") ⊎ (first_word_of text ≢ codes "reg") → answer ≡ other
-        by_word a b short (inl word) = same_by_head limit shown (reg_at text) answer other (a.head short word) (b.head short word)
-        by_word a b short (inr missing) = a.word short missing ∙ sym (b.word short missing)
+    length_is : (x : Result (Unit {0}) Fault) → LengthAnswers text x → ((length text ≤ 65536) × (x ≡ Ok tt)) ⊎ ((65536 < length text) × (x ≡ Err (faults.Long 65536)))
+    length_is (Ok short) a = inl (a, refl)
+    length_is (Err (faults.Long bytes)) (is, long) = inr (long, ap (λ (n : ℕ). let x : Result (Unit {0}) Fault = Err (faults.Long n) in x) is)
+    length_is (Err faults.Command) a = absurd a
+    length_is (Err (faults.Syntax part at)) a = absurd a
+    length_is (Err (faults.Number part at)) a = absurd a
+    length_is (Err (faults.Depth part at)) a = absurd a
+    length_is (Err (faults.SystemUnknown name)) a = absurd a
+    length_is (Err (faults.Direction first other)) a = absurd a
+    length_is (Err (faults.Letters step)) a = absurd a
+    length_is (Err (faults.States step)) a = absurd a
+    length_is (Err (faults.Store folder name)) a = absurd a
+    length_is (Err faults.Memory) a = absurd a
+    length_is (Err faults.ScriptLimit) a = absurd a
 
-        by_length : ByChecks limit text shown answer → ByChecks limit text shown other → (65536 < length text) ⊎ (length text ≤ 65536) → answer ≡ other
-        by_length a b (inl long) = a.long long ∙ sym (b.long long)
-        by_length a b (inr short) = by_word a b short (same_word (first_word_of text) (codes "reg"))
+    by_length : ((length text ≤ 65536) × (r ≡ Ok tt)) ⊎ ((65536 < length text) × (r ≡ Err (faults.Long 65536))) → ((length text ≤ 65536) × (s ≡ Ok tt)) ⊎ ((65536 < length text) × (s ≡ Err (faults.Long 65536))) → r ≡ s
+    by_length (inl (short, is)) (inl (short', is')) = is ∙ sym is'
+    by_length (inl (short, is)) (inr (long, is')) = absurd (omega arith)
+    by_length (inr (long, is)) (inl (short, is')) = absurd (omega arith)
+    by_length (inr (long, is)) (inr (long', is')) = is ∙ sym is'
+
+-- the words of commands differ
+one_word : (text : List ℕ) (v w : CommandWord) → text ≡ word_text v → text ≡ word_text w → v ≡ w
+one_word text words.Reg words.Reg a b = refl
+
+word_single : (text : List ℕ) → IsSingle (Pure (WordAnswers text))
+word_single text r s a b = by_word (word_is r a) (word_is s b)
+  where
+    word_is : (x : Result CommandWord Fault) → WordAnswers text x → ((word : CommandWord) × (first_word_of text ≡ word_text word) × (x ≡ Ok word)) ⊎ (((word : CommandWord) → first_word_of text ≢ word_text word) × (x ≡ Err faults.Command))
+    word_is (Ok word) a = inl (word, a, refl)
+    word_is (Err faults.Command) a = inr (a, refl)
+    word_is (Err (faults.Long bytes)) a = absurd a
+    word_is (Err (faults.Syntax part at)) a = absurd a
+    word_is (Err (faults.Number part at)) a = absurd a
+    word_is (Err (faults.Depth part at)) a = absurd a
+    word_is (Err (faults.SystemUnknown name)) a = absurd a
+    word_is (Err (faults.Direction first other)) a = absurd a
+    word_is (Err (faults.Letters step)) a = absurd a
+    word_is (Err (faults.States step)) a = absurd a
+    word_is (Err (faults.Store folder name)) a = absurd a
+    word_is (Err faults.Memory) a = absurd a
+    word_is (Err faults.ScriptLimit) a = absurd a
+
+    by_word : ((word : CommandWord) × (first_word_of text ≡ word_text word) × (r ≡ Ok word)) ⊎ (((word : CommandWord) → first_word_of text ≢ word_text word) × (r ≡ Err faults.Command))
+        → ((word : CommandWord) × (first_word_of text ≡ word_text word) × (s ≡ Ok word)) ⊎ (((word : CommandWord) → first_word_of text ≢ word_text word) × (s ≡ Err faults.Command)) → r ≡ s
+    by_word (inl (v, is, at)) (inl (w, is', at')) = at ∙ (ap (λ (x : CommandWord). let y : Result CommandWord Fault = Ok x in y) (one_word (first_word_of text) v w is is') ∙ sym at')
+    by_word (inl (v, is, at)) (inr (none, at')) = absurd (none v is)
+    by_word (inr (none, at)) (inl (w, is', at')) = absurd (none w is')
+    by_word (inr (none, at)) (inr (none', at')) = at ∙ sym at'
+
+-- each command has one outcome
+single_by_word : (word : CommandWord) (limit : ℕ) (ledger : Ledger) (text : List ℕ) → IsShort text → IsSingle (checks_by word limit ledger text)
+single_by_word words.Reg limit ledger text short = reg_single limit ledger text short
+
+pub one_answer : (limit : ℕ) (ledger : Ledger) (text : List ℕ) (answer other : Answer) → Outcome limit ledger text answer → Outcome limit ledger text other → answer ≡ other
+one_answer limit ledger text =
+    then_single (Pure (LengthAnswers text)) (λ done. after_length limit ledger text) (length_single text) (λ done short.
+    then_single (Pure (WordAnswers text)) (λ word. checks_by word limit ledger text) (word_single text) (λ word is. single_by_word word limit ledger text short))

@@ -13,7 +13,8 @@ use Rattle.session_cli.specs.declared.fault.Fault.TheVariants as faults
 use Rattle.session_cli.specs.declared.status.Status.{Status}
 use Rattle.session_cli.specs.declared.status.Status.TheVariants as status
 use Rattle.session_cli.specs.Trees.{Ledger}
-use Rattle.session_cli.specs.Outcomes.{Answer, after, Outcome, OpenOutcome}
+use Rattle.session_cli.specs.Accepting.{Answer, after}
+use Rattle.session_cli.specs.Outcomes.{checks_of, Outcome, OpenOutcome}
 use Rattle.wal_outside.specs.Views.{SourceView, SinkView, StoreView}
 use Rattle.session_cli.specs.Views.{IsTold}
 use Rattle.session_cli.specs.Runs.{IsAnswer, IsAnswerOf, Changes, Run, first_ledger, of_fault, is_store_fault, is_memory_fault, is_refusal, some_of, status_by, status_of, printed}
@@ -22,6 +23,7 @@ use Rattle.session_cli.specs.Laws.{IsClean, EndAlike, store_faults}
 use Rattle.session_cli.specs.Words.{GivesLimit}
 use Rattle.session_cli.proofs.WholeSteps.{usage_or_memory}
 use Rattle.session_cli.proofs.OneLimits.{one_limit}
+use Rattle.session_cli.proofs.AnyLedger.{any_ledger}
 use Rattle.session_cli.proofs.OneOutcomes.{one_text, one_answer}
 
 -- the count of store faults
@@ -37,20 +39,20 @@ counted limit ledger last old new (item ∷ items) (answer ∷ answers) run =
     more false k a b c later cause rest = omega arith
 
 -- an answer that is neither the store's nor memory's is the proper outcome
-proper : (limit : ℕ) (ledger : Ledger) (text : List ℕ) (shown : Bool) (answer : Answer) → IsAnswer limit ledger text shown answer → of_fault is_store_fault answer ≡ false → of_fault is_memory_fault answer ≡ false → Outcome limit ledger text shown answer
-proper limit ledger text shown (Ok success) is store memory = is
-proper limit ledger text shown (Err (faults.Store folder name)) is store memory = cc
-proper limit ledger text shown (Err faults.Memory) is store memory = cc
-proper limit ledger text shown (Err faults.ScriptLimit) is store memory = absurd is
-proper limit ledger text shown (Err faults.Command) is store memory = is
-proper limit ledger text shown (Err (faults.Syntax part at)) is store memory = is
-proper limit ledger text shown (Err (faults.Number part at)) is store memory = is
-proper limit ledger text shown (Err (faults.Depth part at)) is store memory = is
-proper limit ledger text shown (Err (faults.Long bytes)) is store memory = is
-proper limit ledger text shown (Err (faults.SystemUnknown name)) is store memory = is
-proper limit ledger text shown (Err (faults.Direction first other)) is store memory = is
-proper limit ledger text shown (Err (faults.Letters step)) is store memory = is
-proper limit ledger text shown (Err (faults.States step)) is store memory = is
+proper : (limit : ℕ) (ledger : Ledger) (text : List ℕ) (answer : Answer) → IsAnswer (checks_of limit ledger text) answer → of_fault is_store_fault answer ≡ false → of_fault is_memory_fault answer ≡ false → Outcome limit ledger text answer
+proper limit ledger text (Ok success) is store memory = is
+proper limit ledger text (Err (faults.Store folder name)) is store memory = cc
+proper limit ledger text (Err faults.Memory) is store memory = cc
+proper limit ledger text (Err faults.ScriptLimit) is store memory = is
+proper limit ledger text (Err faults.Command) is store memory = is
+proper limit ledger text (Err (faults.Syntax part at)) is store memory = is
+proper limit ledger text (Err (faults.Number part at)) is store memory = is
+proper limit ledger text (Err (faults.Depth part at)) is store memory = is
+proper limit ledger text (Err (faults.Long bytes)) is store memory = is
+proper limit ledger text (Err (faults.SystemUnknown name)) is store memory = is
+proper limit ledger text (Err (faults.Direction first other)) is store memory = is
+proper limit ledger text (Err (faults.Letters step)) is store memory = is
+proper limit ledger text (Err (faults.States step)) is store memory = is
 
 -- how a text without terminator is refused
 open_is : (text : List ℕ) (answer : Answer) → OpenOutcome text answer → ((65536 < length text) × (answer ≡ Err (faults.Long 65536))) ⊎ ((length text ≤ 65536) × (answer ≡ Err (faults.Syntax parts.Command (length text))))
@@ -80,11 +82,11 @@ same_open text answer other a b = by_cases (open_is text answer a) (open_is text
     by_cases (inr (short, is)) (inr (short', is')) = is ∙ sym is'
 
 -- an item has one answer that is neither the store's nor memory's
-same_item : (limit : ℕ) (ended : Ended) (ledger : Ledger) (text : List ℕ) (answer other : Answer) → IsAnswerOf limit ended ledger text answer → IsAnswerOf limit ended ledger text other
+same_item : (limit : ℕ) (ended : Ended) (ledger known : Ledger) (text : List ℕ) (answer other : Answer) → IsAnswerOf limit ended ledger text answer → IsAnswerOf limit ended known text other
     → of_fault is_store_fault answer ≡ false → of_fault is_memory_fault answer ≡ false → of_fault is_store_fault other ≡ false → of_fault is_memory_fault other ≡ false → answer ≡ other
-same_item limit (Terminated shown) ledger text answer other a b s m s' m' = one_answer limit ledger text shown answer other (proper limit ledger text shown answer a s m) (proper limit ledger text shown other b s' m')
-same_item limit Unterminated ledger text answer other a b s m s' m' = same_open text answer other a b
-same_item limit PastLimit ledger text answer other a b s m s' m' = a ∙ sym b
+same_item limit (Terminated shown) ledger known text answer other a b s m s' m' = one_answer limit ledger text answer other (proper limit ledger text answer a s m) (any_ledger limit known ledger text other (proper limit known text other b s' m'))
+same_item limit Unterminated ledger known text answer other a b s m s' m' = same_open text answer other a b
+same_item limit PastLimit ledger known text answer other a b s m s' m' = a ∙ sym b
 
 -- one answer changes the same files in one way
 same_changes : (answer : Answer) (old old' new new' : Option Files) → old ≡ old' → Changes old answer new → Changes old' answer new' → new ≡ new'
@@ -128,7 +130,7 @@ same_answers limit [] (a ∷ answers) others ledger last last' old old' new new'
 same_answers limit (item ∷ items) [] others ledger last last' old old' new new' same run run' are are' = absurd run
 same_answers limit (item ∷ items) (a ∷ answers) [] ledger last last' old old' new new' same run run' are are' = absurd run'
 same_answers limit (item ∷ items) (a ∷ answers) (b ∷ others) ledger last last' old old' new new' same run run' are are' =
-    let first : a ≡ b = same_item limit item.ended ledger item.text a b run.1.answered run'.1.answered
+    let first : a ≡ b = same_item limit item.ended run.1.known run'.1.known item.text a b run.1.answered run'.1.answered
     (none_first (of_fault is_store_fault a) (some_of (of_fault is_store_fault) answers) are.store) (none_first (of_fault is_memory_fault a) (some_of (of_fault is_memory_fault) answers) are.memory)
     (none_first (of_fault is_store_fault b) (some_of (of_fault is_store_fault) others) are'.store) (none_first (of_fault is_memory_fault b) (some_of (of_fault is_memory_fault) others) are'.memory) in
     let P : Answer → Type 0 = λ x. Changes old'.files x run'.0.files in

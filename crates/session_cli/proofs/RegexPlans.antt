@@ -1,19 +1,21 @@
 -- What is made of an expression that was parsed.
-use Rattle.std.proofs.Common.{◌≡◌, ℕ, Bool, List, [], ◌∷◌, ℤ, Result, Ok, Err, inl, inr, refl, sym, ap, ◌∙◌, subst}
+use Rattle.std.proofs.Common.{◌≡◌, ℕ, Bool, List, [], ◌∷◌, ◌++◌, ℤ, None, Result, Ok, Err, inl, inr, refl, sym, ap, ◌∙◌, subst, append-nil}
 use Rattle.digit_tuple.proofs.SystemLemmas.{length-digit_set}
 use Rattle.digit_tuple.specs.Deterministic.{Automaton}
 use Rattle.digit_tuple.specs.Sets.{sizes_of}
 use Rattle.digit_tuple.specs.Steps.{StepLog}
 use Rattle.digit_tuple.specs.declared.direction.Direction.{Direction}
 use Rattle.digit_tuple.specs.declared.header.Header.{Header}
+use Rattle.digit_tuple.specs.declared.steps.StepLine.{StepLine}
+use Rattle.wal_outside.specs.declared.folder.Folder.TheVariants.{Automata}
 use Rattle.regex_build.specs.Patterns.{Pattern}
 use Rattle.regex_build.specs.Parsing.{Parses}
 use Rattle.dfa_text.specs.Meaning.{AreTrackSets}
 use Rattle.dfa_text.specs.RelationText.{relation_text}
 use Rattle.product_op.specs.Validity.{AreLanguages}
-use Rattle.numeration.specs.Systems.{AreSystems}
 use Rattle.numeration.specs.Spelling as spelling
 use Rattle.base_k.specs.BaseLaws.{base_is_system}
+use Rattle.numeration.specs.Systems.{System, IsSystem, AreSystems}
 use Rattle.reg_steps.specs.declared.fault.StepFault.{StepFault}
 use Rattle.reg_steps.specs.declared.fault.StepFault.TheVariants as step_faults
 use Rattle.reg_steps.specs.RegexSteps as regex_steps
@@ -23,151 +25,128 @@ use Rattle.reg_steps.specs.Relations.{IsRelation, AreSystemLanguages}
 use Rattle.reg_steps.specs.Refusals.{IsDone, IsRefusedBy, AreDone, AreRefused}
 use Rattle.reg_steps.proofs.OneLanguages.{languages_of_tracks}
 use Rattle.reg_steps.proofs.RelationLemmas.{relation_made}
-use Rattle.session_cli.specs.declared.fault.Part.TheVariants as parts
 use Rattle.session_cli.specs.declared.fault.Fault.{Fault}
 use Rattle.session_cli.specs.declared.fault.Fault.TheVariants as faults
-use Rattle.session_cli.specs.BaseSystems.{AreBases}
+use Rattle.session_cli.specs.Checks.{Pure, Fails}
+use Rattle.session_cli.specs.Named.{Custom, IsSystemNamed, AreNamed}
 use Rattle.session_cli.specs.Bases.{fault_of}
 use Rattle.session_cli.specs.Lines.{shown_steps}
-use Rattle.session_cli.specs.Tracks.{Tracks, OverSets, OverBases, AreTracks, letter_sets, header_of, bases}
-use Rattle.session_cli.specs.declared.regexes.Made.{Made}
-use Rattle.session_cli.specs.Plans.{IsUnparsed, Prints, IsNotPrinted, IsRegexPlan, IsRegexRefused, PlansRegex}
+use Rattle.session_cli.specs.Tracks.{NamedSystem, systems_of, Tracks, OverSets, OverSystems, letter_sets, header_of}
+use Rattle.session_cli.specs.declared.plan.Made.{Made}
+use Rattle.session_cli.specs.Trees.{Regex, Entry, Defined}
+use Rattle.session_cli.specs.Texts.{HasText, IsTrackText}
+use Rattle.session_cli.specs.TrackSteps.{AreSteps}
+use Rattle.session_cli.specs.Accepting.{Success, stored}
+use Rattle.session_cli.specs.RegOutcomes.{ParsedAnswers, StepsAnswers, after_expression, after_tracks}
+use Rattle.session_cli.specs.Plans.{Prints, Makes}
+use Rattle.session_cli.proofs.CheckSteps.{fails_first, fails_after, makes_after}
 use Rattle.session_cli.proofs.RegexTexts.{regex_text}
 
 -- no steps yet
 abbrev pub no_steps : ℕ → StepLog
 no_steps limit = record { limit = limit; lines = [] }
 
--- the digits of bases are as many as the bases
-digit_sizes : (direction : Direction) (ks : List ℕ) → sizes_of (letter_sets (OverBases direction ks)) ≡ ks
-digit_sizes direction [] = refl
-digit_sizes direction (k ∷ ks) = ap (λ (n : ℕ). n ∷ sizes_of (letter_sets (OverBases direction ks))) (length-digit_set k) ∙ ap (λ (ns : List ℕ). k ∷ ns) (digit_sizes direction ks)
+-- over the digits of systems stand as many digits as the systems have
+pub system_sizes : (way : Direction) (named : List NamedSystem) → sizes_of (letter_sets (OverSystems way named)) ≡ spelling.sizes_of (systems_of named)
+system_sizes way [] = refl
+system_sizes way (s ∷ named) = ap (λ (n : ℕ). n ∷ sizes_of (letter_sets (OverSystems way named))) (length-digit_set s.system.digits) ∙ ap (λ (ns : List ℕ). s.system.digits ∷ ns) (system_sizes way named)
 
-system_sizes : (ks : List ℕ) → spelling.sizes_of (bases ks) ≡ ks
-system_sizes [] = refl
-system_sizes (k ∷ ks) = ap (λ (ns : List ℕ). k ∷ ns) (system_sizes ks)
+-- what a name means is a system
+named_is_system : (custom : Custom) (name : List ℕ) (way : Direction) (s : System) → IsSystemNamed custom name way s → IsSystem s
+named_is_system custom name way s (k, named, is) = subst IsSystem (sym is) (base_is_system k named.0.least)
 
--- over the digits of bases stand as many digits as the systems have
-pub base_sizes : (direction : Direction) (ks : List ℕ) → sizes_of (letter_sets (OverBases direction ks)) ≡ spelling.sizes_of (bases ks)
-base_sizes direction ks = digit_sizes direction ks ∙ sym (system_sizes ks)
+named_are_systems : (custom : Custom) (way : Direction) (named : List NamedSystem) → AreNamed custom way named → AreSystems (systems_of named)
+named_are_systems custom way [] are = tt
+named_are_systems custom way (s ∷ named) are = (named_is_system custom s.name way s.system are.0, named_are_systems custom way named are.1)
 
-bases_are_systems : (ks : List ℕ) → AreBases ks → AreSystems (bases ks)
-bases_are_systems [] are = tt
-bases_are_systems (k ∷ ks) are = (base_is_system k are.0.least, bases_are_systems ks are.1)
+-- what is made of an expression by its steps, by whether the text fits
+made_by_steps : (limit : ℕ) (name : List ℕ) (tracks : Tracks) (body : List ℕ) (shown : Bool) (pattern : Pattern) (lines printed_lines : List StepLine) (automaton : Automaton) (result : Result Made Fault)
+    → Parses (letter_sets tracks) body (Ok pattern) → AreSteps limit tracks pattern.tree lines → IsTrackText tracks pattern.tree (relation_text (header_of tracks) automaton) → printed_lines ≡ lines
+    → Prints (header_of tracks) automaton shown printed_lines result → Makes (after_tracks limit name body tracks) shown result
+made_by_steps limit name tracks body shown pattern lines printed_lines automaton result parses steps has same prints =
+    makes_after (Pure (ParsedAnswers (letter_sets tracks) body)) (λ (p : Pattern). after_expression limit name tracks p.tree) pattern shown result parses
+    (makes_after (Pure (StepsAnswers limit tracks pattern.tree)) (λ (ls : List StepLine). stored (made ls)) lines shown result steps (by_text result prints))
+  where
+    made : List StepLine → Success
+    made ls = record { folder = Automata; name = name; entry = Defined (Regex tracks pattern.tree); lines = ls; verdict = None }
 
--- the step over sets was made, and the text is that of its automaton
-pub plan_over_sets : (limit : ℕ) (sets : List (List ℤ)) (body : List ℕ) (shown : Bool) (pattern : Pattern) (automaton : Automaton) (steps : StepLog) (text printed : List ℕ) → AreTrackSets sets → Parses sets body (Ok pattern)
-    → IsDone (no_steps limit) (IsRegexStep limit pattern.sets pattern.tree automaton) steps → text ≡ relation_text (header_of (OverSets sets)) automaton → printed ≡ shown_steps shown steps.lines
-    → IsRegexPlan limit (OverSets sets) body shown text printed
-plan_over_sets limit sets body shown pattern automaton steps text printed tracks parses done text_is printed_is =
+    by_text : (r : Result Made Fault) → Prints (header_of tracks) automaton shown printed_lines r → Makes (stored (made lines)) shown r
+    by_text (Ok m) p = record {
+      success = made lines;
+      answers = (refl, (m.stored.items, subst (IsTrackText tracks pattern.tree) (sym p.text_is) has, p.fits));
+      has_text = subst (IsTrackText tracks pattern.tree) (sym p.text_is) has;
+      printed_is = p.printed_is ∙ (ap (λ (ls : List StepLine). shown_steps shown ls) same ∙ sym (append-nil (shown_steps shown lines)));
+    }
+    by_text (Err (faults.Long bytes)) (is, long) = (is, (relation_text (header_of tracks) automaton, has, long))
+    by_text (Err faults.Memory) refused = tt
+    by_text (Err faults.Command) refused = absurd refused
+    by_text (Err (faults.Syntax part at)) refused = absurd refused
+    by_text (Err (faults.Number part at)) refused = absurd refused
+    by_text (Err (faults.Depth part at)) refused = absurd refused
+    by_text (Err (faults.SystemUnknown unknown)) refused = absurd refused
+    by_text (Err (faults.Direction first other)) refused = absurd refused
+    by_text (Err (faults.Letters step)) refused = absurd refused
+    by_text (Err (faults.States step)) refused = absurd refused
+    by_text (Err (faults.Store folder of)) refused = absurd refused
+    by_text (Err faults.ScriptLimit) refused = absurd refused
+
+-- the step over sets was made
+pub made_over_sets : (limit : ℕ) (name : List ℕ) (sets : List (List ℤ)) (body : List ℕ) (shown : Bool) (pattern : Pattern) (automaton : Automaton) (steps : StepLog) → AreTrackSets sets → Parses sets body (Ok pattern)
+    → IsDone (no_steps limit) (IsRegexStep limit pattern.sets pattern.tree automaton) steps → (result : Result Made Fault) → Prints (header_of (OverSets sets)) automaton shown steps.lines result → Makes (after_tracks limit name body (OverSets sets)) shown result
+made_over_sets limit name sets body shown pattern automaton steps tracks parses done result prints =
     let P : List (List ℤ) → Type 0 = λ over. IsRegexStep limit over pattern.tree automaton done.line in
     let step : IsRegexStep limit sets pattern.tree automaton done.line = subst P parses.sets_are done.step in
-    record {
-      pattern = pattern;
-      parses = parses;
-      has_text = regex_text sets pattern.tree automaton text tracks step.of_regex text_is;
-      lines = done.line ∷ [];
-      steps = record { automaton = automaton; line = done.line; step = step; lines_are = refl };
-      printed_is = printed_is ∙ ap (λ (log : StepLog). shown_steps shown log.lines) done.new_is;
-    }
+    made_by_steps limit name (OverSets sets) body shown pattern (done.line ∷ []) steps.lines automaton result parses (record { automaton = automaton; line = done.line; step = step; lines_are = refl })
+    (regex_text sets pattern.tree automaton (relation_text (header_of (OverSets sets)) automaton) tracks step.of_regex refl) (ap (λ (log : StepLog). log.lines) done.new_is) prints
 
--- the steps over bases were made, and the text is that of their automaton
-pub plan_over_bases : (limit : ℕ) (direction : Direction) (ks : List ℕ) (languages : List Automaton) (body : List ℕ) (shown : Bool) (pattern : Pattern) (automaton : Automaton) (steps : StepLog) (text printed : List ℕ) → AreTracks (OverBases direction ks)
-    → AreSystemLanguages direction (bases ks) languages → Parses (letter_sets (OverBases direction ks)) body (Ok pattern)
-    → AreDone (no_steps limit) direction languages pattern.sets pattern.tree automaton steps → text ≡ relation_text (header_of (OverBases direction ks)) automaton → printed ≡ shown_steps shown steps.lines
-    → IsRegexPlan limit (OverBases direction ks) body shown text printed
-plan_over_bases limit direction ks languages body shown pattern automaton steps text printed tracks are parses made text_is printed_is =
-    let P : List (List ℤ) → Type 0 = λ over. AreDone (no_steps limit) direction languages over pattern.tree automaton steps in
-    let done : AreDone (no_steps limit) direction languages (letter_sets (OverBases direction ks)) pattern.tree automaton steps = subst P parses.sets_are made in
-    let relation : IsRelation direction (bases ks) (letter_sets (OverBases direction ks)) pattern.tree automaton =
-    relation_made limit direction (bases ks) languages (letter_sets (OverBases direction ks)) pattern.tree automaton done.valid (bases_are_systems ks tracks.1) are (base_sizes direction ks) done.steps in
-    record {
-      pattern = pattern;
-      parses = parses;
-      has_text = record { automaton = automaton; of_relation = relation; text_is = text_is };
-      lines = done.steps.before.regex ∷ done.steps.before.pad ∷ done.valid ∷ [];
-      steps = record { languages = languages; languages_are = are; automaton = automaton; valid = done.valid; steps = done.steps; lines_are = refl };
-      printed_is = printed_is ∙ ap (λ (log : StepLog). shown_steps shown log.lines) done.new_is;
-    }
+-- the steps over systems were made
+pub made_over_systems : (custom : Custom) (limit : ℕ) (name : List ℕ) (way : Direction) (named : List NamedSystem) (languages : List Automaton) (body : List ℕ) (shown : Bool) (pattern : Pattern) (automaton : Automaton) (steps : StepLog) → AreNamed custom way named
+    → AreSystemLanguages way (systems_of named) languages → Parses (letter_sets (OverSystems way named)) body (Ok pattern)
+    → AreDone (no_steps limit) way languages pattern.sets pattern.tree automaton steps → (result : Result Made Fault) → Prints (header_of (OverSystems way named)) automaton shown steps.lines result
+    → Makes (after_tracks limit name body (OverSystems way named)) shown result
+made_over_systems custom limit name way named languages body shown pattern automaton steps are_named are parses made result prints =
+    let P : List (List ℤ) → Type 0 = λ over. AreDone (no_steps limit) way languages over pattern.tree automaton steps in
+    let done : AreDone (no_steps limit) way languages (letter_sets (OverSystems way named)) pattern.tree automaton steps = subst P parses.sets_are made in
+    let relation : IsRelation way (systems_of named) (letter_sets (OverSystems way named)) pattern.tree automaton =
+    relation_made limit way (systems_of named) languages (letter_sets (OverSystems way named)) pattern.tree automaton done.valid (named_are_systems custom way named are_named) are (system_sizes way named) done.steps in
+    made_by_steps limit name (OverSystems way named) body shown pattern (done.steps.before.regex ∷ done.steps.before.pad ∷ done.valid ∷ []) steps.lines automaton result parses
+    (record { languages = languages; languages_are = are; automaton = automaton; valid = done.valid; steps = done.steps; lines_are = refl }) (record { automaton = automaton; of_relation = relation; text_is = refl })
+    (ap (λ (log : StepLog). log.lines) done.new_is) prints
 
--- the step over sets was refused
-pub refused_over_sets : (limit : ℕ) (sets : List (List ℤ)) (body : List ℕ) (shown : Bool) (pattern : Pattern) (fault : StepFault) → Parses sets body (Ok pattern)
-    → IsRefusedBy (no_steps limit) (regex_steps.ExceedsLetters pattern.sets) (regex_steps.ExceedsStates limit pattern.sets pattern.tree) fault → IsRegexRefused limit (OverSets sets) body shown (fault_of fault)
-refused_over_sets limit sets body shown pattern (step_faults.Letters step) parses (is, passes) =
-    let P : List (List ℤ) → Type 0 = λ over. regex_steps.ExceedsLetters over in (is, (pattern, parses, subst P parses.sets_are passes))
-refused_over_sets limit sets body shown pattern (step_faults.States step) parses (is, passes) =
-    let P : List (List ℤ) → Type 0 = λ over. regex_steps.ExceedsStates limit over pattern.tree in (pattern, parses, (is, subst P parses.sets_are passes))
-refused_over_sets limit sets body shown pattern step_faults.Memory parses refused = tt
+-- the expression was refused
+pub unparsed : (limit : ℕ) (name : List ℕ) (tracks : Tracks) (body : List ℕ) (f : Fault) → Fails (Pure (ParsedAnswers (letter_sets tracks) body)) f → Fails (after_tracks limit name body tracks) f
+unparsed limit name tracks body f refused = fails_first (Pure (ParsedAnswers (letter_sets tracks) body)) (λ (p : Pattern). after_expression limit name tracks p.tree) f refused
 
--- a step over bases was refused
-pub refused_over_bases : (limit : ℕ) (direction : Direction) (ks : List ℕ) (languages : List Automaton) (body : List ℕ) (shown : Bool) (pattern : Pattern) (fault : StepFault) → AreSystemLanguages direction (bases ks) languages
-    → Parses (letter_sets (OverBases direction ks)) body (Ok pattern) → AreRefused (no_steps limit) direction languages pattern.sets pattern.tree fault → IsRegexRefused limit (OverBases direction ks) body shown (fault_of fault)
-refused_over_bases limit direction ks languages body shown pattern (step_faults.Letters step) are parses (is, passes) =
-    let P : List (List ℤ) → Type 0 = λ over. regex_steps.ExceedsLetters over in (is, (pattern, parses, subst P parses.sets_are passes))
-refused_over_bases limit direction ks languages body shown pattern (step_faults.States step) are parses (inl (is, passes)) =
-    let P : List (List ℤ) → Type 0 = λ over. regex_steps.ExceedsStates limit over pattern.tree in (pattern, parses, inl (is, subst P parses.sets_are passes))
-refused_over_bases limit direction ks languages body shown pattern (step_faults.States step) are parses (inr (inl (is, passes))) =
-    let P : List (List ℤ) → Type 0 = λ over. SecondExceeds limit direction over pattern.tree in (pattern, parses, inr (inl (is, subst P parses.sets_are passes)))
-refused_over_bases limit direction ks languages body shown pattern (step_faults.States step) are parses (inr (inr (is, passes))) =
-    let P : List (List ℤ) → Type 0 = λ over. ThirdExceeds limit direction languages over pattern.tree in
-    (pattern, parses, inr (inr (is, record { languages = languages; languages_are = are; third = subst P parses.sets_are passes })))
-refused_over_bases limit direction ks languages body shown pattern step_faults.Memory are parses refused = tt
+-- a step was refused
+unstepped : (limit : ℕ) (name : List ℕ) (tracks : Tracks) (body : List ℕ) (pattern : Pattern) (f : Fault) → Parses (letter_sets tracks) body (Ok pattern) → Fails (Pure (StepsAnswers limit tracks pattern.tree)) f → Fails (after_tracks limit name body tracks) f
+unstepped limit name tracks body pattern f parses refused =
+    fails_after (Pure (ParsedAnswers (letter_sets tracks) body)) (λ (p : Pattern). after_expression limit name tracks p.tree) pattern f parses
+    (fails_first (Pure (StepsAnswers limit tracks pattern.tree)) (λ (ls : List StepLine). stored (record { folder = Automata; name = name; entry = Defined (Regex tracks pattern.tree); lines = ls; verdict = None })) f refused)
 
--- the quoted text was refused
-pub unparsed_refused : (limit : ℕ) (tracks : Tracks) (body : List ℕ) (shown : Bool) (fault : Fault) → IsUnparsed (letter_sets tracks) body fault → IsRegexRefused limit tracks body shown fault
-unparsed_refused limit tracks body shown (faults.Syntax parts.Regex at) parses = parses
-unparsed_refused limit tracks body shown (faults.Number parts.Regex at) parses = parses
-unparsed_refused limit tracks body shown (faults.Depth parts.Regex at) parses = parses
-unparsed_refused limit tracks body shown faults.Memory parses = tt
-unparsed_refused limit tracks body shown (faults.Syntax parts.Command at) parses = absurd parses
-unparsed_refused limit tracks body shown (faults.Number parts.Command at) parses = absurd parses
-unparsed_refused limit tracks body shown (faults.Depth parts.Command at) parses = absurd parses
-unparsed_refused limit tracks body shown faults.Command parses = absurd parses
-unparsed_refused limit tracks body shown (faults.Long bytes) parses = absurd parses
-unparsed_refused limit tracks body shown (faults.SystemUnknown name) parses = absurd parses
-unparsed_refused limit tracks body shown (faults.Direction first other) parses = absurd parses
-unparsed_refused limit tracks body shown (faults.Letters step) parses = absurd parses
-unparsed_refused limit tracks body shown (faults.States step) parses = absurd parses
-unparsed_refused limit tracks body shown (faults.Store folder name) parses = absurd parses
-unparsed_refused limit tracks body shown faults.ScriptLimit parses = absurd parses
+pub refused_over_sets : (limit : ℕ) (name : List ℕ) (sets : List (List ℤ)) (body : List ℕ) (pattern : Pattern) (fault : StepFault) → Parses sets body (Ok pattern)
+    → IsRefusedBy (no_steps limit) (regex_steps.ExceedsLetters pattern.sets) (regex_steps.ExceedsStates limit pattern.sets pattern.tree) fault → Fails (after_tracks limit name body (OverSets sets)) (fault_of fault)
+refused_over_sets limit name sets body pattern fault parses refused = unstepped limit name (OverSets sets) body pattern (fault_of fault) parses (by_fault fault refused)
+  where
+    by_fault : (f : StepFault) → IsRefusedBy (no_steps limit) (regex_steps.ExceedsLetters pattern.sets) (regex_steps.ExceedsStates limit pattern.sets pattern.tree) f → Fails (Pure (StepsAnswers limit (OverSets sets) pattern.tree)) (fault_of f)
+    by_fault (step_faults.Letters step) (is, passes) = let P : List (List ℤ) → Type 0 = λ over. regex_steps.ExceedsLetters over in (is, subst P parses.sets_are passes)
+    by_fault (step_faults.States step) (is, passes) = let P : List (List ℤ) → Type 0 = λ over. regex_steps.ExceedsStates limit over pattern.tree in (is, subst P parses.sets_are passes)
+    by_fault step_faults.Memory refused = tt
 
--- the text is too long to be stored
-pub unprinted_refused : (limit : ℕ) (tracks : Tracks) (body : List ℕ) (shown : Bool) (header : Header) (automaton : Automaton) (printed : List ℕ) (fault : Fault) → IsRegexPlan limit tracks body shown (relation_text header automaton) printed
-    → IsNotPrinted header automaton fault → IsRegexRefused limit tracks body shown fault
-unprinted_refused limit tracks body shown header automaton printed (faults.Long bytes) plan (is, long) = (is, relation_text header automaton, printed, plan, long)
-unprinted_refused limit tracks body shown header automaton printed faults.Memory plan refused = tt
-unprinted_refused limit tracks body shown header automaton printed faults.Command plan refused = absurd refused
-unprinted_refused limit tracks body shown header automaton printed (faults.Syntax part at) plan refused = absurd refused
-unprinted_refused limit tracks body shown header automaton printed (faults.Number part at) plan refused = absurd refused
-unprinted_refused limit tracks body shown header automaton printed (faults.Depth part at) plan refused = absurd refused
-unprinted_refused limit tracks body shown header automaton printed (faults.SystemUnknown name) plan refused = absurd refused
-unprinted_refused limit tracks body shown header automaton printed (faults.Direction first other) plan refused = absurd refused
-unprinted_refused limit tracks body shown header automaton printed (faults.Letters step) plan refused = absurd refused
-unprinted_refused limit tracks body shown header automaton printed (faults.States step) plan refused = absurd refused
-unprinted_refused limit tracks body shown header automaton printed (faults.Store folder name) plan refused = absurd refused
-unprinted_refused limit tracks body shown header automaton printed faults.ScriptLimit plan refused = absurd refused
+pub refused_over_systems : (limit : ℕ) (name : List ℕ) (way : Direction) (named : List NamedSystem) (languages : List Automaton) (body : List ℕ) (pattern : Pattern) (fault : StepFault) → AreSystemLanguages way (systems_of named) languages
+    → Parses (letter_sets (OverSystems way named)) body (Ok pattern) → AreRefused (no_steps limit) way languages pattern.sets pattern.tree fault → Fails (after_tracks limit name body (OverSystems way named)) (fault_of fault)
+refused_over_systems limit name way named languages body pattern fault are parses refused = unstepped limit name (OverSystems way named) body pattern (fault_of fault) parses (by_fault fault refused)
+  where
+    by_fault : (f : StepFault) → AreRefused (no_steps limit) way languages pattern.sets pattern.tree f → Fails (Pure (StepsAnswers limit (OverSystems way named) pattern.tree)) (fault_of f)
+    by_fault (step_faults.Letters step) (is, passes) = let P : List (List ℤ) → Type 0 = λ over. regex_steps.ExceedsLetters over in (is, subst P parses.sets_are passes)
+    by_fault (step_faults.States step) (inl (is, passes)) = let P : List (List ℤ) → Type 0 = λ over. regex_steps.ExceedsStates limit over pattern.tree in inl (is, subst P parses.sets_are passes)
+    by_fault (step_faults.States step) (inr (inl (is, passes))) = let P : List (List ℤ) → Type 0 = λ over. SecondExceeds limit way over pattern.tree in inr (inl (is, subst P parses.sets_are passes))
+    by_fault (step_faults.States step) (inr (inr (is, passes))) =
+        let P : List (List ℤ) → Type 0 = λ over. ThirdExceeds limit way languages over pattern.tree in
+        inr (inr (is, record { languages = languages; languages_are = are; third = subst P parses.sets_are passes }))
+    by_fault step_faults.Memory refused = tt
 
--- what is made over sets, by whether the text fits
-pub planned_over_sets : (limit : ℕ) (sets : List (List ℤ)) (body : List ℕ) (shown : Bool) (pattern : Pattern) (automaton : Automaton) (steps : StepLog) → AreTrackSets sets → Parses sets body (Ok pattern)
-    → IsDone (no_steps limit) (IsRegexStep limit pattern.sets pattern.tree automaton) steps → (result : Result Made Fault) → Prints (header_of (OverSets sets)) automaton shown steps.lines result → PlansRegex limit (OverSets sets) body shown result
-planned_over_sets limit sets body shown pattern automaton steps tracks parses done (Ok made) printed =
-    (plan_over_sets limit sets body shown pattern automaton steps made.stored.items made.answer tracks parses done printed.text_is printed.printed_is, printed.fits)
-planned_over_sets limit sets body shown pattern automaton steps tracks parses done (Err fault) refused =
-    unprinted_refused limit (OverSets sets) body shown (header_of (OverSets sets)) automaton (shown_steps shown steps.lines) fault
-    (plan_over_sets limit sets body shown pattern automaton steps (relation_text (header_of (OverSets sets)) automaton) (shown_steps shown steps.lines) tracks parses done refl refl) refused
-
--- what is made over bases
-pub planned_over_bases : (limit : ℕ) (direction : Direction) (ks : List ℕ) (languages : List Automaton) (body : List ℕ) (shown : Bool) (pattern : Pattern) (automaton : Automaton) (steps : StepLog) → AreTracks (OverBases direction ks)
-    → AreSystemLanguages direction (bases ks) languages → Parses (letter_sets (OverBases direction ks)) body (Ok pattern) → AreDone (no_steps limit) direction languages pattern.sets pattern.tree automaton steps
-    → (result : Result Made Fault) → Prints (header_of (OverBases direction ks)) automaton shown steps.lines result → PlansRegex limit (OverBases direction ks) body shown result
-planned_over_bases limit direction ks languages body shown pattern automaton steps tracks are parses done (Ok made) printed =
-    (plan_over_bases limit direction ks languages body shown pattern automaton steps made.stored.items made.answer tracks are parses done printed.text_is printed.printed_is, printed.fits)
-planned_over_bases limit direction ks languages body shown pattern automaton steps tracks are parses done (Err fault) refused =
-    unprinted_refused limit (OverBases direction ks) body shown (header_of (OverBases direction ks)) automaton (shown_steps shown steps.lines) fault
-    (plan_over_bases limit direction ks languages body shown pattern automaton steps (relation_text (header_of (OverBases direction ks)) automaton) (shown_steps shown steps.lines) tracks are parses done refl refl) refused
-
--- the languages of the tracks of an expression over bases
-pub languages_fit : (direction : Direction) (ks : List ℕ) (languages : List Automaton) (body : List ℕ) (pattern : Pattern) → AreSystemLanguages direction (bases ks) languages → Parses (letter_sets (OverBases direction ks)) body (Ok pattern)
+-- the languages of the tracks of an expression over systems
+pub languages_fit : (way : Direction) (named : List NamedSystem) (languages : List Automaton) (body : List ℕ) (pattern : Pattern) → AreSystemLanguages way (systems_of named) languages → Parses (letter_sets (OverSystems way named)) body (Ok pattern)
     → AreLanguages (sizes_of pattern.sets) languages
-languages_fit direction ks languages body pattern are parses =
-    subst (λ (sizes : List ℕ). AreLanguages sizes languages) (sym (ap sizes_of parses.sets_are ∙ base_sizes direction ks)) (languages_of_tracks direction (bases ks) languages are)
+languages_fit way named languages body pattern are parses =
+    subst (λ (sizes : List ℕ). AreLanguages sizes languages) (sym (ap sizes_of parses.sets_are ∙ system_sizes way named)) (languages_of_tracks way (systems_of named) languages are)

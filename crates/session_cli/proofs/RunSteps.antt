@@ -5,7 +5,7 @@ use Rattle.wal_outside.specs.Files.{Files, same_file}
 use Rattle.script_cut.specs.Cuts.{Item, Place, Next, CutsTo}
 use Rattle.session_cli.specs.Trees.{Entry, Bytes, Ledger}
 use Rattle.session_cli.specs.Texts.{HasText, HasTextAt}
-use Rattle.session_cli.specs.Outcomes.{Answer, after}
+use Rattle.session_cli.specs.Accepting.{Answer, after}
 use Rattle.wal_outside.specs.Views.{StoreView}
 use Rattle.session_cli.specs.Runs.{Changes, Answers, Run, first_ledger, StoresTold, line_of, printed, some_of}
 

@@ -11,7 +11,7 @@ use Rattle.session_cli.specs.declared.tally.Tally.{Tally}
 use Rattle.session_cli.specs.declared.status.Status.{Status}
 use Rattle.session_cli.specs.Trees.{Ledger}
 use Rattle.session_cli.specs.Lines.{fault_line}
-use Rattle.session_cli.specs.Outcomes.{Success, Answer, after}
+use Rattle.session_cli.specs.Accepting.{Success, Answer, after}
 use Rattle.wal_outside.specs.Views.{SourceView, StoreView, SinkView}
 use Rattle.session_cli.specs.Runs.{IsAnswerOf, Answers, Run, of_fault, is_refusal, is_store_fault, is_memory_fault, some_of, first_ledger, StoresTold, line_of, printed}
 use Rattle.session_cli.specs.Whole.{stop_status, RanThrough, RanToStop, Ran}
@@ -19,7 +19,7 @@ use Rattle.session_cli.specs.Commands.{Gives, Stored, Commands}
 use Rattle.session_cli.specs.Tallies.{AddsFault, AddsResult, Counts, tally_status}
 use Rattle.session_cli.specs.Handing.{result_text, HasAnswered}
 use Rattle.session_cli.specs.Ending.{ended_status, Finishes}
-use Rattle.session_cli.proofs.CommandSteps.{kept_store}
+use Rattle.session_cli.proofs.CommandSteps.{own_ledger, kept_store}
 use Rattle.session_cli.proofs.RunSteps.{stores_first, stores_after, run_more, cuts_more, printed_more, some_of-append}
 
 -- what was answered and printed so far
@@ -47,11 +47,11 @@ begins limit script old held = record {
 }
 
 -- the same text
-text_same : (text : List ℕ) (line : ℕ) (ended : Ended) (result : Result (Unit {0}) Fault) (printed : List ℕ) (answer : Answer) → Gives result printed answer → result_text line printed result ≡ line_of (record { text = text; line = line; ended = ended }) answer
-text_same text line ended (Ok x) printed (Ok success) gives = gives
-text_same text line ended (Ok x) printed (Err fault) gives = absurd gives
-text_same text line ended (Err fault) printed (Ok success) gives = absurd gives
-text_same text line ended (Err fault) printed (Err refusal) gives = ap (λ (f : Fault). fault_line line f) gives.0
+text_same : (text : List ℕ) (line : ℕ) (shown : Bool) (result : Result (Unit {0}) Fault) (printed : List ℕ) (answer : Answer) → Gives shown result printed answer → result_text line printed result ≡ line_of (record { text = text; line = line; ended = Terminated shown }) answer
+text_same text line shown (Ok x) printed (Ok success) gives = gives
+text_same text line shown (Ok x) printed (Err fault) gives = absurd gives
+text_same text line shown (Err fault) printed (Ok success) gives = absurd gives
+text_same text line shown (Err fault) printed (Err refusal) gives = ap (λ (f : Fault). fault_line line f) gives.0
 
 or_false : (v : Bool) → v ≡ (v || false)
 or_false true = refl
@@ -75,15 +75,17 @@ counts_ok tally answers success counts = record {
   memory = rw (counts.memory, some_of-append (of_fault is_memory_fault) answers (Ok success)) (or_false (some_of (of_fault is_memory_fault) answers));
 }
 
-counts_more : (tally after : Tally) (answers : List Answer) (result : Result (Unit {0}) Fault) (printed : List ℕ) (answer : Answer) → Gives result printed answer → Counts tally answers → AddsResult tally result after → Counts after (answers ++ answer ∷ [])
-counts_more tally after answers (Ok x) printed (Ok success) gives counts adds = let P : Tally → Type 0 = λ t. Counts t (answers ++ Ok success ∷ []) in subst P (sym adds) (counts_ok tally answers success counts)
-counts_more tally after answers (Ok x) printed (Err fault) gives counts adds = absurd gives
-counts_more tally after answers (Err fault) printed (Ok success) gives counts adds = absurd gives
-counts_more tally after answers (Err fault) printed (Err refusal) gives counts adds = let P : Fault → Type 0 = λ f. Counts after (answers ++ Err f ∷ []) in subst P gives.0 (counts_fault tally after answers fault counts adds)
+counts_more : (tally after : Tally) (answers : List Answer) (shown : Bool) (result : Result (Unit {0}) Fault) (printed : List ℕ) (answer : Answer) → Gives shown result printed answer → Counts tally answers → AddsResult tally result after → Counts after (answers ++ answer ∷ [])
+counts_more tally after answers shown (Ok x) printed (Ok success) gives counts adds = let P : Tally → Type 0 = λ t. Counts t (answers ++ Ok success ∷ []) in subst P (sym adds) (counts_ok tally answers success counts)
+counts_more tally after answers shown (Ok x) printed (Err fault) gives counts adds = absurd gives
+counts_more tally after answers shown (Err fault) printed (Ok success) gives counts adds = absurd gives
+counts_more tally after answers shown (Err fault) printed (Err refusal) gives counts adds = let P : Fault → Type 0 = λ f. Counts after (answers ++ Err f ∷ []) in subst P gives.0 (counts_fault tally after answers fault counts adds)
 
 -- one command's step
 step_of : (limit : ℕ) (ledger : Ledger) (old new : StoreView) (text : List ℕ) (shown : Bool) (line : ℕ) (result : Result (Unit {0}) Fault) (printed : List ℕ) → (c : Commands limit ledger old text shown result printed new) → Answers limit ledger old (record { text = text; line = line; ended = Terminated shown }) c.answer new
 step_of limit ledger old new text shown line result printed c = record {
+  known = c.known;
+  known_is = c.known_is;
   answered = c.answered;
   files = c.stored.files;
   later = c.stored.later;
@@ -100,7 +102,7 @@ goes_on limit script old mid new held told now place next tally counted text sho
     let a : HasAnswered limit stands.ledger mid text shown line told tally (Ok tt) new now counted = answered stands.ledger stands.stores in
     let c : Commands limit stands.ledger mid text shown a.result a.printed new = a.commands in
     let item : Item = record { text = text; line = line; ended = Terminated shown } in
-    let text_is : result_text line a.printed a.result ≡ line_of item c.answer = text_same text line (Terminated shown) a.result a.printed c.answer c.gives in
+    let text_is : result_text line a.printed a.result ≡ line_of item c.answer = text_same text line shown a.result a.printed c.answer c.gives in
     record {
       items = stands.items ++ item ∷ [];
       answers = stands.answers ++ c.answer ∷ [];
@@ -110,7 +112,7 @@ goes_on limit script old mid new held told now place next tally counted text sho
       stores = stores_after stands.ledger c.answer mid.files new.files stands.stores c.stored.files;
       sent = rw (printed_more limit stands.items stands.answers (first_ledger old.files) stands.ledger old mid item c.answer stands.run)
           (sends_then held told now (printed stands.items stands.answers) (line_of item c.answer) (Ok tt) stands.sent (rw text_is at a.sends));
-      counts = counts_more tally counted stands.answers a.result a.printed c.answer c.gives stands.counts a.adds;
+      counts = counts_more tally counted stands.answers shown a.result a.printed c.answer c.gives stands.counts a.adds;
     }
 
 -- a command was answered, and the sink stopped in its line
@@ -135,7 +137,7 @@ stops limit script from to old mid new held told now place next tally counted te
       mid = told;
       sent = stands.sent;
       fault = fault;
-      stopped = rw (text_same text line (Terminated shown) a.result a.printed c.answer c.gives) at a.sends;
+      stopped = rw (text_same text line shown a.result a.printed c.answer c.gives) at a.sends;
       source_kept = kept;
       state_is = state_is;
     }
@@ -160,7 +162,7 @@ ends_there limit script from to old now held told place tally state stands end k
 kept_step : (limit : ℕ) (ledger : Ledger) (store : StoreView) (item : Item) (fault : Fault) → is_store_fault fault ≡ false → IsAnswerOf limit item.ended ledger item.text (Err fault) → Answers limit ledger store item (Err fault) store
 kept_step limit ledger store item fault other answered =
     let kept : Stored store (Err fault) store = kept_store store fault other in
-    record { answered = answered; files = kept.files; later = kept.later; cause = kept.cause; failed = kept.failed }
+    record { known = ledger; known_is = own_ledger store.files ledger; answered = answered; files = kept.files; later = kept.later; cause = kept.cause; failed = kept.failed }
 
 pub open_step : (limit : ℕ) (ledger : Ledger) (store : StoreView) (text : List ℕ) (line at : ℕ) → length text ≤ 65536 → at ≡ length text
     → Answers limit ledger store (record { text = text; line = line; ended = Unterminated }) (Err (faults.Syntax parts.Command at)) store
@@ -168,13 +170,13 @@ open_step limit ledger store text line at short is = kept_step limit ledger stor
 
 -- past the limit nothing is done
 pub limit_step : (limit : ℕ) (ledger : Ledger) (store : StoreView) (line : ℕ) → Answers limit ledger store (record { text = []; line = line; ended = PastLimit }) (Err faults.ScriptLimit) store
-limit_step limit ledger store line = record { answered = refl; files = refl; later = omega arith; cause = λ is. cc; failed = refl }
+limit_step limit ledger store line = record { known = ledger; known_is = own_ledger store.files ledger; answered = refl; files = refl; later = omega arith; cause = λ is. cc; failed = refl }
 
 -- an item that is too long is refused, and the store stays
 pub long_step : (limit : ℕ) (ended : Ended) (ledger : Ledger) (store : StoreView) (place : Place) (text : List ℕ) (line : ℕ) (next : Place) → Next place (record { text = text; line = line; ended = ended }) next → 65536 < length text
     → Answers limit ledger store (record { text = text; line = line; ended = ended }) (Err (faults.Long 65536)) store
-long_step limit (Terminated shown) ledger store place text line next cut long = record { answered = inl (refl, long); files = refl; later = omega arith; cause = λ is. cc; failed = refl }
-long_step limit Unterminated ledger store place text line next cut long = record { answered = (refl, long); files = refl; later = omega arith; cause = λ is. cc; failed = refl }
+long_step limit (Terminated shown) ledger store place text line next cut long = record { known = ledger; known_is = own_ledger store.files ledger; answered = inl (refl, long); files = refl; later = omega arith; cause = λ is. cc; failed = refl }
+long_step limit Unterminated ledger store place text line next cut long = record { known = ledger; known_is = own_ledger store.files ledger; answered = (refl, long); files = refl; later = omega arith; cause = λ is. cc; failed = refl }
 long_step limit PastLimit ledger store place text line next cut long = absurd (no_text cut.before cut.cut)
   where
     no_text : (before : List ℕ) → CutsOff place before text next → ⊥

@@ -10,76 +10,76 @@ use Rattle.reg_steps.proofs.OneRegex.{one_line, within_or_above}
 use Rattle.reg_steps.proofs.OneRelation.{one_regex_line, one_closed_line, one_last_line, closed_not_first, closed_not_second, second_not_first, done_not_third}
 use Rattle.reg_steps.proofs.OneLanguages.{one_list_of_languages}
 use Rattle.reg_steps.proofs.RelationLemmas.{relation_is_one}
-use Rattle.session_cli.specs.Tracks.{Tracks, OverSets, OverBases, letter_sets, header_of, bases}
+use Rattle.session_cli.specs.Tracks.{NamedSystem, systems_of, Tracks, OverSets, OverSystems, letter_sets, header_of}
 use Rattle.session_cli.specs.Texts.{IsTrackText}
-use Rattle.session_cli.specs.TrackSteps.{AreSteps, AreBaseSteps, ExceedsLetters, ExceedsStates, ValidExceedsOver}
+use Rattle.session_cli.specs.TrackSteps.{AreSteps, AreSystemSteps, ExceedsLetters, ExceedsStates, ValidExceedsOver}
 use Rattle.session_cli.proofs.RegexTexts.{one_regex_text}
 
 -- one text
 pub one_track_text : (tracks : Tracks) (e : Expression (List ℤ)) (text other : List ℕ) → IsTrackText tracks e text → IsTrackText tracks e other → text ≡ other
 one_track_text (OverSets sets) e text other a b = one_regex_text sets e text other a b
-one_track_text (OverBases direction ks) e text other a b =
+one_track_text (OverSystems way named) e text other a b =
     a.text_is
-    ∙ ap (λ (d : Automaton). relation_text (header_of (OverBases direction ks)) d) (relation_is_one direction (bases ks) (letter_sets (OverBases direction ks)) e a.automaton b.automaton a.of_relation b.of_relation)
+    ∙ ap (λ (d : Automaton). relation_text (header_of (OverSystems way named)) d) (relation_is_one way (systems_of named) (letter_sets (OverSystems way named)) e a.automaton b.automaton a.of_relation b.of_relation)
     ∙ sym b.text_is
 
-module _ (limit : ℕ) (direction : Direction) (ks : List ℕ) (e : Expression (List ℤ)) where
+module _ (limit : ℕ) (way : Direction) (named : List NamedSystem) (e : Expression (List ℤ)) where
   abbrev digits : List (List ℤ)
-  digits = letter_sets (OverBases direction ks)
+  digits = letter_sets (OverSystems way named)
 
-  one_base_lines : (lines other : List StepLine) → AreBaseSteps limit direction ks e lines → AreBaseSteps limit direction ks e other → lines ≡ other
-  one_base_lines lines other a b =
+  one_system_lines : (lines other : List StepLine) → AreSystemSteps limit way named e lines → AreSystemSteps limit way named e other → lines ≡ other
+  one_system_lines lines other a b =
       a.lines_are
-      ∙ ap (λ (line : StepLine). line ∷ a.steps.before.pad ∷ a.valid ∷ []) (one_regex_line limit direction digits e a.steps.before b.steps.before)
-      ∙ ap (λ (line : StepLine). b.steps.before.regex ∷ line ∷ a.valid ∷ []) (one_closed_line limit direction digits e a.steps.before b.steps.before)
+      ∙ ap (λ (line : StepLine). line ∷ a.steps.before.pad ∷ a.valid ∷ []) (one_regex_line limit way digits e a.steps.before b.steps.before)
+      ∙ ap (λ (line : StepLine). b.steps.before.regex ∷ line ∷ a.valid ∷ []) (one_closed_line limit way digits e a.steps.before b.steps.before)
       ∙ ap (λ (line : StepLine). b.steps.before.regex ∷ b.steps.before.pad ∷ line ∷ []) (by a.steps)
       ∙ sym b.lines_are
     where
-      by : AreRelationSteps limit direction a.languages digits e a.automaton a.valid → a.valid ≡ b.valid
+      by : AreRelationSteps limit way a.languages digits e a.automaton a.valid → a.valid ≡ b.valid
       by steps =
-          let same : a.languages ≡ b.languages = one_list_of_languages direction (bases ks) a.languages b.languages a.languages_are b.languages_are in
-          let moved : AreRelationSteps limit direction b.languages digits e a.automaton a.valid = subst (λ (ls : List Automaton). AreRelationSteps limit direction ls digits e a.automaton a.valid) same steps in
-          one_last_line limit direction digits e b.languages a.automaton b.automaton a.valid b.valid moved b.steps
+          let same : a.languages ≡ b.languages = one_list_of_languages way (systems_of named) a.languages b.languages a.languages_are b.languages_are in
+          let moved : AreRelationSteps limit way b.languages digits e a.automaton a.valid = subst (λ (ls : List Automaton). AreRelationSteps limit way ls digits e a.automaton a.valid) same steps in
+          one_last_line limit way digits e b.languages a.automaton b.automaton a.valid b.valid moved b.steps
 
-  not_third : (lines : List StepLine) → AreBaseSteps limit direction ks e lines → ValidExceedsOver limit direction ks e → ⊥
+  not_third : (lines : List StepLine) → AreSystemSteps limit way named e lines → ValidExceedsOver limit way named e → ⊥
   not_third lines a above =
-      let same : above.languages ≡ a.languages = one_list_of_languages direction (bases ks) above.languages a.languages above.languages_are a.languages_are in
-      done_not_third limit direction digits e a.languages a.automaton a.valid a.steps (subst (λ (ls : List Automaton). ThirdExceeds limit direction ls digits e) same above.third)
+      let same : above.languages ≡ a.languages = one_list_of_languages way (systems_of named) above.languages a.languages above.languages_are a.languages_are in
+      done_not_third limit way digits e a.languages a.automaton a.valid a.steps (subst (λ (ls : List Automaton). ThirdExceeds limit way ls digits e) same above.third)
 
 -- one list of lines
 pub one_lines : (limit : ℕ) (tracks : Tracks) (e : Expression (List ℤ)) (lines other : List StepLine) → AreSteps limit tracks e lines → AreSteps limit tracks e other → lines ≡ other
 one_lines limit (OverSets sets) e lines other a b =
     a.lines_are ∙ ap (λ (line : StepLine). line ∷ []) (one_line limit sets e a.automaton b.automaton a.line b.line a.step b.step) ∙ sym b.lines_are
-one_lines limit (OverBases direction ks) e lines other a b = one_base_lines limit direction ks e lines other a b
+one_lines limit (OverSystems way named) e lines other a b = one_system_lines limit way named e lines other a b
 
 -- steps that were done did not pass the limit of letters
 pub done_not_letters : (limit : ℕ) (tracks : Tracks) (e : Expression (List ℤ)) (lines : List StepLine) → AreSteps limit tracks e lines → ExceedsLetters tracks → ⊥
 done_not_letters limit (OverSets sets) e lines a passes = passes a.step.alphabet
-done_not_letters limit (OverBases direction ks) e lines a passes = passes a.steps.before.regex_step.alphabet
+done_not_letters limit (OverSystems way named) e lines a passes = passes a.steps.before.regex_step.alphabet
 
 -- nor that of states
 pub done_not_states : (limit : ℕ) (tracks : Tracks) (e : Expression (List ℤ)) (lines : List StepLine) (step : ℕ) → AreSteps limit tracks e lines → ExceedsStates limit tracks e step → ⊥
 done_not_states limit (OverSets sets) e lines step a (is, above) = within_or_above limit sets e a.automaton a.line a.step above
-done_not_states limit (OverBases direction ks) e lines step a (inl (is, above)) = closed_not_first limit direction (letter_sets (OverBases direction ks)) e a.steps.before above
-done_not_states limit (OverBases direction ks) e lines step a (inr (inl (is, above))) = closed_not_second limit direction (letter_sets (OverBases direction ks)) e a.steps.before above
-done_not_states limit (OverBases direction ks) e lines step a (inr (inr (is, above))) = not_third limit direction ks e lines a above
+done_not_states limit (OverSystems way named) e lines step a (inl (is, above)) = closed_not_first limit way (letter_sets (OverSystems way named)) e a.steps.before above
+done_not_states limit (OverSystems way named) e lines step a (inr (inl (is, above))) = closed_not_second limit way (letter_sets (OverSystems way named)) e a.steps.before above
+done_not_states limit (OverSystems way named) e lines step a (inr (inr (is, above))) = not_third limit way named e lines a above
 
 -- letters come before states
 pub letters_not_states : (limit : ℕ) (tracks : Tracks) (e : Expression (List ℤ)) (step : ℕ) → ExceedsLetters tracks → ExceedsStates limit tracks e step → ⊥
 letters_not_states limit (OverSets sets) e step passes (is, above) = passes above.alphabet
-letters_not_states limit (OverBases direction ks) e step passes (inl (is, above)) = passes above.alphabet
-letters_not_states limit (OverBases direction ks) e step passes (inr (inl (is, above))) = passes above.regex_step.alphabet
-letters_not_states limit (OverBases direction ks) e step passes (inr (inr (is, above))) = passes above.third.before.regex_step.alphabet
+letters_not_states limit (OverSystems way named) e step passes (inl (is, above)) = passes above.alphabet
+letters_not_states limit (OverSystems way named) e step passes (inr (inl (is, above))) = passes above.regex_step.alphabet
+letters_not_states limit (OverSystems way named) e step passes (inr (inr (is, above))) = passes above.third.before.regex_step.alphabet
 
 -- one step is the first to pass
 pub one_excess : (limit : ℕ) (tracks : Tracks) (e : Expression (List ℤ)) (step other : ℕ) → ExceedsStates limit tracks e step → ExceedsStates limit tracks e other → step ≡ other
 one_excess limit (OverSets sets) e step other (is, above) (is', above') = is ∙ sym is'
-one_excess limit (OverBases direction ks) e step other (inl (is, above)) (inl (is', above')) = is ∙ sym is'
-one_excess limit (OverBases direction ks) e step other (inl (is, above)) (inr (inl (is', above'))) = absurd (second_not_first limit direction (letter_sets (OverBases direction ks)) e above' above)
-one_excess limit (OverBases direction ks) e step other (inl (is, above)) (inr (inr (is', above'))) = absurd (closed_not_first limit direction (letter_sets (OverBases direction ks)) e above'.third.before above)
-one_excess limit (OverBases direction ks) e step other (inr (inl (is, above))) (inl (is', above')) = absurd (second_not_first limit direction (letter_sets (OverBases direction ks)) e above above')
-one_excess limit (OverBases direction ks) e step other (inr (inl (is, above))) (inr (inl (is', above'))) = is ∙ sym is'
-one_excess limit (OverBases direction ks) e step other (inr (inl (is, above))) (inr (inr (is', above'))) = absurd (closed_not_second limit direction (letter_sets (OverBases direction ks)) e above'.third.before above)
-one_excess limit (OverBases direction ks) e step other (inr (inr (is, above))) (inl (is', above')) = absurd (closed_not_first limit direction (letter_sets (OverBases direction ks)) e above.third.before above')
-one_excess limit (OverBases direction ks) e step other (inr (inr (is, above))) (inr (inl (is', above'))) = absurd (closed_not_second limit direction (letter_sets (OverBases direction ks)) e above.third.before above')
-one_excess limit (OverBases direction ks) e step other (inr (inr (is, above))) (inr (inr (is', above'))) = is ∙ sym is'
+one_excess limit (OverSystems way named) e step other (inl (is, above)) (inl (is', above')) = is ∙ sym is'
+one_excess limit (OverSystems way named) e step other (inl (is, above)) (inr (inl (is', above'))) = absurd (second_not_first limit way (letter_sets (OverSystems way named)) e above' above)
+one_excess limit (OverSystems way named) e step other (inl (is, above)) (inr (inr (is', above'))) = absurd (closed_not_first limit way (letter_sets (OverSystems way named)) e above'.third.before above)
+one_excess limit (OverSystems way named) e step other (inr (inl (is, above))) (inl (is', above')) = absurd (second_not_first limit way (letter_sets (OverSystems way named)) e above above')
+one_excess limit (OverSystems way named) e step other (inr (inl (is, above))) (inr (inl (is', above'))) = is ∙ sym is'
+one_excess limit (OverSystems way named) e step other (inr (inl (is, above))) (inr (inr (is', above'))) = absurd (closed_not_second limit way (letter_sets (OverSystems way named)) e above'.third.before above)
+one_excess limit (OverSystems way named) e step other (inr (inr (is, above))) (inl (is', above')) = absurd (closed_not_first limit way (letter_sets (OverSystems way named)) e above.third.before above')
+one_excess limit (OverSystems way named) e step other (inr (inr (is, above))) (inr (inl (is', above'))) = absurd (closed_not_second limit way (letter_sets (OverSystems way named)) e above.third.before above')
+one_excess limit (OverSystems way named) e step other (inr (inr (is, above))) (inr (inr (is', above'))) = is ∙ sym is'

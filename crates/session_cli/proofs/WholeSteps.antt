@@ -8,7 +8,7 @@ use Rattle.script_cut.specs.Cuts.{Item}
 use Rattle.session_cli.specs.declared.status.Status.{Status}
 use Rattle.session_cli.specs.declared.status.Status.TheVariants as status
 use Rattle.session_cli.specs.Trees.{Ledger}
-use Rattle.session_cli.specs.Outcomes.{Answer, after}
+use Rattle.session_cli.specs.Accepting.{Answer, after}
 use Rattle.wal_outside.specs.Views.{SourceView, StoreView, SinkView}
 use Rattle.session_cli.specs.Runs.{Run, of_fault, is_store_fault, some_of, status_by}
 use Rattle.session_cli.specs.Words.{GivesNone}

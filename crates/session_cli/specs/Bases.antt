@@ -2,14 +2,19 @@
 use Rattle.std.specs.Prelude.{◌≡◌, ℕ, ◌<◌, List, length, map, take, slice_index_or, ⊤}
 use Rattle.std.specs.List.{All}
 use Rattle.digit_tuple.specs.declared.direction.Direction.{Direction}
+use Rattle.base_k.specs.Positional.{base}
 use Rattle.base_k.specs.declared.base_k.BaseK.{BaseK}
+use Rattle.system_names.specs.Names.{base_name, IsBuiltInName}
+use Rattle.command_head.specs.Heads as heads
 use Rattle.session_cli.specs.declared.fault.Fault.{Fault}
 use Rattle.session_cli.specs.declared.fault.Fault.TheVariants as faults
 use Rattle.reg_steps.specs.declared.fault.StepFault.{StepFault}
 use Rattle.reg_steps.specs.declared.fault.StepFault.TheVariants as steps
 use Rattle.session_cli.specs.declared.bases.Bases.{Bases}
-use Rattle.session_cli.specs.BaseSystems.{base_name, IsKnown, IsFirstWithout, PartInDirection, base_names}
-use Rattle.session_cli.specs.Tracks.{OverBases, AreTracks}
+use Rattle.session_cli.specs.Checks.{Pure, Fails}
+use Rattle.session_cli.specs.Tracks.{NamedSystem, names_of}
+use Rattle.session_cli.specs.Named.{Custom, IsFirstWithout, AreNamed}
+use Rattle.session_cli.specs.RegOutcomes.{TracksAnswers}
 
 -- the fault of a step, as a command's
 abbrev pub fault_of : StepFault → Fault
@@ -21,34 +26,36 @@ fault_of steps.Memory = faults.Memory
 abbrev pub name_of : BaseK → List ℕ
 name_of s = base_name s.direction s.base
 
-abbrev pub digits_in : List BaseK → List ℕ
-digits_in systems = map (λ (s : BaseK). s.base) systems
+-- a base under its name
+abbrev pub named_of : BaseK → NamedSystem
+named_of s = record { name = name_of s; system = base s.base }
+
+abbrev pub named_in : List BaseK → List NamedSystem
+named_in systems = map named_of systems
 
 -- the base is read in this direction
 abbrev pub IsIn : Direction → BaseK → Type 0
 IsIn direction s = s.direction ≡ direction
 
 -- the names of bases, of which one may not be known
-abbrev pub AreNamed : List (List ℕ) → List BaseK → Type 0
-AreNamed names systems = names ≡ map name_of systems
+abbrev pub AreNames : List (List ℕ) → List BaseK → Type 0
+AreNames names systems = names ≡ map name_of systems
 
 abbrev pub IsUnknown : List (List ℕ) → Fault → Type 0
-IsUnknown names (faults.SystemUnknown name) = IsFirstWithout IsKnown names name
+IsUnknown names (faults.SystemUnknown name) = IsFirstWithout IsBuiltInName names name
 IsUnknown names faults.Memory = ⊤
 IsUnknown names _ = ⊥
 
 -- the systems of tracks, all in one direction
 pub record AreBasesOf (names : List (List ℕ)) (b : Bases) : Type 0 where
-  pub names_are : names ≡ base_names b.direction (digits_in b.systems.items)
-  pub tracks : AreTracks (OverBases b.direction (digits_in b.systems.items))
+  pub names_are : names ≡ names_of (named_in b.systems.items)
+  pub are : (custom : Custom) → AreNamed custom b.direction (named_in b.systems.items)
+  pub some : 0 < length names
   pub directions : All (IsIn b.direction) b.systems.items
 
 -- why names give no tracks
 abbrev pub AreRefusedNames : List (List ℕ) → Fault → Type 0
-AreRefusedNames names (faults.SystemUnknown name) = IsFirstWithout IsKnown names name
-AreRefusedNames names (faults.Direction first other) = PartInDirection names first other
-AreRefusedNames names faults.Memory = ⊤
-AreRefusedNames names _ = ⊥
+AreRefusedNames names fault = (custom : Custom) → Fails (Pure (TracksAnswers custom (heads.Systems names))) fault
 
 -- the system at this place is the first that is read in another direction
 pub record IsFirstApart (direction : Direction) (systems : List BaseK) (place : ℕ) : Type 0 where

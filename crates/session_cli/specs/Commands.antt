@@ -3,20 +3,22 @@ use Rattle.std.specs.Prelude.{◌≡◌, ℕ, ◌≤◌, Bool, List, [], Option,
 use Rattle.std.specs.Option.{option_map}
 use Rattle.wal_outside.specs.Causes.{Rose}
 use Rattle.wal_outside.specs.Files.{Files, put}
-use Rattle.wal_outside.specs.declared.folder.Folder.TheVariants.{Automata}
+use Rattle.wal_outside.specs.Places.{Place}
 use Rattle.session_cli.specs.declared.fault.Fault.{Fault}
 use Rattle.session_cli.specs.declared.fault.Fault.TheVariants as faults
 use Rattle.session_cli.specs.Trees.{Ledger}
-use Rattle.session_cli.specs.Outcomes.{Answer}
-use Rattle.session_cli.specs.Runs.{IsAnswer, Changes, of_fault, is_store_fault, failed_after}
+use Rattle.session_cli.specs.Accepting.{Answer}
+use Rattle.session_cli.specs.Outcomes.{checks_of}
+use Rattle.session_cli.specs.Lines.{success_text}
+use Rattle.session_cli.specs.Runs.{IsAnswer, IsKnownLedger, Changes, of_fault, is_store_fault, failed_after}
 use Rattle.wal_outside.specs.Views.{StoreView}
 
 -- A call's result and the text to print are the answer: accepted, with what it prints; or the same fault, and then the text is empty.
-abbrev pub Gives : Result (Unit {0}) Fault → List ℕ → Answer → Type 0
-Gives (Ok _) printed (Ok success) = printed ≡ success.shown
-Gives (Ok _) printed (Err fault) = ⊥
-Gives (Err fault) printed (Ok success) = ⊥
-Gives (Err fault) printed (Err refusal) = (fault ≡ refusal) × (printed ≡ [])
+abbrev pub Gives : Bool → Result (Unit {0}) Fault → List ℕ → Answer → Type 0
+Gives shown (Ok _) printed (Ok success) = printed ≡ success_text shown success
+Gives shown (Ok _) printed (Err fault) = ⊥
+Gives shown (Err fault) printed (Ok success) = ⊥
+Gives shown (Err fault) printed (Err refusal) = (fault ≡ refusal) × (printed ≡ [])
 
 -- a store before and after an answer
 pub record Stored (old : StoreView) (answer : Answer) (new : StoreView) : Type 0 where
@@ -28,27 +30,29 @@ pub record Stored (old : StoreView) (answer : Answer) (new : StoreView) : Type 0
 -- a command has an answer that the call gives
 pub record Commands (limit : ℕ) (ledger : Ledger) (old : StoreView) (text : List ℕ) (shown : Bool) (result : Result (Unit {0}) Fault) (printed : List ℕ) (new : StoreView) : Type 0 where
   pub answer : Answer
-  pub gives : Gives result printed answer
-  pub answered : IsAnswer limit ledger text shown answer
+  pub gives : Gives shown result printed answer
+  pub known : Ledger
+  pub known_is : IsKnownLedger old.files ledger known
+  pub answered : IsAnswer (checks_of limit known text) answer
   pub stored : Stored old answer new
 
 -- files after a write, where they are told
-abbrev pub WritesFile : Option Files → List ℕ → List ℕ → Result (Unit {0}) Fault → Option Files → Type 0
-WritesFile old name stored (Ok _) new = new ≡ option_map (λ files. put files Automata name stored) old
-WritesFile old name stored (Err fault) new = new ≡ old
+abbrev pub WritesFile : Option Files → Place → List ℕ → Result (Unit {0}) Fault → Option Files → Type 0
+WritesFile old place stored (Ok _) new = new ≡ option_map (λ files. put files place.0 place.1 stored) old
+WritesFile old place stored (Err fault) new = new ≡ old
 
 -- a write fails because the store did, or for want of memory
-abbrev pub IsWriteFault : List ℕ → StoreView → StoreView → Fault → Type 0
-IsWriteFault name old new (faults.Store folder at) = (folder ≡ Automata) × (at ≡ name) × Rose old.faults new.faults × (new.failed ≡ option_map (λ _. Some (folder, at)) old.failed)
-IsWriteFault name old new faults.Memory = new.failed ≡ old.failed
-IsWriteFault name old new _ = ⊥
+abbrev pub IsWriteFault : Place → StoreView → StoreView → Fault → Type 0
+IsWriteFault place old new (faults.Store folder name) = (folder ≡ place.0) × (name ≡ place.1) × Rose old.faults new.faults × (new.failed ≡ option_map (λ _. Some (folder, name)) old.failed)
+IsWriteFault place old new faults.Memory = new.failed ≡ old.failed
+IsWriteFault place old new _ = ⊥
 
-abbrev pub WriteCause : List ℕ → StoreView → StoreView → Result (Unit {0}) Fault → Type 0
-WriteCause name old new (Ok _) = new.failed ≡ old.failed
-WriteCause name old new (Err fault) = IsWriteFault name old new fault
+abbrev pub WriteCause : Place → StoreView → StoreView → Result (Unit {0}) Fault → Type 0
+WriteCause place old new (Ok _) = new.failed ≡ old.failed
+WriteCause place old new (Err fault) = IsWriteFault place old new fault
 
--- what writing a text under a name does to the store
-pub record WritesPlan (old : StoreView) (name stored : List ℕ) (result : Result (Unit {0}) Fault) (new : StoreView) : Type 0 where
-  pub files : WritesFile old.files name stored result new.files
+-- what writing a text at a place does to the store
+pub record WritesPlan (old : StoreView) (place : Place) (stored : List ℕ) (result : Result (Unit {0}) Fault) (new : StoreView) : Type 0 where
+  pub files : WritesFile old.files place stored result new.files
   pub later : old.faults ≤ new.faults
-  pub cause : WriteCause name old new result
+  pub cause : WriteCause place old new result

@@ -1,12 +1,13 @@
 -- What holds of all runs.
-use Rattle.std.specs.Prelude.{◌≡◌, ◌⊎◌, ℕ, ◌+◌, ◌-◌, ◌^◌, ◌≤◌, min, Bool, if◌then◌else◌, List, [], ◌∷◌, Some}
+use Rattle.std.specs.Prelude.{◌≡◌, ◌⊎◌, ℕ, ◌+◌, ◌-◌, ◌^◌, ◌≤◌, min, if◌then◌else◌, List, [], ◌∷◌, Some}
 use Rattle.wal_outside.specs.Sending.{HasSent}
 use Rattle.script_cut.specs.Cuts.{Item}
 use Rattle.session_cli.specs.declared.status.Status.{Status}
 use Rattle.session_cli.specs.declared.status.Status.TheVariants as status
 use Rattle.session_cli.specs.Trees.{Entry, Ledger}
 use Rattle.session_cli.specs.Texts.{HasText}
-use Rattle.session_cli.specs.Outcomes.{Answer, Outcome}
+use Rattle.session_cli.specs.Accepting.{Answer}
+use Rattle.session_cli.specs.Outcomes.{Outcome}
 use Rattle.wal_outside.specs.Views.{SourceView, SinkView, StoreView}
 use Rattle.session_cli.specs.Runs.{Run, of_fault, is_store_fault}
 use Rattle.session_cli.specs.Whole.{HasCalled}
@@ -17,7 +18,7 @@ OneText = (entry : Entry) (text other : List ℕ) → HasText entry text → Has
 
 -- a command has at most one proper outcome
 abbrev pub OneOutcome : Type 0
-OneOutcome = (limit : ℕ) (ledger : Ledger) (text : List ℕ) (shown : Bool) (answer other : Answer) → Outcome limit ledger text shown answer → Outcome limit ledger text shown other → answer ≡ other
+OneOutcome = (limit : ℕ) (ledger : Ledger) (text : List ℕ) (answer other : Answer) → Outcome limit ledger text answer → Outcome limit ledger text other → answer ≡ other
 
 -- the run was through, and neither the store nor memory refused a command
 abbrev pub IsClean : Status → Type 0

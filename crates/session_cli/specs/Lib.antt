@@ -1,13 +1,16 @@
 -- Definitions that the contracts cite, in reading order.
 pub mod Codes
 pub mod Words
-pub mod BaseSystems
+pub mod Checks
 pub mod Tracks
 pub mod Trees
+pub mod Named
 pub mod Texts
 pub mod TrackSteps
-pub mod Lines
+pub mod Accepting
+pub mod RegOutcomes
 pub mod Outcomes
+pub mod Lines
 pub mod Views
 pub mod Runs
 pub mod Whole

@@ -1,5 +1,5 @@
--- The lines of steps, and of refused commands.
-use Rattle.std.specs.Prelude.{ℕ, suc, Bool, true, false, List, [], ◌∷◌, ◌++◌, codes, decimal}
+-- The lines of steps, of verdicts and of refused commands.
+use Rattle.std.specs.Prelude.{ℕ, suc, Bool, true, false, List, [], ◌∷◌, ◌++◌, Option, None, Some, codes, decimal}
 use Rattle.digit_tuple.specs.Kinds.{kind_name}
 use Rattle.digit_tuple.specs.declared.steps.StepLine.{StepLine}
 use Rattle.wal_outside.specs.Folders.{folder_text}
@@ -7,6 +7,7 @@ use Rattle.session_cli.specs.declared.fault.Part.{Part}
 use Rattle.session_cli.specs.declared.fault.Part.TheVariants as parts
 use Rattle.session_cli.specs.declared.fault.Fault.{Fault}
 use Rattle.session_cli.specs.declared.fault.Fault.TheVariants as faults
+use Rattle.session_cli.specs.Accepting.{Success}
 
 -- the line of a step with its number: its kind, its width, and the number of states of its result
 abbrev pub step_line : ℕ → StepLine → List ℕ
@@ -21,6 +22,16 @@ step_lines number (step ∷ steps) = step_line number step ++ step_lines (suc nu
 abbrev pub shown_steps : Bool → List StepLine → List ℕ
 shown_steps true steps = step_lines 1 steps
 shown_steps false steps = []
+
+-- what is printed of a verdict
+abbrev pub verdict_line : Option Bool → List ℕ
+verdict_line None = []
+verdict_line (Some true) = codes "TRUE\n"
+verdict_line (Some false) = codes "FALSE\n"
+
+-- what is printed of an accepted command
+abbrev pub success_text : Bool → Success → List ℕ
+success_text shown success = shown_steps shown success.lines ++ verdict_line success.verdict
 
 abbrev pub part_name : Part → List ℕ
 part_name parts.Command = codes "command"

@@ -1,5 +1,5 @@
 -- A run: how each item of a script is answered, and what that makes of the ledger and the store.
-use Rattle.std.specs.Prelude.{◌≡◌, ℕ, ◌≤◌, Bool, true, false, ◌||◌, if◌then◌else◌, List, [], ◌∷◌, ◌++◌, Option, None, Some, Ok, Err, ⊤, IsTrue}
+use Rattle.std.specs.Prelude.{◌≡◌, ◌⊎◌, ℕ, ◌≤◌, Bool, true, false, ◌||◌, if◌then◌else◌, List, [], ◌∷◌, ◌++◌, Option, None, Some, Ok, Err, ⊤, IsTrue}
 use Rattle.std.specs.Option.{option_map}
 use Rattle.wal_outside.specs.Causes.{Rose}
 use Rattle.wal_outside.specs.Files.{Files, put}
@@ -11,19 +11,22 @@ use Rattle.session_cli.specs.declared.status.Status.{Status}
 use Rattle.session_cli.specs.declared.status.Status.TheVariants as status
 use Rattle.session_cli.specs.Trees.{Ledger, ledger_of}
 use Rattle.session_cli.specs.Texts.{HasText, Stores}
-use Rattle.session_cli.specs.Outcomes.{Success, Answer, after, Outcome, OpenOutcome}
+use Rattle.session_cli.specs.Checks.{Check, Fails}
+use Rattle.session_cli.specs.Accepting.{Success, Answer, after}
+use Rattle.session_cli.specs.Outcomes.{checks_of, OpenOutcome}
 use Rattle.wal_outside.specs.Views.{StoreView}
-use Rattle.session_cli.specs.Lines.{fault_line}
+use Rattle.session_cli.specs.Lines.{success_text, fault_line}
 
--- A command's answer is its proper outcome. Or the write of what it makes failed; or memory ran out.
-abbrev pub IsAnswer : ℕ → Ledger → List ℕ → Bool → Answer → Type 0
-IsAnswer limit ledger text shown (Err (faults.Store folder name)) = (success : Success) × Outcome limit ledger text shown (Ok success) × (folder ≡ success.folder) × (name ≡ success.name)
-IsAnswer limit ledger text shown (Err faults.Memory) = ⊤
-IsAnswer limit ledger text shown answer = Outcome limit ledger text shown answer
+-- A command's answer is what its checks answer. Or the store failed at a file that they read, or at the one of what the command makes; or
+-- memory ran out.
+abbrev pub IsAnswer : Check Success → Answer → Type 0
+IsAnswer checks (Ok success) = checks.answers (Ok success)
+IsAnswer checks (Err (faults.Store folder name)) = checks.reads (folder, name) ⊎ ((success : Success) × checks.answers (Ok success) × (folder ≡ success.folder) × (name ≡ success.name))
+IsAnswer checks (Err fault) = Fails checks fault
 
 -- the answer of an item, by how it ended
 abbrev pub IsAnswerOf : ℕ → Ended → Ledger → List ℕ → Answer → Type 0
-IsAnswerOf limit (Terminated shown) ledger text answer = IsAnswer limit ledger text shown answer
+IsAnswerOf limit (Terminated shown) ledger text answer = IsAnswer (checks_of limit ledger text) answer
 IsAnswerOf limit Unterminated ledger text answer = OpenOutcome text answer
 IsAnswerOf limit PastLimit ledger text answer = answer ≡ Err faults.ScriptLimit
 
@@ -52,9 +55,16 @@ abbrev pub failed_after : Option (Option Place) → Answer → Option (Option Pl
 failed_after old (Err (faults.Store folder name)) = option_map (λ _. Some (folder, name)) old
 failed_after old _ = old
 
+-- where the store tells its files, a command is answered by the ledger, and else by some ledger
+abbrev pub IsKnownLedger : Option Files → Ledger → Ledger → Type 0
+IsKnownLedger None ledger known = ⊤
+IsKnownLedger (Some files) ledger known = known ≡ ledger
+
 -- One item: it has this answer, and the store was so and is so now. A store fault comes only where the store's count of faults rose.
 pub record Answers (limit : ℕ) (ledger : Ledger) (old : StoreView) (item : Item) (answer : Answer) (new : StoreView) : Type 0 where
-  pub answered : IsAnswerOf limit item.ended ledger item.text answer
+  pub known : Ledger
+  pub known_is : IsKnownLedger old.files ledger known
+  pub answered : IsAnswerOf limit item.ended known item.text answer
   pub files : Changes old.files answer new.files
   pub later : old.faults ≤ new.faults
   pub cause : IsTrue (of_fault is_store_fault answer) → Rose old.faults new.faults
@@ -77,9 +87,15 @@ abbrev pub StoresTold : Ledger → Option Files → Type 0
 StoresTold ledger None = ⊤
 StoresTold ledger (Some files) = Stores ledger files
 
+-- whether the steps of an item are shown
+abbrev pub is_shown : Ended → Bool
+is_shown (Terminated shown) = shown
+is_shown Unterminated = false
+is_shown PastLimit = false
+
 -- what is printed of an item
 abbrev pub line_of : Item → Answer → List ℕ
-line_of item (Ok success) = success.shown
+line_of item (Ok success) = success_text (is_shown item.ended) success
 line_of item (Err fault) = fault_line item.line fault
 
 abbrev pub printed : List Item → List Answer → List ℕ

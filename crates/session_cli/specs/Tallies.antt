@@ -3,7 +3,7 @@ use Rattle.std.specs.Prelude.{◌≡◌, true, ◌||◌, List, Result, Ok, Err}
 use Rattle.session_cli.specs.declared.fault.Fault.{Fault}
 use Rattle.session_cli.specs.declared.tally.Tally.{Tally}
 use Rattle.session_cli.specs.declared.status.Status.{Status}
-use Rattle.session_cli.specs.Outcomes.{Answer}
+use Rattle.session_cli.specs.Accepting.{Answer}
 use Rattle.session_cli.specs.Runs.{is_store_fault, is_memory_fault, of_fault, is_refusal, some_of, status_by}
 
 -- one refusal more

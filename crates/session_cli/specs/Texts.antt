@@ -12,7 +12,7 @@ use Rattle.dfa_text.specs.RelationText.{relation_text}
 use Rattle.wal_outside.specs.Files.{Files}
 use Rattle.reg_steps.specs.RegexSteps.{IsRegexAutomaton}
 use Rattle.reg_steps.specs.Relations.{IsRelation}
-use Rattle.session_cli.specs.Tracks.{Tracks, OverSets, OverBases, letter_sets, header_of, bases}
+use Rattle.session_cli.specs.Tracks.{NamedSystem, systems_of, Tracks, OverSets, OverSystems, letter_sets, header_of}
 use Rattle.session_cli.specs.Trees.{Tree, File, Regex, Entry, Bytes, Defined, Ledger}
 
 -- The text of an expression over sets. As a file it accepts exactly the words over the sets that the expression matches; it is the text of
@@ -23,17 +23,17 @@ pub record IsRegexText (sets : List (List ℤ)) (expression : Expression (List �
   pub of_regex : IsRegexAutomaton sets expression automaton
   pub text_is : text ≡ relation_text (headers.Sets sets) automaton
 
--- The text of an expression over bases: that of the canonical automaton of the spellings of the tuples of numbers of which some spelling
+-- The text of an expression over systems: that of the canonical automaton of the spellings of the tuples of numbers of which some spelling
 -- matches.
-pub record IsSpelledText (direction : Direction) (ks : List ℕ) (expression : Expression (List ℤ)) (text : List ℕ) : Type 0 where
+pub record IsSpelledText (way : Direction) (named : List NamedSystem) (expression : Expression (List ℤ)) (text : List ℕ) : Type 0 where
   pub automaton : Automaton
-  pub of_relation : IsRelation direction (bases ks) (letter_sets (OverBases direction ks)) expression automaton
-  pub text_is : text ≡ relation_text (header_of (OverBases direction ks)) automaton
+  pub of_relation : IsRelation way (systems_of named) (letter_sets (OverSystems way named)) expression automaton
+  pub text_is : text ≡ relation_text (header_of (OverSystems way named)) automaton
 
 -- the text of an expression over tracks
 abbrev pub IsTrackText : Tracks → Expression (List ℤ) → List ℕ → Type 0
 IsTrackText (OverSets sets) expression text = IsRegexText sets expression text
-IsTrackText (OverBases direction ks) expression text = IsSpelledText direction ks expression text
+IsTrackText (OverSystems way named) expression text = IsSpelledText way named expression text
 
 -- the text of a definition
 abbrev pub HasTreeText : Tree → List ℕ → Type 0

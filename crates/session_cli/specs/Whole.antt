@@ -11,7 +11,7 @@ use Rattle.session_cli.specs.declared.status.Status.{Status}
 use Rattle.session_cli.specs.declared.status.Status.TheVariants as status
 use Rattle.session_cli.specs.Words.{GivesLimit, GivesNone}
 use Rattle.session_cli.specs.Trees.{Ledger}
-use Rattle.session_cli.specs.Outcomes.{Answer}
+use Rattle.session_cli.specs.Accepting.{Answer}
 use Rattle.session_cli.specs.Views.{IsTold}
 use Rattle.session_cli.specs.Runs.{Run, first_ledger, StoresTold, line_of, printed, status_of}
 

@@ -7,32 +7,32 @@ ghost use Rattle.session_cli.specs.Runs.{StoresTold};
 ghost use Rattle.session_cli.specs.Handing.{HasAnswered, result_text};
 ghost use Rattle.session_cli.specs.Whole.{stop_status as status_of_stop};
 
-use crate::answer::Answer;
 use crate::fault::Fault;
 use crate::lines::send_fault;
+use crate::printed::Printed;
 use crate::session::Session;
 use crate::status::Status;
 use crate::tally::Tally;
 use std::alloc::Global;
 use wal_outside::{Sink, Store, WriteFault, send};
 
-/// Hands over what a command prints that begins on `line`, and counts its result: the bytes of its answer, or the line of its
-/// fault.
+/// Hands over what a command prints that begins on `line`, and counts its result: the bytes that it prints, or the line
+/// of its fault.
 ///
 /// # Errors
 /// As `send`: what was appended is a front of that.
 pub(crate) fn hand_over<K: Sink>(
     out: &mut K,
     line: u64,
-    answer: &Answer,
+    printed: &Printed,
     answered: &Result<(), Fault>,
     tally: &mut Tally,
 ) -> Result<(), WriteFault>
-    ensures sent { Sends (K.view out.old) (result_text line answer.now answered.now) result (K.view out.new) }
+    ensures sent { Sends (K.view out.old) (result_text line printed.now answered.now) result (K.view out.new) }
     ensures counts { AddsResult tally.old answered.now tally.new }
 {
     match answered {
-        Ok(()) => send(out, answer.bytes()),
+        Ok(()) => send(out, printed.bytes()),
         Err(fault) => hand_over_fault(out, line, fault, tally),
     }
 }
@@ -72,9 +72,9 @@ pub(crate) fn answer_command<K: Sink, T: Store>(
     ensures answered { (ledger : Ledger) → StoresTold ledger (T.view store.old).files → HasAnswered session.old.limit ledger (T.view store.old) text.now shown line (K.view out.old) tally.old result
         (T.view store.new) (K.view out.new) tally.new }
 {
-    let mut answer = Answer::new(alloc);
-    let answered = session.command(alloc, text, shown, store, &mut answer);
-    hand_over(out, line, &answer, &answered, tally)
+    let mut printed = Printed::new(alloc);
+    let answered = session.command(alloc, text, shown, store, &mut printed);
+    hand_over(out, line, &printed, &answered, tally)
 }
 
 /// How a run ends that the sink stopped.

@@ -1,23 +1,24 @@
-ghost use Rattle.std.specs.Prelude.{◌≡◌, ◌≢◌, ◌<◌, ℕ, length, map, slice_index_or, IfSome, IfOk, IsNone, MatchOption, MatchResult, decimal};
-ghost use Rattle.std.specs.List.{All, AllByRecursion};
+//! The systems of tracks, by their names.
+ghost use Rattle.std.specs.Prelude.{◌≡◌, ◌<◌, length, map, IfOk, MatchOption, MatchResult};
+ghost use Rattle.std.specs.List.{All};
 ghost use Rattle.std.specs.Rc.{rc_value};
 ghost use Rattle.reg_steps.specs.Relations.{AreSystemLanguages};
-ghost use Rattle.session_cli.specs.BaseSystems.{base_name, base_tracks, IsBase, IsKnown};
-ghost use Rattle.session_cli.specs.Tracks.{bases};
-ghost use Rattle.session_cli.specs.Bases.{AreNamed, IsUnknown, AreBasesOf, AreRefusedNames, IsFirstApart, IsIn, digits_in, name_of};
+ghost use Rattle.system_names.specs.Names.{IsBuiltInName};
+ghost use Rattle.session_cli.specs.Tracks.{header_tracks, systems_of};
+ghost use Rattle.session_cli.specs.Bases.{AreNames, IsUnknown, AreBasesOf, AreRefusedNames, IsFirstApart, IsIn, named_in, name_of};
 
 use crate::fault::Fault;
-use base_k::base_k::{BaseK, GREATEST_BASE, LEAST_BASE};
+use base_k::base_k::BaseK;
 use digit_tuple::dfa::Dfa;
 use digit_tuple::direction::Direction;
 use digit_tuple::faults::OutOfMemory;
 use digit_tuple::name::Name;
 use digit_tuple::systems::Systems;
-use itoa::Buffer;
 use minimise::canonical::canonical;
 use numeration::num_system::NumSystem;
 use std::alloc::Global;
 use std::rc::Rc;
+use system_names::built_in;
 
 /// The systems of tracks, all read in one direction.
 #[derive(Drop)]
@@ -49,7 +50,7 @@ impl Bases {
     /// The tracks of a header over the systems.
     pub(crate) fn tracks(&self, alloc: Global, names: &[Name]) -> Result<Systems, OutOfMemory>
         requires { AreBasesOf names.now self.now }
-        ensures { IfOk result (λ systems. systems ≡ base_tracks self.now.direction (digits_in self.now.systems.items)) }
+        ensures { IfOk result (λ systems. systems ≡ header_tracks (named_in self.now.systems.items)) }
     {
         let mut tracks = Systems::new(alloc);
         for (place, system) in self.systems.iter().enumerate() {
@@ -61,7 +62,7 @@ impl Bases {
     /// The canonical language of each system.
     pub(crate) fn languages(&self, alloc: Global) -> Result<Vec<Rc<Dfa>>, OutOfMemory>
         requires { All (IsIn self.now.direction) self.now.systems.items }
-        ensures { IfOk result (λ languages. AreSystemLanguages self.now.direction (bases (digits_in self.now.systems.items)) (map rc_value languages.items)) }
+        ensures { IfOk result (λ languages. AreSystemLanguages self.now.direction (systems_of (named_in self.now.systems.items)) (map rc_value languages.items)) }
     {
         let mut languages = Vec::new(alloc);
         for system in &self.systems {
@@ -74,7 +75,7 @@ impl Bases {
 
 // The system of each name.
 fn known_bases(alloc: Global, names: &[Name]) -> Result<Vec<BaseK>, Fault>
-    ensures { MatchResult result (λ systems. AreNamed names.now systems.items) (IsUnknown names.now) }
+    ensures { MatchResult result (λ systems. AreNames names.now systems.items) (IsUnknown names.now) }
 {
     let mut systems = Vec::new(alloc);
     for name in names {
@@ -100,31 +101,8 @@ fn other_direction(systems: &[BaseK], direction: Direction) -> Option<usize>
 
 // The base of this name.
 fn base_of(name: &Name) -> Option<BaseK>
-    ensures { MatchOption result (¬ IsKnown name.now) (λ system. name.now ≡ name_of system) }
+    ensures { MatchOption result (¬ IsBuiltInName name.now) (λ system. name.now ≡ name_of system) }
 {
-    let bytes = name.as_bytes();
-    if bytes.len() < 4 {
-        return None;
-    }
-    let (front, digits) = bytes.split_at(4);
-    if front == b"msd_".as_slice() {
-        base_by_digits(digits, Direction::Msd)
-    } else if front == b"lsd_".as_slice() {
-        base_by_digits(digits, Direction::Lsd)
-    } else {
-        None
-    }
-}
-
-// The base that these digits name.
-fn base_by_digits(digits: &[u8], direction: Direction) -> Option<BaseK>
-    ensures found { IfSome result (λ system. (system.direction ≡ direction) × (digits.now ≡ decimal system.base)) }
-    ensures missing { IsNone result → (k : ℕ) → IsBase k → digits.now ≢ decimal k }
-{
-    for base in LEAST_BASE..GREATEST_BASE + 1 {
-        if Buffer::new().format(base).as_bytes() == digits {
-            return BaseK::new(base, direction);
-        }
-    }
-    None
+    let system = built_in(name.as_bytes())?;
+    BaseK::new(system.digits, system.direction)
 }

@@ -8,11 +8,17 @@ mod fault;
 // the lines of refused commands
 mod lines;
 // what a command prints
-mod answer;
+mod printed;
+// what an accepted command leaves
+mod plan;
 // the systems of tracks, by their names
 mod bases;
 // the expression of a command: its steps and its text
 mod regexes;
+// the words with which commands begin
+mod command_word;
+// the command `reg`
+mod reg;
 // what a command stores and prints, from its text
 mod planning;
 // one command
@@ -30,9 +36,9 @@ mod whole;
 // what holds of all runs
 mod laws;
 
-pub use answer::Answer;
 pub use fault::{Fault, Part};
 pub use laws::{one_outcome, one_run, store_faults_counted};
+pub use printed::Printed;
 pub use session::Session;
 pub use status::Status;
 pub use whole::run;

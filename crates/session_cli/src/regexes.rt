@@ -1,14 +1,17 @@
-ghost use Rattle.std.specs.Prelude.{◌≡◌, MatchResult};
+//! The expression of a command: its steps and its text.
+ghost use Rattle.std.specs.Prelude.{◌≡◌, ℕ, List};
 ghost use Rattle.digit_tuple.specs.Headers.{sets_of};
 ghost use Rattle.digit_tuple.specs.Sets.{sizes_of};
 ghost use Rattle.dfa_text.specs.Meaning.{AreTrackSets};
-ghost use Rattle.session_cli.specs.Bases.{AreBasesOf, digits_in};
-ghost use Rattle.session_cli.specs.Plans.{ParsesTo, PlansRegex, Prints};
-ghost use Rattle.session_cli.specs.Tracks.{OverBases, OverSets};
+ghost use Rattle.session_cli.specs.Bases.{AreBasesOf, named_in};
+ghost use Rattle.session_cli.specs.RegOutcomes.{after_tracks};
+ghost use Rattle.session_cli.specs.Plans.{Makes, ParsesTo, Prints};
+ghost use Rattle.session_cli.specs.Tracks.{OverSystems, OverSets};
 
-use crate::answer::Answer;
 use crate::bases::Bases;
 use crate::fault::{Fault, Part};
+use crate::plan::Made;
+use crate::printed::Printed;
 use dfa_text::print_relation;
 use digit_tuple::dfa::Dfa;
 use digit_tuple::header::Header;
@@ -23,15 +26,6 @@ use regex_build::regex::Regex;
 use std::alloc::Global;
 use wal_outside::TEXT_LIMIT;
 
-/// What an accepted command stores, and what it prints.
-#[derive(Drop)]
-pub(crate) struct Made {
-    /// The text.
-    pub(crate) stored: Vec<u8>,
-    /// What the command prints.
-    pub(crate) answer: Answer,
-}
-
 /// What is made of the expression in a quoted text over sets, by the step `regex`.
 pub(crate) fn regex_over(
     alloc: Global,
@@ -41,13 +35,13 @@ pub(crate) fn regex_over(
     shown: bool,
 ) -> Result<Made, Fault>
     requires sets { AreTrackSets sets }
-    ensures { PlansRegex limit (OverSets sets) body.now shown result }
+    ensures { (name : List ℕ) → Makes (after_tracks limit name body.now (OverSets sets)) shown result }
 {
     let header = Header::Sets(sets);
     let regex = parsed(alloc, body, &header)?;
     let mut steps = Steps::new(alloc, limit);
     let automaton = regex_step(alloc, &regex, &mut steps)?;
-    printed(alloc, &header, &automaton, &steps, shown)
+    made_of(alloc, &header, &automaton, &steps, shown)
 }
 
 /// What is made of the expression in a quoted text over systems, by the steps `regex`, `pad` and `valid`.
@@ -60,14 +54,14 @@ pub(crate) fn regex_over_bases(
     shown: bool,
 ) -> Result<Made, Fault>
     requires { AreBasesOf names.now bases.now }
-    ensures { PlansRegex limit (OverBases bases.now.direction (digits_in bases.now.systems.items)) body.now shown result }
+    ensures { (name : List ℕ) → Makes (after_tracks limit name body.now (OverSystems bases.now.direction (named_in bases.now.systems.items))) shown result }
 {
     let header = Header::Systems(bases.tracks(alloc, names)?);
     let regex = parsed(alloc, body, &header)?;
     let languages = bases.languages(alloc)?;
     let mut steps = Steps::new(alloc, limit);
     let relation = relation_steps(alloc, &regex, bases.direction, &languages, &mut steps)?;
-    printed(alloc, &header, relation.dfa(), &steps, shown)
+    made_of(alloc, &header, relation.dfa(), &steps, shown)
 }
 
 /// The expression in a quoted text.
@@ -84,7 +78,7 @@ fn parsed(alloc: Global, body: &[u8], header: &Header) -> Result<Regex, Fault>
 }
 
 /// The text of an automaton, and what is printed of the steps.
-fn printed(
+fn made_of(
     alloc: Global,
     header: &Header,
     automaton: &Dfa,
@@ -100,6 +94,6 @@ fn printed(
     }
     Ok(Made {
         stored,
-        answer: Answer::of_steps(alloc, steps, shown)?,
+        printed: Printed::of_steps(alloc, steps, shown)?,
     })
 }

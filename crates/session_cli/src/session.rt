@@ -1,12 +1,14 @@
+//! One command after another.
 ghost use Rattle.std.specs.Prelude.{◌≡◌};
 ghost use Rattle.session_cli.specs.Trees.{Ledger};
 ghost use Rattle.session_cli.specs.Runs.{StoresTold};
 ghost use Rattle.session_cli.specs.Views.{SessionView};
 ghost use Rattle.session_cli.specs.Commands.{Commands, WritesPlan};
 
-use crate::answer::Answer;
 use crate::fault::Fault;
-use crate::planning::{Plan, plan_of};
+use crate::plan::Plan;
+use crate::planning::plan_of;
+use crate::printed::Printed;
 use digit_tuple::name::Name;
 use std::alloc::Global;
 use std::marker::Model;
@@ -32,41 +34,41 @@ impl Session {
         Session { limit }
     }
 
-    /// Answers one command. Where it is accepted, its text was stored, and `answer` has what it prints: a line for each step
-    /// where these are `shown`. What `answer` held before is let go.
+    /// Answers one command. Where it is accepted, its text was stored, and `printed` has what it prints: a line for each step
+    /// where these are `shown`, and the verdict, where it is about a sentence. What `printed` held before is let go.
     ///
     /// # Errors
-    /// The first fault that refuses it, or `Memory`; the store's texts are as before, and `answer` is empty.
+    /// The first fault that refuses it, or `Memory`; the store's texts are as before, and `printed` is empty.
     pub fn command<T: Store>(
         &mut self,
         alloc: Global,
         text: &[u8],
         shown: bool,
         store: &mut T,
-        answer: &mut Answer,
+        printed: &mut Printed,
     ) -> Result<(), Fault>
         ensures session { self.new ≡ self.old }
-        ensures command { (ledger : Ledger) → StoresTold ledger (T.view store.old).files → Commands self.old.limit ledger (T.view store.old) text.now shown result answer.new (T.view store.new) }
+        ensures command { (ledger : Ledger) → StoresTold ledger (T.view store.old).files → Commands self.old.limit ledger (T.view store.old) text.now shown result printed.new (T.view store.new) }
     {
-        answer.clear();
+        printed.clear();
         let plan = plan_of(alloc, self.limit, text, shown)?;
-        let Plan { name, made } = plan;
-        write_text(name, &made.stored, store)?;
-        *answer = made.answer;
+        let Plan { folder, name, made } = plan;
+        write_text(folder, name, &made.stored, store)?;
+        *printed = made.printed;
         Ok(())
     }
 }
 
-/// Stores a text under a name among the automata.
+/// Stores a text under a name in a folder.
 ///
 /// # Errors
 /// `Store` where the store failed, and `Memory` where it had none; the store's texts are as before.
-fn write_text<T: Store>(name: Name, text: &[u8], store: &mut T) -> Result<(), Fault>
-    ensures { WritesPlan (T.view store.old) name text.now result (T.view store.new) }
+fn write_text<T: Store>(folder: Folder, name: Name, text: &[u8], store: &mut T) -> Result<(), Fault>
+    ensures { WritesPlan (T.view store.old) (folder, name) text.now result (T.view store.new) }
 {
-    match store.write(Folder::Automata, name.as_str(), text) {
+    match store.write(folder, name.as_str(), text) {
         Ok(()) => Ok(()),
-        Err(WriteFault::Failed) => Err(Fault::Store(Folder::Automata, name)),
+        Err(WriteFault::Failed) => Err(Fault::Store(folder, name)),
         Err(WriteFault::Memory) => Err(Fault::Memory),
     }
 }

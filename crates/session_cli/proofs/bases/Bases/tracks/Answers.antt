@@ -1,24 +1,23 @@
 use Rattle.std.proofs.Common.{◌≡◌, ◌∙◌, ◌+◌, ◌<◌, [], ◌∷◌, ◌++◌, length, take, get_or, ap, sym, arith}
 use Rattle.std.proofs.lemmas.List.{take_more}
 use Rattle.digit_tuple.specs.declared.systems.SystemTrack.{SystemTrack}
-use Rattle.session_cli.specs.BaseSystems.{base_name, base_tracks}
-use Rattle.session_cli.specs.Bases.{digits_in}
+use Rattle.session_cli.specs.Tracks.{header_tracks}
+use Rattle.session_cli.specs.Bases.{name_of, named_in}
 use Rattle.session_cli.proofs.BaseSteps.{tracks_push, name_at}
 use Rattle.session_cli.proofs.bases.Bases.tracks.Goals as goal
 
 pub loop-place-preserved : goal.loop-place-preserved
 loop-place-preserved c =
-    let d = c.args.self.now.direction in
     let items = c.args.self.now.systems.items in
     let i = c.loop-place.place in
     let s = c.system-item.result in
     let within : i < length items = omega (arith, c.loop-place-test.true, ap length c.deref-system-items.ensures.value) in
     let is : s ≡ get_or items i s = c.system-item.is ∙ ap (λ xs. get_or xs i s) c.deref-system-items.ensures.value in
     let front : take (i + 1) items ≡ take i items ++ s ∷ [] = take_more items i s within ∙ ap (λ x. take i items ++ x ∷ []) (sym is) in
-    let named : c.in_ok-copy.field-0 ≡ base_name d s.base =
-    c.in_ok-copy.ensures ∙ c.index-names-place.is ∙ ap (λ ns. get_or ns i c.index-names-place.result) c.requires.names_are ∙ name_at d items i s c.index-names-place.result within is in
+    let named : c.in_ok-copy.field-0 ≡ name_of s =
+    c.in_ok-copy.ensures ∙ c.index-names-place.is ∙ ap (λ ns. get_or ns i c.index-names-place.result) c.requires.names_are ∙ name_at items i s c.index-names-place.result within is in
     c.in_ok-push.ensures.ok
     ∙ ap (λ ts. ts ++ (let t : SystemTrack = record { name = c.in_ok-copy.field-0; digits = s.base } in t) ∷ []) c.loop-place.invariant
-    ∙ ap (λ n. base_tracks d (digits_in (take i items)) ++ (let t : SystemTrack = record { name = n; digits = s.base } in t) ∷ []) named
-    ∙ sym (tracks_push d (take i items) s)
-    ∙ ap (λ xs. base_tracks d (digits_in xs)) (sym front)
+    ∙ ap (λ n. header_tracks (named_in (take i items)) ++ (let t : SystemTrack = record { name = n; digits = s.base } in t) ∷ []) named
+    ∙ sym (tracks_push (take i items) s)
+    ∙ ap (λ xs. header_tracks (named_in xs)) (sym front)

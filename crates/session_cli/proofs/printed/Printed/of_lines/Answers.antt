@@ -1,7 +1,7 @@
 use Rattle.std.proofs.Common.{ℕ, ◌+◌, List, ◌++◌, sym, ap, ◌∙◌}
 use Rattle.session_cli.specs.Lines.{step_line}
 use Rattle.session_cli.proofs.StepLines.{one_line_more}
-use Rattle.session_cli.proofs.answer.Answer.of_lines.Goals as goal
+use Rattle.session_cli.proofs.printed.Printed.of_lines.Goals as goal
 
 pub loop-number-preserved : goal.loop-number-preserved
 loop-number-preserved c =

@@ -7,24 +7,24 @@ use itoa::Buffer;
 use std::alloc::Global;
 use std::marker::Model;
 
-/// What the answer of a command prints.
+/// What a command prints.
 #[derive(Drop)]
-pub struct Answer {
+pub struct Printed {
     bytes: Vec<u8>,
 }
 
-impl Model for Answer {
+impl Model for Printed {
     ghost Value = { List ℕ };
 
-    ghost view = { λ answer. answer.bytes.items };
+    ghost view = { λ printed. printed.bytes.items };
 }
 
-impl Answer {
+impl Printed {
     /// No bytes. It takes no memory.
     pub fn new(alloc: Global) -> Self
         ensures { result ≡ [] }
     {
-        Answer {
+        Printed {
             bytes: Vec::new(alloc),
         }
     }
@@ -45,24 +45,24 @@ impl Answer {
 
     /// What is printed of the steps: a line for each, where they are shown.
     pub(crate) fn of_steps(alloc: Global, steps: &Steps, shown: bool) -> Result<Self, OutOfMemory>
-        ensures { IfOk result (λ answer. answer ≡ shown_steps shown steps.now.lines) }
+        ensures { IfOk result (λ printed. printed ≡ shown_steps shown steps.now.lines) }
     {
         if shown {
-            Answer::of_lines(alloc, steps)
+            Printed::of_lines(alloc, steps)
         } else {
-            Ok(Answer::new(alloc))
+            Ok(Printed::new(alloc))
         }
     }
 
     /// A line for each of the steps.
     fn of_lines(alloc: Global, steps: &Steps) -> Result<Self, OutOfMemory>
-        ensures { IfOk result (λ answer. answer ≡ step_lines 1 steps.now.lines) }
+        ensures { IfOk result (λ printed. printed ≡ step_lines 1 steps.now.lines) }
     {
-        let mut answer = Answer::new(alloc);
+        let mut printed = Printed::new(alloc);
         for number in 0..steps.count() {
-            answer.push_step(number + 1, steps.line(number))?;
+            printed.push_step(number + 1, steps.line(number))?;
         }
-        Ok(answer)
+        Ok(printed)
     }
 
     /// Adds the line of a step.

@@ -1,0 +1,78 @@
+-- Checks one after another: they have one answer, and what refuses a check refuses all of them.
+use Rattle.std.proofs.Common.{◌≡◌, Bool, List, Result, Ok, Err, MatchResult, sym, ◌∙◌, subst, inl, inr}
+use Rattle.session_cli.specs.declared.fault.Fault.{Fault}
+use Rattle.session_cli.specs.declared.fault.Fault.TheVariants as faults
+use Rattle.session_cli.specs.declared.plan.Made.{Made}
+use Rattle.session_cli.specs.declared.plan.Plan.{Plan}
+use Rattle.session_cli.specs.Checks.{Check, Then, Fails}
+use Rattle.session_cli.specs.Accepting.{Success}
+use Rattle.session_cli.specs.Plans.{IsMade, Makes, IsPlan, Plans}
+
+-- a check answers in one way at most
+abbrev pub IsSingle : {Y : Type 0} → Check Y → Type 0
+IsSingle {Y} c = (r s : Result Y Fault) → c.answers r → c.answers s → r ≡ s
+
+-- a chain of checks answers in one way, where each of them does after those before it
+module _ {Y Z : Type 0} (first : Check Y) (rest : Y → Check Z) (one : IsSingle first) (each : (y : Y) → first.answers (Ok y) → IsSingle (rest y)) where
+  same_value : (y z : Y) → first.answers (Ok y) → first.answers (Ok z) → y ≡ z
+  same_value y z a b = let e : Ok y ≡ Ok z = one (Ok y) (Ok z) a b in cc
+
+  not_both : (y : Y) (f : Fault) → first.answers (Ok y) → first.answers (Err f) → ⊥
+  not_both y f a b = let e : Ok y ≡ Err f = one (Ok y) (Err f) a b in cc
+
+  same_fault : (f g : Fault) → first.answers (Err f) → first.answers (Err g) → f ≡ g
+  same_fault f g a b = let e : Err f ≡ Err g = one (Err f) (Err g) a b in cc
+
+  pub then_single : IsSingle (Then first rest)
+  then_single (Ok x) (Ok z) (y, a, b) (y', a', b') = let P : Y → Type 0 = λ w. (rest w).answers (Ok z) in each y a (Ok x) (Ok z) b (subst P (same_value y' y a' a) b')
+  then_single (Ok x) (Err f) (y, a, b) (inl refused) = absurd (not_both y f a refused)
+  then_single (Ok x) (Err f) (y, a, b) (inr (y', a', b')) = let P : Y → Type 0 = λ w. (rest w).answers (Err f) in each y a (Ok x) (Err f) b (subst P (same_value y' y a' a) b')
+  then_single (Err f) (Ok z) (inl refused) (y, a, b) = absurd (not_both y f a refused)
+  then_single (Err f) (Ok z) (inr (y, a, b)) (y', a', b') = let P : Y → Type 0 = λ w. (rest w).answers (Ok z) in each y a (Err f) (Ok z) b (subst P (same_value y' y a' a) b')
+  then_single (Err f) (Err g) (inl refused) (inl refused') = let e : f ≡ g = same_fault f g refused refused' in cc
+  then_single (Err f) (Err g) (inl refused) (inr (y, a, b)) = absurd (not_both y f a refused)
+  then_single (Err f) (Err g) (inr (y, a, b)) (inl refused) = absurd (not_both y g a refused)
+  then_single (Err f) (Err g) (inr (y, a, b)) (inr (y', a', b')) = let P : Y → Type 0 = λ w. (rest w).answers (Err g) in each y a (Err f) (Err g) b (subst P (same_value y' y a' a) b')
+
+-- what refuses the first check refuses all
+pub fails_first : {Y Z : Type 0} (first : Check Y) (rest : Y → Check Z) (f : Fault) → Fails first f → Fails (Then first rest) f
+fails_first first rest (faults.Store folder name) refused = inl refused
+fails_first first rest faults.Memory refused = tt
+fails_first first rest faults.Command refused = inl refused
+fails_first first rest (faults.Syntax part at) refused = inl refused
+fails_first first rest (faults.Number part at) refused = inl refused
+fails_first first rest (faults.Depth part at) refused = inl refused
+fails_first first rest (faults.Long bytes) refused = inl refused
+fails_first first rest (faults.SystemUnknown name) refused = inl refused
+fails_first first rest (faults.Direction one other) refused = inl refused
+fails_first first rest (faults.Letters step) refused = inl refused
+fails_first first rest (faults.States step) refused = inl refused
+fails_first first rest faults.ScriptLimit refused = inl refused
+
+-- and so does what refuses those after it
+pub fails_after : {Y Z : Type 0} (first : Check Y) (rest : Y → Check Z) (y : Y) (f : Fault) → first.answers (Ok y) → Fails (rest y) f → Fails (Then first rest) f
+fails_after first rest y (faults.Store folder name) passed refused = inr (y, passed, refused)
+fails_after first rest y faults.Memory passed refused = tt
+fails_after first rest y faults.Command passed refused = inr (y, passed, refused)
+fails_after first rest y (faults.Syntax part at) passed refused = inr (y, passed, refused)
+fails_after first rest y (faults.Number part at) passed refused = inr (y, passed, refused)
+fails_after first rest y (faults.Depth part at) passed refused = inr (y, passed, refused)
+fails_after first rest y (faults.Long bytes) passed refused = inr (y, passed, refused)
+fails_after first rest y (faults.SystemUnknown name) passed refused = inr (y, passed, refused)
+fails_after first rest y (faults.Direction one other) passed refused = inr (y, passed, refused)
+fails_after first rest y (faults.Letters step) passed refused = inr (y, passed, refused)
+fails_after first rest y (faults.States step) passed refused = inr (y, passed, refused)
+fails_after first rest y faults.ScriptLimit passed refused = inr (y, passed, refused)
+
+-- what the checks after the first make all of them make
+pub makes_after : {Y : Type 0} (first : Check Y) (rest : Y → Check Success) (y : Y) (shown : Bool) (r : Result Made Fault) → first.answers (Ok y) → Makes (rest y) shown r → Makes (Then first rest) shown r
+makes_after first rest y shown (Ok made) passed m = record { success = m.success; answers = (y, passed, m.answers); has_text = m.has_text; printed_is = m.printed_is }
+makes_after first rest y shown (Err f) passed refused = fails_after first rest y f passed refused
+
+pub plans_after : {Y : Type 0} (first : Check Y) (rest : Y → Check Success) (y : Y) (shown : Bool) (r : Result Plan Fault) → first.answers (Ok y) → Plans (rest y) shown r → Plans (Then first rest) shown r
+plans_after first rest y shown (Ok plan) passed p = record {
+  made = record { success = p.made.success; answers = (y, passed, p.made.answers); has_text = p.made.has_text; printed_is = p.made.printed_is };
+  folder_is = p.folder_is;
+  name_is = p.name_is;
+}
+plans_after first rest y shown (Err f) passed refused = fails_after first rest y f passed refused

@@ -1,0 +1,115 @@
+-- Names tell their systems, and checks of names have one first fault.
+use Rattle.std.proofs.Common.{◌≡◌, ℕ, zero, suc, ◌<◌, List, [], ◌∷◌, length, map, take, drop, get_or, inl, inr, refl, sym, ap, ◌∙◌, subst, arith}
+use Rattle.std.specs.List.{AllByRecursion}
+use Rattle.std.proofs.lemmas.List.{length-map}
+use Rattle.digit_tuple.specs.declared.direction.Direction.{Direction}
+use Rattle.numeration.specs.Systems.{System}
+use Rattle.base_k.specs.Positional.{base}
+use Rattle.system_names.specs.Names.{IsBuiltInName}
+use Rattle.system_names.proofs.OneSystem.{one_system}
+use Rattle.session_cli.specs.Tracks.{NamedSystem, names_of}
+use Rattle.session_cli.specs.Named.{Custom, IsSystemNamed, IsOf, IsKnown, AreKnown, IsFirstWithout, AreNamed, AreSystemsOf, PartInDirection}
+
+-- what a name means: one direction and one system
+pub one_meaning : (custom : Custom) (name : List ℕ) (way other : Direction) (s r : System) → IsSystemNamed custom name way s → IsSystemNamed custom name other r → (way ≡ other) × (s ≡ r)
+one_meaning custom name way other s r (k, named, is) (n, named', is') =
+    let same = one_system way other k n name named named' in
+    (same.0, is ∙ (ap base same.1 ∙ sym is'))
+
+pub one_direction : (custom : Custom) (way other : Direction) (name : List ℕ) → IsOf custom way name → IsOf custom other name → way ≡ other
+one_direction custom way other name (s, named) (r, named') = (one_meaning custom name way other s r named named').0
+
+-- the names that are known are those of built-in systems
+pub known_of : (custom : Custom) (name : List ℕ) → IsBuiltInName name → IsKnown custom name
+known_of custom name (way, k, named) = (way, (base k, (k, named, refl)))
+
+pub of_known : (custom : Custom) (name : List ℕ) → IsKnown custom name → IsBuiltInName name
+of_known custom name (way, (s, (k, named, is))) = (way, k, named)
+
+pub one_first : (P : List ℕ → Type 0) (names : List (List ℕ)) (a b : List ℕ) → IsFirstWithout P names a → IsFirstWithout P names b → a ≡ b
+one_first P [] a b one other = absurd one
+one_first P (name ∷ names) a b (inl (without, is)) (inl (without', is')) = is ∙ sym is'
+one_first P (name ∷ names) a b (inl (without, is)) (inr (with, rest)) = absurd (without with)
+one_first P (name ∷ names) a b (inr (with, rest)) (inl (without, is)) = absurd (without with)
+one_first P (name ∷ names) a b (inr (with, rest)) (inr (with', rest')) = one_first P names a b rest rest'
+
+-- where all have the property there is no first one without
+pub no_first : (P : List ℕ → Type 0) (names : List (List ℕ)) (a : List ℕ) → AllByRecursion P names → IsFirstWithout P names a → ⊥
+no_first P [] a all first = first
+no_first P (name ∷ names) a all (inl (without, is)) = without all.0
+no_first P (name ∷ names) a all (inr (with, rest)) = no_first P names a all.1 rest
+
+-- and of a property that is the same
+pub first_so : (P Q : List ℕ → Type 0) (names : List (List ℕ)) (a : List ℕ) → ((name : List ℕ) → P name → Q name) → ((name : List ℕ) → Q name → P name) → IsFirstWithout P names a → IsFirstWithout Q names a
+first_so P Q [] a there back first = first
+first_so P Q (name ∷ names) a there back (inl (without, is)) = inl ((λ with. without (back name with)), is)
+first_so P Q (name ∷ names) a there back (inr (with, rest)) = inr (there name with, first_so P Q names a there back rest)
+
+-- the first one without stands where all before have the property
+pub first_at : (P : List ℕ → Type 0) (names : List (List ℕ)) (i : ℕ) (name : List ℕ) → i < length names → name ≡ get_or names i name → AllByRecursion P (take i names) → ¬ P name → IsFirstWithout P names name
+first_at P [] i name within is all without = absurd (omega (arith, within))
+first_at P (n ∷ names) zero name within is all without = inl ((λ with. without (subst P (sym is) with)), is)
+first_at P (n ∷ names) (suc i) name within is all without = inr (all.0, first_at P names i name (omega (arith, within)) is all.1 without)
+
+-- names that mean systems in one direction are of that direction
+pub named_of_direction : (custom : Custom) (way : Direction) (named : List NamedSystem) → AreNamed custom way named → AllByRecursion (IsOf custom way) (names_of named)
+named_of_direction custom way [] are = tt
+named_of_direction custom way (s ∷ named) are = ((s.system, are.0), named_of_direction custom way named are.1)
+
+pub named_known : (custom : Custom) (way : Direction) (named : List NamedSystem) → AreNamed custom way named → AreKnown custom (names_of named)
+named_known custom way [] are = tt
+named_known custom way (s ∷ named) are = ((way, (s.system, are.0)), named_known custom way named are.1)
+
+same_named : (s r : NamedSystem) → s.name ≡ r.name → s.system ≡ r.system → s ≡ r
+same_named s r names systems = λ i. record { name = names i; system = systems i }
+
+same_list : (custom : Custom) (way other : Direction) (named also : List NamedSystem) → AreNamed custom way named → AreNamed custom other also → names_of named ≡ names_of also → named ≡ also
+same_list custom way other [] [] one two same = refl
+same_list custom way other [] (r ∷ also) one two same = let none : 0 ≡ suc (length (names_of also)) = ap (λ (xs : List (List ℕ)). length xs) same in absurd (omega (arith, none))
+same_list custom way other (s ∷ named) [] one two same = let none : suc (length (names_of named)) ≡ 0 = ap (λ (xs : List (List ℕ)). length xs) same in absurd (omega (arith, none))
+same_list custom way other (s ∷ named) (r ∷ also) one two same =
+    let names : s.name ≡ r.name = ap (λ (xs : List (List ℕ)). get_or xs 0 []) same in
+    let P : List ℕ → Type 0 = λ n. IsSystemNamed custom n way s.system in
+    let systems : s.system ≡ r.system = (one_meaning custom r.name way other s.system r.system (subst P names one.0) two.0).1 in
+    ap (λ (x : NamedSystem). x ∷ named) (same_named s r names systems)
+    ∙ ap (λ (xs : List NamedSystem). r ∷ xs) (same_list custom way other named also one.1 two.1 (ap (λ (xs : List (List ℕ)). drop 1 xs) same))
+
+same_way : (custom : Custom) (way other : Direction) (named also : List NamedSystem) → 0 < length named → AreNamed custom way named → AreNamed custom other also → names_of named ≡ names_of also → way ≡ other
+same_way custom way other [] also some one two same = absurd (omega (arith, some))
+same_way custom way other (s ∷ named) [] some one two same = let none : suc (length (names_of named)) ≡ 0 = ap (λ (xs : List (List ℕ)). length xs) same in absurd (omega (arith, none))
+same_way custom way other (s ∷ named) (r ∷ also) some one two same =
+    let names : s.name ≡ r.name = ap (λ (xs : List (List ℕ)). get_or xs 0 []) same in
+    let P : List ℕ → Type 0 = λ n. IsSystemNamed custom n way s.system in
+    (one_meaning custom r.name way other s.system r.system (subst P names one.0) two.0).0
+
+-- names tell the systems of tracks
+pub one_list_of_systems : (custom : Custom) (names : List (List ℕ)) (way other : Direction) (named also : List NamedSystem) → AreSystemsOf custom names way named → AreSystemsOf custom names other also → (way ≡ other) × (named ≡ also)
+one_list_of_systems custom names way other named also one two =
+    let same : names_of named ≡ names_of also = sym one.names_are ∙ two.names_are in
+    let some : 0 < length named = omega (arith, one.some, ap length one.names_are, length-map named (λ (s : NamedSystem). s.name)) in
+    (same_way custom way other named also some one.are two.are same, same_list custom way other named also one.are two.are same)
+
+-- names of systems in one direction are known, and none is of the other
+pub not_unknown : (custom : Custom) (names : List (List ℕ)) (way : Direction) (named : List NamedSystem) (unknown : List ℕ) → AreSystemsOf custom names way named → IsFirstWithout (IsKnown custom) names unknown → ⊥
+not_unknown custom names way named unknown are first =
+    let P : List (List ℕ) → Type 0 = λ ns. IsFirstWithout (IsKnown custom) ns unknown in
+    no_first (IsKnown custom) (names_of named) unknown (named_known custom way named are.are) (subst P are.names_are first)
+
+pub not_parted : (custom : Custom) (names : List (List ℕ)) (way : Direction) (named : List NamedSystem) (first other : List ℕ) → AreSystemsOf custom names way named → PartInDirection custom names first other → ⊥
+not_parted custom names way named first other are part = by_all (let P : List (List ℕ) → Type 0 = λ xs. AllByRecursion (IsOf custom way) xs in subst P (sym are.names_are ∙ part.names_are) (named_of_direction custom way named are.are))
+  where
+    by_all : AllByRecursion (IsOf custom way) (first ∷ part.rest) → ⊥
+    by_all all =
+        let turned : part.way ≡ way = one_direction custom part.way way first part.first_of all.0 in
+        let P : Direction → Type 0 = λ d. IsFirstWithout (IsOf custom d) part.rest other in
+        no_first (IsOf custom way) part.rest other all.1 (subst P turned part.other_is)
+
+pub same_part : (custom : Custom) (names : List (List ℕ)) (first other first' other' : List ℕ) → PartInDirection custom names first other → PartInDirection custom names first' other' → (first ≡ first') × (other ≡ other')
+same_part custom names first other first' other' one two =
+    let lists : first ∷ one.rest ≡ first' ∷ two.rest = sym one.names_are ∙ two.names_are in
+    let firsts : first ≡ first' = ap (λ (xs : List (List ℕ)). get_or xs 0 []) lists in
+    let rests : one.rest ≡ two.rest = ap (λ (xs : List (List ℕ)). drop 1 xs) lists in
+    let directions : one.way ≡ two.way = one_direction custom one.way two.way first' (let P : List ℕ → Type 0 = λ n. IsOf custom one.way n in subst P firsts one.first_of) two.first_of in
+    let P : Direction → Type 0 = λ d. IsFirstWithout (IsOf custom d) one.rest other in
+    let Q : List (List ℕ) → Type 0 = λ xs. IsFirstWithout (IsOf custom two.way) xs other in
+    (firsts, one_first (IsOf custom two.way) two.rest other other' (subst Q rests (subst P directions one.other_is)) two.other_is)

@@ -1,0 +1,44 @@
+-- What an accepted command makes, and what it prints.
+use Rattle.std.specs.Prelude.{◌≡◌, ℕ, ◌<◌, ◌≤◌, Bool, List, length, Option, Result, Ok, Err}
+use Rattle.digit_tuple.specs.declared.steps.StepLine.{StepLine}
+use Rattle.wal_outside.specs.declared.folder.Folder.{Folder}
+use Rattle.session_cli.specs.declared.fault.Fault.{Fault}
+use Rattle.session_cli.specs.declared.fault.Fault.TheVariants as faults
+use Rattle.session_cli.specs.Checks.{Check, Pure}
+use Rattle.session_cli.specs.Trees.{Entry, Ledger, entered}
+use Rattle.session_cli.specs.Texts.{HasText}
+
+-- an accepted command: the entry that it makes, where; the lines of its steps; and the verdict, where it is about a sentence
+pub record Success : Type 0 where
+  pub folder : Folder
+  pub name : List ℕ
+  pub entry : Entry
+  pub lines : List StepLine
+  pub verdict : Option Bool
+
+-- a command is accepted, or refused by a fault
+abbrev pub Answer : Type 0
+Answer = Result Success Fault
+
+-- the ledger after an answer
+abbrev pub after : Ledger → Answer → Ledger
+after ledger (Ok success) = entered ledger success.folder success.name success.entry
+after ledger (Err fault) = ledger
+
+-- a stored text may have 16,777,216 bytes
+abbrev pub FitsFile : List ℕ → Type 0
+FitsFile text = length text ≤ 16777216
+
+-- some text of the entry has the property
+abbrev pub SomeText : Entry → (List ℕ → Type 0) → Type 0
+SomeText entry P = (text : List ℕ) × HasText entry text × P text
+
+-- whether the text that is to be stored fits
+abbrev pub StoredAnswers : Success → Answer → Type 0
+StoredAnswers made (Ok success) = (success ≡ made) × SomeText made.entry FitsFile
+StoredAnswers made (Err (faults.Long bytes)) = (bytes ≡ 16777216) × SomeText made.entry (λ text. 16777216 < length text)
+StoredAnswers made (Err fault) = ⊥
+
+-- the last check of each command: what it makes is stored, unless its text is too long
+abbrev pub stored : Success → Check Success
+stored made = Pure (StoredAnswers made)

@@ -1,0 +1,24 @@
+//! The words with which commands begin.
+ghost use Rattle.std.specs.Prelude.{◌≡◌, ◌≢◌, MatchOption};
+ghost use Rattle.command_head.specs.Parts.{first_word_of};
+ghost use Rattle.session_cli.specs.Outcomes.{word_text};
+
+use command_head::first_word;
+
+/// A command, by its first word.
+#[derive(Clone, Copy, Debug, PartialEq, Eq)]
+pub(crate) enum CommandWord {
+    /// `reg`: an expression over tracks, kept as an automaton.
+    Reg,
+}
+
+/// The command whose word stands first in a text. None where it is none that a command has.
+pub(crate) fn command_word(text: &[u8]) -> Option<CommandWord>
+    ensures { MatchOption result ((word : CommandWord) → first_word_of text.now ≢ word_text word) (λ word. first_word_of text.now ≡ word_text word) }
+{
+    if first_word(text) == b"reg".as_slice() {
+        Some(CommandWord::Reg)
+    } else {
+        None
+    }
+}

@@ -1,0 +1,5 @@
+use Rattle.system_names.proofs.OneSystem.{one_system}
+use Rattle.system_names.proofs.laws.names_tell_systems.Goals as goal
+
+pub returns : goal.returns
+returns c = one_system
