@@ -8,7 +8,7 @@ use Rattle.minimise.specs.Residuals.{SameLanguage}
 use Rattle.numeration.specs.Systems.{System, IsSystem, IsRep}
 use Rattle.numeration.proofs.RankLemmas.{rep_exists}
 use Rattle.numeration.proofs.ConstantLemmas.{constant_holds}
-use Rattle.num_system.proofs.SealLemmas.{relation_kept}
+use Rattle.number_order.proofs.KeptLemmas.{relation_kept}
 use Rattle.constants.specs.Constants.{IsConstantOf, ConstantAlike}
 use Rattle.constants.proofs.ConstantKinds.{constant_apart}
 

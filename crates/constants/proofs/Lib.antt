@@ -9,3 +9,4 @@ pub mod WordPathLemmas
 pub mod PathRuns
 pub mod ConstantKinds
 pub mod ConstantLinks
+pub mod ConstantWidthLemmas

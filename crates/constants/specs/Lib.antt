@@ -4,4 +4,6 @@ pub mod Fronts
 pub mod Choices
 pub mod Places
 pub mod Constants
+pub mod ConstantWidth
+pub mod ConstantSteps
 pub mod WordPaths

@@ -9,6 +9,7 @@ ghost use Rattle.constants.specs.Continuations.{read, continuations};
 ghost use Rattle.constants.specs.WordCounts.{capped, AreCounts};
 ghost use Rattle.constants.specs.Fronts.{IsFront, AreMarks, Fits};
 
+use digit_tuple::accepting_states::accepting_flags;
 use digit_tuple::dfa::Dfa;
 use digit_tuple::direction::Direction;
 use digit_tuple::faults::OutOfMemory;
@@ -31,7 +32,7 @@ impl Front {
     {
         match direction {
             Direction::Msd => Ok(Front::After(first_state(language))),
-            Direction::Lsd => Ok(Front::Before(accepting_marks(alloc, language)?)),
+            Direction::Lsd => Ok(Front::Before(accepting_flags(alloc, language)?)),
         }
     }
 
@@ -80,17 +81,6 @@ fn state_after(language: &Dfa, state: Option<u32>, digit: u32) -> Option<u32>
         Some(state) => language.step(state, digit),
         None => None,
     }
-}
-
-// For each state, whether it accepts.
-fn accepting_marks(alloc: Global, language: &Dfa) -> Result<Vec<bool>, OutOfMemory>
-    ensures { IfOk result (λ marks. AreMarks language.now [] marks.items) }
-{
-    let mut marks = Vec::new(alloc);
-    for state in 0..language.states() {
-        marks.push(language.accepting(state))?;
-    }
-    Ok(marks)
 }
 
 // For each state, whether the digit leads from it to a mark.

@@ -64,8 +64,10 @@ fn counts_from(alloc: Global, language: &Dfa, row: &[u128]) -> Result<Vec<u128>,
     ensures { IfOk result (λ next. (n : ℕ) → AreCounts Msd language.now n row.now → AreCounts Msd language.now (suc n) next.items) }
 {
     let mut next = Vec::new(alloc);
+    let mut edges = Vec::new(alloc);
     for state in 0..language.states() {
-        next.push(sum_along(language.edges(state), row))?;
+        language.edges_into(state, &mut edges)?;
+        next.push(sum_along(&edges, row))?;
     }
     Ok(next)
 }
@@ -88,8 +90,10 @@ fn counts_into(alloc: Global, language: &Dfa, row: &[u128]) -> Result<Vec<u128>,
     ensures { IfOk result (λ next. (n : ℕ) → AreCounts Lsd language.now n row.now → AreCounts Lsd language.now (suc n) next.items) }
 {
     let mut next: Vec<u128> = vec![in alloc; 0; row.len()]?;
+    let mut edges = Vec::new(alloc);
     for state in 0..language.states() {
-        add_along(&mut next, language.edges(state), row[state as usize]);
+        language.edges_into(state, &mut edges)?;
+        add_along(&mut next, &edges, row[state as usize]);
     }
     Ok(next)
 }

@@ -1,9 +1,11 @@
 pub mod SealLemmas
-pub mod OrderLemmas
-pub mod PairLemmas
-pub mod ZeroLemmas
+pub mod ValidWords
 pub mod ProductLinks
 pub mod NamedLinks
+pub mod NamedProjections
+pub mod ValidityLinks
+pub mod SentenceLinks
 pub mod SuccessorLemmas
 pub mod StepLemmas
 pub mod SealingLemmas
+pub mod LinkLemmas

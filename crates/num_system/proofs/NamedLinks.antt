@@ -31,6 +31,7 @@ use Rattle.num_system.specs.Joined.{joined, IsBound, AreLanguagesOf}
 use Rattle.digit_tuple.proofs.PaddingLemmas.{in_order-map}
 use Rattle.numeration.proofs.TrackLemmas.{track}
 use Rattle.numeration.proofs.PartSpelling.{AreValid}
+use Rattle.num_system.proofs.ValidWords.{valid_from, valid_to}
 use Rattle.num_system.proofs.ProductLinks.{product_holds}
 use Rattle.numeration.proofs.ReadingLinks.{valid_read}
 
@@ -43,34 +44,6 @@ place_among names some i apart within found = (
       ∙ ap (place_of names) found.2
       ∙ place_of-is names (get_or names i []) i apart within refl,
 )
-
-module _ (way : Direction) (ss : List System) (languages : List Automaton) (are : AreLanguagesOf way ss languages) (w : List ℕ) where
-  language_tells : (i : ℕ) → i < length ss → accepts_of (language_at languages i) (part (sizes_of ss) (i ∷ []) w) ≡ (system_at ss i).test (track ss i (in_order way w))
-  language_tells i within =
-      (are.each i within).accepts (part (sizes_of ss) (i ∷ []) w)
-      ∙ ap (system_at ss i).test (in_order-map way (letter_part (sizes_of ss) (i ∷ [])) w)
-
-  passes : ℕ → Bool
-  passes i = accepts_of (language_at languages i) (part (sizes_of ss) (i ∷ []) w)
-
-  pub valid_from : is_valid (sizes_of ss) languages w ≡ true → AreValid ss (in_order way w)
-  valid_from accepted i within =
-      let all = AllPass-from_list_all (λ track. accepts_of (language_at languages track) (part (sizes_of ss) (track ∷ []) w)) (range_with_len 0 (length languages)) accepted in
-      let less : i < length languages = omega (arith, within, are.count) in
-      let here : get_or (range_with_len 0 (length languages)) i 0 ≡ i = omega (arith, get_or-range_with_len 0 (length languages) i 0 less) in
-      sym (language_tells i within)
-      ∙ subst (λ (j : ℕ). accepts_of (language_at languages j) (part (sizes_of ss) (j ∷ []) w) ≡ true) here
-      (all i 0 (omega (arith, less, length-range_with_len 0 (length languages))))
-
-  pub valid_to : AreValid ss (in_order way w) → is_valid (sizes_of ss) languages w ≡ true
-  valid_to valid =
-      list_all-from_AllPass (λ track. accepts_of (language_at languages track) (part (sizes_of ss) (track ∷ []) w)) (range_with_len 0 (length languages))
-      (λ i d inside.
-      let less : i < length languages = omega (arith, inside, length-range_with_len 0 (length languages)) in
-      let within : i < length ss = omega (arith, less, are.count) in
-      let here : i ≡ get_or (range_with_len 0 (length languages)) i d = omega (arith, get_or-range_with_len 0 (length languages) i d less) in
-      subst (λ (j : ℕ). accepts_of (language_at languages j) (part (sizes_of ss) (j ∷ []) w) ≡ true) here
-      (language_tells i within ∙ valid i within))
 
 -- what `and` and `and not` say of the first, and `and` of the second
 and_first : (b c : Bool) → connective And b c ≡ true → b ≡ true

@@ -1,32 +1,25 @@
 -- What the steps of sealing a system tell.
-use Rattle.std.proofs.Common.{◌≡◌, ℕ, ◌+◌, ◌<◌, ◌≤◌, List, [], ◌∷◌, length, Err, ap, sym, ◌∙◌, arith}
+use Rattle.std.proofs.Common.{◌≡◌, ℕ, ◌+◌, ◌<◌, List, [], ◌∷◌, ◌++◌, length, Err, ap, subst, arith}
 use Rattle.std.specs.Result.{IsErrOf}
-use Rattle.digit_tuple.specs.Letters.{IsWord, product}
+use Rattle.digit_tuple.specs.Letters.{IsWord, IsAlphabet, IsTooLarge, product}
 use Rattle.digit_tuple.specs.Width.{HasApart}
 use Rattle.digit_tuple.specs.Deterministic.{Automaton, letters_of}
 use Rattle.digit_tuple.specs.declared.direction.Direction.{Direction}
-use Rattle.minimise.proofs.ApartLemmas.{apart_within_width}
 use Rattle.numeration.specs.Systems.{System, IsSystem}
-use Rattle.num_system.specs.Orders.{OrderAlike, pair_letters}
-use Rattle.num_system.specs.Sealing.{IsOrderWithin}
+use Rattle.number_order.specs.Orders.{OrderAlike, pair_sizes, pair_letters}
+use Rattle.number_order.proofs.OrderWidthLemmas.{order_width_excludes}
+use Rattle.num_system.specs.Sealing.{IsOrderWithin, ExceedsByLetters, letters_at_order, letters_at_successor}
+use Rattle.num_system.specs.SuccessorSteps.{chain_sizes}
+use Rattle.num_system.proofs.StepLemmas.{two_fit, not_too_large}
+use Rattle.num_system.proofs.SuccessorLemmas.{chain_sizes_are}
 
 -- a fault is the same whatever else a call gives
 pub same_fault : {T U E : Type 0} (e f : E) → IsErrOf {T = T} (Err e) f → IsErrOf {T = U} (Err e) f
 same_fault e f is = let same : e ≡ f = cc in ap Err same
 
--- words that are alike to one word are alike
-alike_shared : (way : Direction) (d : Automaton) (w v u : List ℕ) → OrderAlike way d w u → OrderAlike way d v u → OrderAlike way d w v
-alike_shared way d w v u one other = record {
-  first = λ x over. one.first x over ∙ sym (other.first x over);
-  second = λ x over. one.second x over ∙ sym (other.second x over);
-  compared = one.compared ∙ sym other.compared;
-}
-
 -- no more words are apart than the limit that the order keeps to
 pub none_beyond : (way : Direction) (d : Automaton) (limit : ℕ) → IsOrderWithin way d limit → ¬ HasApart (OrderAlike way d) (pair_letters d) (limit + 1)
-none_beyond way d limit within apart =
-    let few : limit + 1 ≤ within.width.0 = apart_within_width (OrderAlike way d) (pair_letters d) (limit + 1) within.width.0 (alike_shared way d) apart within.width.2 in
-    omega (arith, few, within.width.1)
+none_beyond way d limit within apart = order_width_excludes way d (limit + 1) within.width.0 (omega (arith, within.width.1)) within.width.2 apart
 
 -- a system has a digit
 has_digit : (s : System) → IsSystem s → 0 < s.digits
@@ -40,3 +33,11 @@ pub has_letter : (s : System) (d : Automaton) → IsSystem s → d.sizes ≡ s.d
 has_letter s d is sizes =
     let letters : letters_of d ≡ product (s.digits ∷ []) = ap product sizes in
     omega (arith, letters, has_digit s is)
+
+-- where three tracks over the digits have an alphabet, no step has too many letters
+pub few_letters : (way : Direction) (s : System) (limit : ℕ) → IsAlphabet (s.digits ∷ s.digits ∷ s.digits ∷ []) → ¬ ExceedsByLetters way s limit
+few_letters way s limit fits (letters_at_order language least large) =
+    let sizes : pair_sizes language ≡ s.digits ∷ s.digits ∷ [] = ap (λ (ss : List ℕ). ss ++ ss) least.accepts.sizes in
+    not_too_large (s.digits ∷ s.digits ∷ []) (two_fit s.digits fits) (subst IsTooLarge sizes large)
+few_letters way s limit fits (letters_at_successor language less least within order large) =
+    not_too_large (s.digits ∷ s.digits ∷ s.digits ∷ []) fits (subst IsTooLarge (chain_sizes_are less s.digits order.holds.sizes) large)

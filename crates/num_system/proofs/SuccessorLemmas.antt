@@ -15,10 +15,12 @@ use Rattle.numeration.specs.Systems.{System, IsSystem}
 use Rattle.numeration.specs.Relations.{HoldsOf, IsLess, IsOrderOf}
 use Rattle.numeration.specs.SomeTracks.{completed}
 use Rattle.num_system.specs.Joined.{joined}
-use Rattle.num_system.specs.Successor.{IsNext, IsSuccessorOf, name_u, name_x, name_y, order_on, IsProduct, IsProjection, IsChain, chain_sizes}
+use Rattle.num_system.specs.Successor.{IsNext, IsInside, HasInside, IsSuccessorOf}
+use Rattle.num_system.specs.Operations.{IsProduct, IsProjection}
+use Rattle.num_system.specs.SuccessorSteps.{name_u, name_x, name_y, order_on, IsChain, chain_sizes}
 use Rattle.numeration.proofs.TrackLemmas.{numerals_from_spelling}
 use Rattle.num_system.proofs.NamedLinks.{in_product_holds}
-use Rattle.numeration.proofs.ProjectionLinks.{projection_holds}
+use Rattle.num_system.proofs.NamedProjections.{named_projection_holds}
 
 -- relations that are the same of tuples of as many numbers as there are tracks
 pub holds_same : (way : Direction) (ss : List System) (P Q : List ℕ → Type 0) (d : Automaton) → ((ns : List ℕ) → length ns ≡ length ss → P ns ↔ Q ns) → HoldsOf way ss P d → HoldsOf way ss Q d
@@ -37,19 +39,30 @@ holds_same way ss P Q d same holds = record {
 pub under_names : (c : NamedAutomaton) (ns : List (List ℕ)) → c.names ≡ ns → c ≡ record { names = ns; automaton = c.automaton }
 under_names c ns same = λ i. record { names = same i; automaton = c.automaton }
 
+-- a pair of numbers of which the first is less
 less_first : (a b : ℕ) → IsLess (a ∷ b ∷ []) → a < b
 less_first a b is =
     let first : a ≡ is.0 = ap (λ (ns : List ℕ). get_or ns 0 0) is.2 in
     let second : b ≡ is.1 = ap (λ (ns : List ℕ). get_or ns 1 0) is.2 in
     omega (arith, first, second, is.3)
 
--- x < u < y, the numbers standing as u, x, y
-abbrev pub IsInside : List ℕ → Type 0
-IsInside ns = joined And (1 ∷ 0 ∷ []) IsLess (0 ∷ 2 ∷ []) IsLess ns
+-- x < u and u < y, the numbers standing as u, x, y
+inside_triple : (u x y : ℕ) → joined And (1 ∷ 0 ∷ []) IsLess (0 ∷ 2 ∷ []) IsLess (u ∷ x ∷ y ∷ []) ↔ IsInside (u ∷ x ∷ y ∷ [])
+inside_triple u x y = (λ both. (u, x, y, refl, less_first x u both.0, less_first u y both.1), back)
+  where
+    back : IsInside (u ∷ x ∷ y ∷ []) → joined And (1 ∷ 0 ∷ []) IsLess (0 ∷ 2 ∷ []) IsLess (u ∷ x ∷ y ∷ [])
+    back is =
+        let one : u ≡ is.0 = ap (λ (ns : List ℕ). get_or ns 0 0) is.3 in
+        let two : x ≡ is.1 = ap (λ (ns : List ℕ). get_or ns 1 0) is.3 in
+        let three : y ≡ is.2 = ap (λ (ns : List ℕ). get_or ns 2 0) is.3 in
+        ((x, u, refl, omega (arith, one, two, is.4)), (u, y, refl, omega (arith, one, three, is.5)))
 
--- some u is between
-abbrev pub HasInside : List System → List ℕ → Type 0
-HasInside ss ns = completed ss (1 ∷ 2 ∷ []) IsInside ns
+inside_joined : (ns : List ℕ) → length ns ≡ 3 → joined And (1 ∷ 0 ∷ []) IsLess (0 ∷ 2 ∷ []) IsLess ns ↔ IsInside ns
+inside_joined [] long = absurd (omega (arith, long))
+inside_joined (u ∷ []) long = absurd (omega (arith, long))
+inside_joined (u ∷ x ∷ []) long = absurd (omega (arith, long))
+inside_joined (u ∷ x ∷ y ∷ []) long = inside_triple u x y
+inside_joined (u ∷ x ∷ y ∷ z ∷ ns) long = absurd (omega (arith, long))
 
 module _ (s : System) where
   abbrev pub three : List System
@@ -58,21 +71,28 @@ module _ (s : System) where
   abbrev pub two : List System
   two = s ∷ s ∷ []
 
-  inside_found : (x y : ℕ) → suc x < y → HasInside three (x ∷ y ∷ [])
-  inside_found x y gap = (suc x ∷ x ∷ y ∷ [], refl, refl, ((x, suc x, refl, omega arith), (suc x, y, refl, gap)))
+  -- some u makes a triple
+  inside_completed : (ns : List ℕ) → length ns ≡ 2 → completed three (1 ∷ 2 ∷ []) IsInside ns ↔ HasInside ns
+  inside_completed ns long = (there, λ is. (is.2 ∷ is.0 ∷ is.1 ∷ [], refl, sym is.3, (is.2, is.0, is.1, refl, is.4, is.5)))
+    where
+      there : completed three (1 ∷ 2 ∷ []) IsInside ns → HasInside ns
+      there found =
+          let is = found.3 in
+          let pair : ns ≡ is.1 ∷ is.2 ∷ [] = sym found.2 ∙ ap (picked (1 ∷ 2 ∷ [])) is.3 in
+          (is.1, is.2, is.0, pair, is.4, is.5)
 
-  none_inside : (x : ℕ) → HasInside three (x ∷ suc x ∷ []) → ⊥
-  none_inside x found =
-      let us = found.0 in
-      let first : get_or us 1 0 ≡ x = ap (λ (ns : List ℕ). get_or ns 0 0) found.2 in
-      let second : get_or us 2 0 ≡ suc x = ap (λ (ns : List ℕ). get_or ns 1 0) found.2 in
-      let above : get_or us 1 0 < get_or us 0 0 = less_first (get_or us 1 0) (get_or us 0 0) found.3.0 in
-      let below : get_or us 0 0 < get_or us 2 0 = less_first (get_or us 0 0) (get_or us 2 0) found.3.1 in
-      omega (arith, first, second, above, below)
+  inside_found : (x y : ℕ) → suc x < y → HasInside (x ∷ y ∷ [])
+  inside_found x y gap = (x, y, suc x, refl, omega arith, gap)
+
+  none_inside : (x : ℕ) → HasInside (x ∷ suc x ∷ []) → ⊥
+  none_inside x is =
+      let first : x ≡ is.0 = ap (λ (ns : List ℕ). get_or ns 0 0) is.3 in
+      let second : suc x ≡ is.1 = ap (λ (ns : List ℕ). get_or ns 1 0) is.3 in
+      omega (arith, first, second, is.4, is.5)
 
   -- less, and nothing between
   abbrev pub IsClose : List ℕ → Type 0
-  IsClose ns = joined AndNot (0 ∷ 1 ∷ []) IsLess (0 ∷ 1 ∷ []) (HasInside three) ns
+  IsClose ns = joined AndNot (0 ∷ 1 ∷ []) IsLess (0 ∷ 1 ∷ []) HasInside ns
 
   next_close : (x y : ℕ) → IsClose (x ∷ y ∷ []) ↔ IsNext (x ∷ y ∷ [])
   next_close x y = (there, back)
@@ -90,7 +110,7 @@ module _ (s : System) where
           let first : x ≡ next.0 = ap (λ (ns : List ℕ). get_or ns 0 0) next.1 in
           let second : y ≡ suc next.0 = ap (λ (ns : List ℕ). get_or ns 1 0) next.1 in
           let same : y ≡ suc x = omega (arith, first, second) in
-          ((x, y, refl, omega (arith, same)), λ found. none_inside x (subst (λ n. HasInside three (x ∷ n ∷ [])) same found))
+          ((x, y, refl, omega (arith, same)), λ found. none_inside x (subst (λ n. HasInside (x ∷ n ∷ [])) same found))
 
   close_is_next : (ns : List ℕ) → length ns ≡ 2 → IsClose ns ↔ IsNext ns
   close_is_next [] long = absurd (omega (arith, long))
@@ -121,45 +141,31 @@ next_sizes_are less between d same also =
     ∙ ap (λ (ns : List ℕ). let a : Automaton = record { sizes = d ∷ d ∷ []; states = less.states } in let b : Automaton = record { sizes = ns; states = between.states } in joint_sizes (order_on a name_x name_y) (order_on b name_x name_y)) also
     ∙ sizes_same d
 
--- the systems' order, and the results of the three steps
-module _ (way : Direction) (s : System) (system : IsSystem s) (less : Automaton) (is : IsOrderOf way s less) where
-  below_two : All (λ place. place < 3) (1 ∷ 2 ∷ [])
-  below_two zero d within = omega arith
-  below_two (suc zero) d within = omega arith
-  below_two (suc (suc i)) d within = absurd (omega (arith, within))
+-- what the three steps hold of
+module _ (way : Direction) (s : System) where
+  pub chain_holds : (less : Automaton) (chain : NamedAutomaton) → IsOrderOf way s less → IsChain less chain → HoldsOf way (three s) IsInside chain.automaton
+  chain_holds less chain is made =
+      holds_same way (three s) (joined And (1 ∷ 0 ∷ []) IsLess (0 ∷ 2 ∷ []) IsLess) IsInside chain.automaton inside_joined
+      (in_product_holds way (three s) (order_on less name_x name_u) (order_on less name_u name_y) IsLess IsLess refl (chain_sizes_are less s.digits is.sizes) is is And []
+      tt (λ among. absurd (false≢true among)) chain.automaton made.sizes made.language)
 
-  pub chain_holds : (chain : NamedAutomaton) → IsChain less chain → HoldsOf way (three s) IsInside chain.automaton
-  chain_holds chain made =
-      in_product_holds way (three s) (order_on less name_x name_u) (order_on less name_u name_y) IsLess IsLess refl (chain_sizes_are less s.digits is.sizes) is is And []
-      tt (λ among. absurd (false≢true among)) chain.automaton made.sizes made.language
+  between_from : (chain : Automaton) (between : NamedAutomaton) → IsSystem s → HoldsOf way (three s) IsInside chain
+      → IsProjection way (record { names = name_u ∷ name_x ∷ name_y ∷ []; automaton = chain }) name_u between → HoldsOf way (two s) HasInside between.automaton
+  between_from chain between system holds made =
+      holds_same way (two s) (completed (three s) (1 ∷ 2 ∷ []) IsInside) HasInside between.automaton (inside_completed s)
+      (named_projection_holds way (three s) (system, (system, (system, tt))) (record { names = name_u ∷ name_x ∷ name_y ∷ []; automaton = chain }) name_u refl IsInside holds between made)
 
-  abbrev ImageOver : List ℕ → Automaton → List ℕ → Type 0
-  ImageOver sizes d w = (k : ℕ) × ((x : List ℕ) × IsWord (product sizes) x × (part sizes (1 ∷ 2 ∷ []) x ≡ padded way k w) × IsTrue (accepts_of d x))
+  pub between_holds : (chain between : NamedAutomaton) → IsSystem s → chain.names ≡ name_u ∷ name_x ∷ name_y ∷ [] → HoldsOf way (three s) IsInside chain.automaton
+      → IsProjection way chain name_u between → HoldsOf way (two s) HasInside between.automaton
+  between_holds chain between system names holds made =
+      between_from chain.automaton between system holds
+      (subst (λ (c : NamedAutomaton). IsProjection way c name_u between) (under_names chain (name_u ∷ name_x ∷ name_y ∷ []) names) made)
 
-  between_from : (chain : Automaton) (between : NamedAutomaton) → HoldsOf way (three s) IsInside chain
-      → IsProjection way (record { names = name_u ∷ name_x ∷ name_y ∷ []; automaton = chain }) name_u between → HoldsOf way (two s) (HasInside (three s)) between.automaton
-  between_from chain between holds made =
-      projection_holds way (three s) (system, (system, (system, tt))) (1 ∷ 2 ∷ []) below_two IsInside chain holds between.automaton
-      (made.sizes ∙ ap (λ (ns : List ℕ). picked (1 ∷ 2 ∷ []) ns) holds.sizes)
-      (λ w over.
-      let says = made.language w (subst (λ (ns : List ℕ). IsWord (product (picked (1 ∷ 2 ∷ []) ns)) w) (sym holds.sizes) over) in (
-        λ accepted. subst (λ (ns : List ℕ). ImageOver ns chain w) holds.sizes (says.0 accepted),
-        λ image. says.1 (subst (λ (ns : List ℕ). ImageOver ns chain w) (sym holds.sizes) image),
-      ))
-
-  pub between_holds : (chain between : NamedAutomaton) → IsChain less chain → IsProjection way chain name_u between → HoldsOf way (two s) (HasInside (three s)) between.automaton
-  between_holds chain between first made =
-      between_from chain.automaton between (chain_holds chain first)
-      (subst (λ (c : NamedAutomaton). IsProjection way c name_u between) (under_names chain (name_u ∷ name_x ∷ name_y ∷ []) first.names) made)
-
-  pub between_names : (chain between : NamedAutomaton) → IsChain less chain → IsProjection way chain name_u between → between.names ≡ name_x ∷ name_y ∷ []
-  between_names chain between first made = made.names ∙ ap (λ (ns : List (List ℕ)). names_without ns name_u) first.names
-
-  next_from : (between : Automaton) (next : NamedAutomaton) → HoldsOf way (two s) (HasInside (three s)) between
-      → IsProduct AndNot (order_on less name_x name_y) (order_on between name_x name_y) next → IsSuccessorOf way s next.automaton
-  next_from between next holds made =
+  next_from : (less between : Automaton) (next : NamedAutomaton) → IsOrderOf way s less → HoldsOf way (two s) HasInside between
+      → IsProduct AndNot (order_on less name_x name_y) (order_on between name_x name_y) [] next → IsSuccessorOf way s next.automaton
+  next_from less between next is holds made =
       holds_same way (two s) (IsClose s) IsNext next.automaton (close_is_next s)
-      (in_product_holds way (two s) (order_on less name_x name_y) (order_on between name_x name_y) IsLess (HasInside (three s)) refl
+      (in_product_holds way (two s) (order_on less name_x name_y) (order_on between name_x name_y) IsLess HasInside refl
       (next_sizes_are less between s.digits is.sizes holds.sizes) is holds AndNot [] bound (λ among. absurd (false≢true among)) next.automaton made.sizes made.language)
     where
       bound : All (Contains (name_x ∷ name_y ∷ [])) (name_x ∷ name_y ∷ [])
@@ -168,8 +174,8 @@ module _ (way : Direction) (s : System) (system : IsSystem s) (less : Automaton)
       bound (suc (suc i)) d within = absurd (omega (arith, within))
 
   -- the result of the three steps is the successor
-  pub successor_holds : (chain between next : NamedAutomaton) → IsChain less chain → IsProjection way chain name_u between
-      → IsProduct AndNot (order_on less name_x name_y) between next → IsSuccessorOf way s next.automaton
-  successor_holds chain between next first made last =
-      next_from between.automaton next (between_holds chain between first made)
-      (subst (λ (c : NamedAutomaton). IsProduct AndNot (order_on less name_x name_y) c next) (under_names between (name_x ∷ name_y ∷ []) (between_names chain between first made)) last)
+  pub next_holds : (less : Automaton) (between next : NamedAutomaton) → IsOrderOf way s less → between.names ≡ name_x ∷ name_y ∷ [] → HoldsOf way (two s) HasInside between.automaton
+      → IsProduct AndNot (order_on less name_x name_y) between [] next → IsSuccessorOf way s next.automaton
+  next_holds less between next is names holds made =
+      next_from less between.automaton next is holds
+      (subst (λ (c : NamedAutomaton). IsProduct AndNot (order_on less name_x name_y) c [] next) (under_names between (name_x ∷ name_y ∷ []) names) made)

@@ -3,9 +3,12 @@ pub use Rattle.numeration.specs.Systems
 pub use Rattle.numeration.specs.Spelling
 pub use Rattle.numeration.specs.Relations
 pub use Rattle.numeration.specs.SomeTracks
-pub mod Sealed
-pub mod Orders
-pub mod PairKeys
+pub use Rattle.number_order.specs.Orders
 pub mod Joined
+pub mod Operations
+pub mod Spellings
 pub mod Successor
+pub mod SuccessorSteps
+pub mod Sealed
 pub mod Sealing
+pub mod Links

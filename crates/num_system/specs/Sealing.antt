@@ -7,8 +7,8 @@ use Rattle.digit_tuple.specs.declared.direction.Direction.{Direction}
 use Rattle.minimise.specs.Canonical.{IsCanonical}
 use Rattle.numeration.specs.Systems.{System}
 use Rattle.numeration.specs.Relations.{IsLanguageOf, IsOrderOf}
-use Rattle.num_system.specs.Orders.{OrderAlike, pair_sizes, pair_letters}
-use Rattle.num_system.specs.Successor.{AreWithin, Exceeds, chain_sizes}
+use Rattle.number_order.specs.Orders.{OrderAlike, pair_sizes, pair_letters}
+use Rattle.num_system.specs.SuccessorSteps.{AreWithin, Exceeds, chain_sizes}
 
 -- the canonical automaton of the system's language
 pub record IsLeastLanguage (way : Direction) (s : System) (language : Automaton) : Type 0 where

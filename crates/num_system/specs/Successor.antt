@@ -1,18 +1,7 @@
--- The successor of a system's numbers by three steps from their order: y follows x where x < y and no u has x < u < y.
-use Rattle.std.specs.Prelude.{◌≡◌, ℕ, suc, ◌+◌, ◌≤◌, List, [], ◌∷◌, slice_index_or, IsTrue, ◌↔◌}
-use Rattle.digit_tuple.specs.Deterministic.{Automaton, accepts_of}
-use Rattle.digit_tuple.specs.Letters.{product, IsWord}
-use Rattle.digit_tuple.specs.Names.{joint_names, names_without}
-use Rattle.digit_tuple.specs.Width.{HasApart, HasWidth}
+-- The number after a number, and the numbers between two.
+use Rattle.std.specs.Prelude.{◌≡◌, ℕ, suc, ◌<◌, List, [], ◌∷◌}
+use Rattle.digit_tuple.specs.Deterministic.{Automaton}
 use Rattle.digit_tuple.specs.declared.direction.Direction.{Direction}
-use Rattle.minimise.specs.Canonical.{IsCanonical}
-use Rattle.minimise.specs.Tracked.{NamedAutomaton}
-use Rattle.product_op.specs.declared.op.Op.{Op}
-use Rattle.product_op.specs.declared.op.Op.TheVariants.{And, AndNot}
-use Rattle.product_op.specs.Tracks.{joint_sizes}
-use Rattle.product_op.specs.Products.{in_product, ProductAlike}
-use Rattle.project_close.specs.Projection.{InProjection, ProjectionAlike}
-use Rattle.project_close.specs.StayingTracks.{staying_places, staying_sizes}
 use Rattle.numeration.specs.Systems.{System}
 use Rattle.numeration.specs.Relations.{HoldsOf}
 
@@ -23,75 +12,10 @@ IsNext ns = (x : ℕ) × (ns ≡ x ∷ suc x ∷ [])
 abbrev pub IsSuccessorOf : Direction → System → Automaton → Type 0
 IsSuccessorOf way s d = HoldsOf way (s ∷ s ∷ []) IsNext d
 
--- the names of tracks, u, x and y
-abbrev pub name_u : List ℕ
-name_u = 117 ∷ []
+-- the first number is above the second and below the third
+abbrev pub IsInside : List ℕ → Type 0
+IsInside ns = (u : ℕ) × (x : ℕ) × (y : ℕ) × (ns ≡ u ∷ x ∷ y ∷ []) × (x < u) × (u < y)
 
-abbrev pub name_x : List ℕ
-name_x = 120 ∷ []
-
-abbrev pub name_y : List ℕ
-name_y = 121 ∷ []
-
--- the order, its tracks under two names
-abbrev pub order_on : Automaton → List ℕ → List ℕ → NamedAutomaton
-order_on less first second = record { names = first ∷ second ∷ []; automaton = less }
-
--- the canonical automaton of a product, by a connective that needs no valid words
-pub record IsProduct (op : Op) (a b c : NamedAutomaton) : Type 0 where
-  pub names : c.names ≡ joint_names a.names b.names
-  pub sizes : c.automaton.sizes ≡ joint_sizes a b
-  pub canonical : IsCanonical c.automaton
-  pub language : (w : List ℕ) → IsWord (product (joint_sizes a b)) w → accepts_of c.automaton w ≡ in_product op a b [] w
-
--- and of a projection
-pub record IsProjection (way : Direction) (a : NamedAutomaton) (track : List ℕ) (c : NamedAutomaton) : Type 0 where
-  pub names : c.names ≡ names_without a.names track
-  pub sizes : c.automaton.sizes ≡ staying_sizes a track
-  pub canonical : IsCanonical c.automaton
-  pub language : (w : List ℕ) → IsWord (product (staying_sizes a track)) w → IsTrue (accepts_of c.automaton w) ↔ InProjection a.automaton (staying_places a track) way w
-
--- x < u and u < y
-abbrev pub IsChain : Automaton → NamedAutomaton → Type 0
-IsChain less chain = IsProduct And (order_on less name_x name_u) (order_on less name_u name_y) chain
-
--- some u has x < u < y
-abbrev pub IsBetween : Direction → Automaton → NamedAutomaton → Type 0
-IsBetween way less between = (chain : NamedAutomaton) × IsChain less chain × IsProjection way chain name_u between
-
--- three languages, each a canonical one over the digits of the order's first track
-pub record AreTracksOf (less : Automaton) (languages : List Automaton) : Type 0 where
-  pub language : Automaton
-  pub canonical : IsCanonical language
-  pub sizes : language.sizes ≡ slice_index_or less.sizes 0 0 ∷ []
-  pub three : languages ≡ language ∷ language ∷ language ∷ []
-
--- the letters of the first step's tracks
-abbrev pub chain_sizes : Automaton → List ℕ
-chain_sizes less = joint_sizes (order_on less name_x name_u) (order_on less name_u name_y)
-
--- which words the steps tell apart
-abbrev pub ChainAlike : Automaton → List ℕ → List ℕ → Type 0
-ChainAlike less = ProductAlike And (order_on less name_x name_u) (order_on less name_u name_y) []
-
-abbrev pub BetweenAlike : Direction → NamedAutomaton → List ℕ → List ℕ → Type 0
-BetweenAlike way chain = ProjectionAlike chain.automaton (staying_places chain name_u) way
-
-abbrev pub NextAlike : Automaton → NamedAutomaton → List ℕ → List ℕ → Type 0
-NextAlike less between = ProductAlike AndNot (order_on less name_x name_y) between []
-
--- the widths of the three steps are within the limit
-pub record AreWithin (way : Direction) (less : Automaton) (limit : ℕ) : Type 0 where
-  pub chain : NamedAutomaton
-  pub between : NamedAutomaton
-  pub chain_is : IsChain less chain
-  pub between_is : IsProjection way chain name_u between
-  pub first : (n : ℕ) × (n ≤ limit) × HasWidth (ChainAlike less) (product (chain_sizes less)) n
-  pub second : (n : ℕ) × (n ≤ limit) × HasWidth (BetweenAlike way chain) (product (staying_sizes chain name_u)) n
-  pub third : (n : ℕ) × (n ≤ limit) × HasWidth (NextAlike less between) (product (joint_sizes (order_on less name_x name_y) between)) n
-
--- the width of one of the three steps passes the limit
-pub data Exceeds (way : Direction) (less : Automaton) (limit : ℕ) : Type 0 where
-  at_chain : HasApart (ChainAlike less) (product (chain_sizes less)) (limit + 1) → Exceeds way less limit
-  at_between : (chain : NamedAutomaton) → IsChain less chain → HasApart (BetweenAlike way chain) (product (staying_sizes chain name_u)) (limit + 1) → Exceeds way less limit
-  at_next : (between : NamedAutomaton) → IsBetween way less between → HasApart (NextAlike less between) (product (joint_sizes (order_on less name_x name_y) between)) (limit + 1) → Exceeds way less limit
+-- some number is above the first and below the second
+abbrev pub HasInside : List ℕ → Type 0
+HasInside ns = (x : ℕ) × (y : ℕ) × (u : ℕ) × (ns ≡ x ∷ y ∷ []) × (x < u) × (u < y)

@@ -1,20 +1,8 @@
-//! Numeration systems: words of a language stand for their ranks.
+//! Numeration systems made from their languages: sealed systems, whose laws are known.
 #![tactic(auto)]
 
 /// What a numeration system gives, and its laws.
 pub use numeration::num_system;
-
-/// Laws of the definitions.
-pub use numeration::laws;
-
-/// Pairs of words that are read side by side.
-mod pairs;
-
-/// The order of numbers.
-pub mod order;
-
-/// The number 0.
-pub mod zero;
 
 /// The successor of a system's numbers.
 pub mod successor;
@@ -27,3 +15,6 @@ pub mod system;
 
 /// How a system is sealed.
 pub mod seal;
+
+/// Laws of automata that hold of relations.
+pub mod laws;

@@ -1,15 +1,19 @@
 //! How a system is sealed.
 
-ghost use Rattle.std.specs.Prelude.{◌≡◌, IfOk};
+ghost use Rattle.std.specs.Prelude.{◌≡◌, ◌∷◌, [], IfOk};
 ghost use Rattle.std.specs.Result.{IsErrOf};
+ghost use Rattle.digit_tuple.specs.Letters.{IsAlphabet};
+ghost use Rattle.minimise.specs.Canonical.{IsCanonical};
+ghost use Rattle.numeration.specs.Relations.{IsAdderOf};
 ghost use Rattle.num_system.specs.Sealed.{SystemValue, system_of};
-ghost use Rattle.num_system.specs.Sealing.{IsSealedWithin, ExceedsByLetters, ExceedsByStates};
+ghost use Rattle.num_system.specs.Sealing.{IsLeastLanguage, IsSealedWithin, ExceedsByLetters, ExceedsByStates};
 
-use numeration::num_system::NumSystem;
 use crate::relations::relations_of;
 use crate::system::System;
-use digit_tuple::faults::OpFault;
+use digit_tuple::dfa::Dfa;
+use digit_tuple::faults::{OpFault, OutOfMemory};
 use minimise::canonical::canonical;
+use numeration::num_system::NumSystem;
 use std::alloc::Global;
 use std::rc::Rc;
 
@@ -26,16 +30,47 @@ pub fn seal<N: NumSystem>(alloc: Global, system: &N, limit: u32) -> Result<Syste
     ensures letters { IsErrOf result OpFault.Letters → ExceedsByLetters (N.way system.now) (N.system system.now) limit }
     ensures states { IsErrOf result OpFault.States → ExceedsByStates (N.way system.now) (N.system system.now) limit }
 {
-    let language = system.language(alloc)?;
-    let language = canonical(alloc, &language)?;
-    let adder = system.adder(alloc)?;
-    let adder = canonical(alloc, &adder)?;
-    let relations = relations_of(alloc, system, &language, limit)?;
+    let language = least_language(alloc, system)?;
+    let adder = least_adder(alloc, system)?;
+    let direction = system.direction();
+    let relations = relations_of(alloc, &language, direction, limit)?;
     Ok(System::from_parts(
         system.digits(),
-        system.direction(),
+        direction,
         Rc::new(alloc, language)?,
         adder,
         relations,
     ))
+}
+
+/// Seals a system that the program brings along, without a limit: three tracks over its digits have an
+/// alphabet, so that nothing but memory is wanting. Memory may also run out where 2^32 - 1 states are not
+/// enough.
+pub fn seal_built_in<N: NumSystem>(alloc: Global, system: &N) -> Result<System, OutOfMemory>
+    requires { let digits = (N.system system.now).digits in IsAlphabet (digits ∷ digits ∷ digits ∷ []) }
+    ensures system { IfOk result (λ sealed. system_of sealed ≡ N.system system.now) }
+    ensures direction { IfOk result (λ sealed. sealed.way ≡ N.way system.now) }
+{
+    match seal(alloc, system, u32::MAX) {
+        Ok(sealed) => Ok(sealed),
+        Err(OpFault::Letters) => unreachable!(),
+        Err(_) => Err(OutOfMemory),
+    }
+}
+
+// The canonical automaton of the language.
+fn least_language<N: NumSystem>(alloc: Global, system: &N) -> Result<Dfa, OutOfMemory>
+    ensures { IfOk result (λ dfa. IsLeastLanguage (N.way system.now) (N.system system.now) dfa) }
+{
+    let language = system.language(alloc)?;
+    canonical(alloc, &language)
+}
+
+// The canonical automaton of the sums.
+fn least_adder<N: NumSystem>(alloc: Global, system: &N) -> Result<Dfa, OutOfMemory>
+    ensures adder { IfOk result (λ dfa. IsAdderOf (N.way system.now) (N.system system.now) dfa) }
+    ensures canonical { IfOk result IsCanonical }
+{
+    let adder = system.adder(alloc)?;
+    canonical(alloc, &adder)
 }

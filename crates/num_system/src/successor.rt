@@ -1,44 +1,40 @@
 //! The successor of a system's numbers, from their order.
 
-ghost use Rattle.std.specs.Prelude.{◌≡◌, ◌≢◌, ◌+◌, ◌≤◌, ◌∷◌, [], ℕ, List, false, length, map, slice_index_or, IfOk, OnOk};
-ghost use Rattle.std.specs.Rc.{rc_value};
+ghost use Rattle.std.specs.Prelude.{◌≡◌, ◌≢◌, ◌+◌, ◌≤◌, ◌∷◌, [], ℕ, length, IfOk, OnOk};
 ghost use Rattle.std.specs.Result.{IsErrOf};
+ghost use Rattle.digit_tuple.specs.Deterministic.{states_of};
 ghost use Rattle.digit_tuple.specs.Letters.{product as letter_count, IsAlphabet, IsTooLarge};
 ghost use Rattle.digit_tuple.specs.Width.{HasApart, HasWidth};
+ghost use Rattle.digit_tuple.specs.declared.direction.Direction.{Direction};
 ghost use Rattle.minimise.specs.Canonical.{IsCanonical};
-ghost use Rattle.product_op.specs.Connectives.{among_valid};
-ghost use Rattle.product_op.specs.Tracks.{AgreeOnShared, joint_sizes};
-ghost use Rattle.product_op.specs.Validity.{AreLanguages};
-ghost use Rattle.product_op.specs.Products.{ProductAlike};
 ghost use Rattle.numeration.specs.Systems.{System, IsSystem};
-ghost use Rattle.numeration.specs.Relations.{IsOrderOf};
+ghost use Rattle.numeration.specs.Relations.{HoldsOf, IsOrderOf};
+ghost use Rattle.product_op.specs.Tracks.{joint_sizes};
 ghost use Rattle.project_close.specs.StayingTracks.{staying_sizes};
-ghost use Rattle.num_system.specs.Successor.{IsSuccessorOf, IsProduct, IsProjection, IsChain, ChainAlike, BetweenAlike, NextAlike, AreTracksOf, AreWithin, Exceeds, chain_sizes, name_u, name_x, name_y, order_on as order_under};
-ghost use Rattle.product_op.specs.declared.op.Op.TheVariants.{And, AndNot};
+ghost use Rattle.num_system.specs.Successor.{IsInside, HasInside, IsSuccessorOf};
+ghost use Rattle.num_system.specs.Operations.{IsProduct, IsProjection};
+ghost use Rattle.num_system.specs.SuccessorSteps.{IsChain, ChainAlike, BetweenAlike, NextAlike, AreWithin, Exceeds, chain_sizes, name_u, name_x, name_y, order_on as order_under};
+ghost use Rattle.product_op.specs.declared.op.Op.TheVariants.{AndNot};
 
-use digit_tuple::alphabet::Alphabet;
 use digit_tuple::dfa::Dfa;
-use digit_tuple::dfa_builder::DfaBuilder;
 use digit_tuple::direction::Direction;
 use digit_tuple::faults::{OpFault, OutOfMemory};
 use digit_tuple::name::Name;
 use digit_tuple::stepped::Stepped;
-use minimise::canonical::canonical;
 use minimise::tracked::Tracked;
 use product_op::op::Op;
 use product_op::product::product;
 use project_close::projection::project;
 use std::alloc::Global;
-use std::rc::Rc;
 
 /// The canonical automaton of the pairs of numbers of which the second is one more than the first, for
 /// each system whose order the canonical automaton of two tracks of one size holds of in this direction.
 ///
-/// It takes three steps: the triples with x < u and u < y; of these the pairs x and y with some u
-/// between; and the pairs with x < y and no u between. Each is canonical. `Letters` comes exactly where
-/// three tracks have more than 65,536 letters, and `States` exactly where the width of one of the steps
-/// passes the limit, the first of them that does. Memory may also run out where 2^32 - 1 states are not
-/// enough.
+/// It takes three steps: the triples with x < u and u < y (`chain_of`); of these the pairs x and y with
+/// some u between (`between_of`); and the pairs with x < y and no u between (`next_of`). Each is
+/// canonical. `Letters` comes exactly where three tracks have more than 65,536 letters, and `States`
+/// exactly where the width of one of the steps passes the limit, the first of them that does. Memory may
+/// also run out where 2^32 - 1 states are not enough.
 pub fn successor_of(
     alloc: Global,
     less: &Dfa,
@@ -56,18 +52,21 @@ pub fn successor_of(
     ensures states { IsErrOf result OpFault.States → Exceeds direction less.now limit }
     ensures letters_first { IsErrOf result OpFault.States → IsAlphabet (chain_sizes less.now) }
 {
-    let chain = chain(alloc, less, limit)?;
-    let between = between(alloc, &chain.result, direction, limit)?;
-    let next = next(alloc, less, &between.result, limit)?;
+    let chain = chain_of(alloc, less, limit)?;
+    let between = between_of(alloc, &chain.result, direction, limit)?;
+    let next = next_of(alloc, less, &between.result, limit)?;
     Ok(next.result)
 }
 
-// The triples of numbers u, x and y with x < u and u < y.
-fn chain(alloc: Global, less: &Dfa, limit: u32) -> Result<Stepped<Tracked>, OpFault>
+/// The first step: the triples of numbers u, x and y with x < u and u < y, for each system whose order
+/// the canonical automaton of two tracks of one size holds of. The width is that of the product.
+pub fn chain_of(alloc: Global, less: &Dfa, limit: u32) -> Result<Stepped<Tracked>, OpFault>
     requires canonical { IsCanonical less.now }
     requires tracks { (digits : ℕ) × (less.now.sizes ≡ digits ∷ digits ∷ []) }
     ensures chain { IfOk result (λ stepped. IsChain less.now stepped.result) }
+    ensures relation { IfOk result (λ stepped. (way : Direction) (s : System) → IsSystem s → IsOrderOf way s less.now → HoldsOf way (s ∷ s ∷ s ∷ []) IsInside stepped.result.automaton) }
     ensures width { IfOk result (λ stepped. HasWidth (ChainAlike less.now) (letter_count (chain_sizes less.now)) stepped.width) }
+    ensures size { IfOk result (λ stepped. states_of stepped.result.automaton ≤ stepped.width) }
     ensures within { IfOk result (λ stepped. stepped.width ≤ limit) }
     ensures fits { OnOk result (IsAlphabet (chain_sizes less.now)) }
     ensures letters { IsErrOf result OpFault.Letters → IsTooLarge (chain_sizes less.now) }
@@ -76,12 +75,12 @@ fn chain(alloc: Global, less: &Dfa, limit: u32) -> Result<Stepped<Tracked>, OpFa
 {
     let below = order_on(alloc, less, "x", "u")?;
     let above = order_on(alloc, less, "u", "y")?;
-    let valid = no_words(alloc, less)?;
-    joined(alloc, &below, &above, Op::And, &valid, limit)
+    product(alloc, &below, &above, Op::And, &[], limit)
 }
 
-// The pairs of numbers x and y for which some u makes a triple.
-fn between(
+/// The second step: the pairs of numbers x and y for which some u makes a triple of the first. The
+/// width is that of the projection.
+pub fn between_of(
     alloc: Global,
     chain: &Tracked,
     direction: Direction,
@@ -91,7 +90,9 @@ fn between(
     requires tracks { (digits : ℕ) × (chain.now.automaton.sizes ≡ digits ∷ digits ∷ digits ∷ []) }
     requires fits { IsAlphabet chain.now.automaton.sizes }
     ensures projection { IfOk result (λ stepped. IsProjection direction chain.now name_u stepped.result) }
+    ensures relation { IfOk result (λ stepped. (s : System) → IsSystem s → HoldsOf direction (s ∷ s ∷ s ∷ []) IsInside chain.now.automaton → HoldsOf direction (s ∷ s ∷ []) HasInside stepped.result.automaton) }
     ensures width { IfOk result (λ stepped. HasWidth (BetweenAlike direction chain.now) (letter_count (staying_sizes chain.now name_u)) stepped.width) }
+    ensures size { IfOk result (λ stepped. states_of stepped.result.automaton ≤ stepped.width) }
     ensures within { IfOk result (λ stepped. stepped.width ≤ limit) }
     ensures no_letters { ¬ IsErrOf result OpFault.Letters }
     ensures states { IsErrOf result OpFault.States → HasApart (BetweenAlike direction chain.now) (letter_count (staying_sizes chain.now name_u)) (limit + 1) }
@@ -100,24 +101,32 @@ fn between(
     project(alloc, chain, &u, direction, limit)
 }
 
-// The pairs of numbers in order, with none between.
-fn next(alloc: Global, less: &Dfa, between: &Tracked, limit: u32) -> Result<Stepped<Dfa>, OpFault>
+/// The third step: the pairs of numbers in order of which the second step's automaton does not hold,
+/// so that none is between. The width is that of the product.
+pub fn next_of(
+    alloc: Global,
+    less: &Dfa,
+    between: &Tracked,
+    limit: u32,
+) -> Result<Stepped<Dfa>, OpFault>
     requires canonical { IsCanonical less.now }
     requires tracks { (digits : ℕ) × (less.now.sizes ≡ digits ∷ digits ∷ []) }
     requires names { between.now.names ≡ name_x ∷ name_y ∷ [] }
     requires sizes { between.now.automaton.sizes ≡ less.now.sizes }
     requires fits { IsAlphabet less.now.sizes }
-    ensures next { IfOk result (λ stepped. IsProduct AndNot (order_under less.now name_x name_y) between.now (order_under stepped.result name_x name_y)) }
+    ensures next { IfOk result (λ stepped. IsProduct AndNot (order_under less.now name_x name_y) between.now [] (order_under stepped.result name_x name_y)) }
+    ensures relation { IfOk result (λ stepped. (way : Direction) (s : System) → IsOrderOf way s less.now → HoldsOf way (s ∷ s ∷ []) HasInside between.now.automaton → IsSuccessorOf way s stepped.result) }
+    ensures sizes { IfOk result (λ stepped. stepped.result.sizes ≡ less.now.sizes) }
     ensures width { IfOk result (λ stepped. HasWidth (NextAlike less.now between.now) (letter_count (joint_sizes (order_under less.now name_x name_y) between.now)) stepped.width) }
+    ensures size { IfOk result (λ stepped. states_of stepped.result ≤ stepped.width) }
     ensures within { IfOk result (λ stepped. stepped.width ≤ limit) }
     ensures no_letters { ¬ IsErrOf result OpFault.Letters }
     ensures states { IsErrOf result OpFault.States → HasApart (NextAlike less.now between.now) (letter_count (joint_sizes (order_under less.now name_x name_y) between.now)) (limit + 1) }
 {
     let order = order_on(alloc, less, "x", "y")?;
-    let valid = no_words(alloc, less)?;
-    let next = joined(alloc, &order, between, Op::AndNot, &valid[..2], limit)?;
+    let next = product(alloc, &order, between, Op::AndNot, &[], limit)?;
     Ok(Stepped {
-        result: canonical(alloc, next.result.dfa())?,
+        result: next.result.into_dfa(),
         width: next.width,
     })
 }
@@ -129,55 +138,8 @@ fn order_on(alloc: Global, less: &Dfa, first: &str, second: &str) -> Result<Trac
     requires distinct { first.now ≢ second.now }
     ensures { IfOk result (λ tracked. tracked ≡ order_under less.now first.now second.now) }
 {
-    let names = [Name::new(alloc, first)?, Name::new(alloc, second)?];
-    Tracked::new(alloc, less, &names)
-}
-
-// The product by a connective that needs no valid words, for which any languages will do.
-fn joined(
-    alloc: Global,
-    a: &Tracked,
-    b: &Tracked,
-    op: Op,
-    valid: &[Rc<Dfa>],
-    limit: u32,
-) -> Result<Stepped<Tracked>, OpFault>
-    requires any { among_valid op ≡ false }
-    requires agree { AgreeOnShared a.now b.now }
-    requires languages { AreLanguages (joint_sizes a.now b.now) (map rc_value valid.now) }
-    ensures product { IfOk result (λ stepped. IsProduct op a.now b.now stepped.result) }
-    ensures width { IfOk result (λ stepped. HasWidth (ProductAlike op a.now b.now []) (letter_count (joint_sizes a.now b.now)) stepped.width) }
-    ensures within { IfOk result (λ stepped. stepped.width ≤ limit) }
-    ensures fits { OnOk result (IsAlphabet (joint_sizes a.now b.now)) }
-    ensures letters { IsErrOf result OpFault.Letters → IsTooLarge (joint_sizes a.now b.now) }
-    ensures states { IsErrOf result OpFault.States → HasApart (ProductAlike op a.now b.now []) (letter_count (joint_sizes a.now b.now)) (limit + 1) }
-    ensures letters_first { IsErrOf result OpFault.States → IsAlphabet (joint_sizes a.now b.now) }
-{
-    product(alloc, a, b, op, valid, limit)
-}
-
-// The language of no word over a track of the order, for three tracks.
-fn no_words(alloc: Global, less: &Dfa) -> Result<Vec<Rc<Dfa>>, OpFault>
-    requires { (digits : ℕ) × (less.now.sizes ≡ digits ∷ digits ∷ []) }
-    ensures languages { IfOk result (λ languages. AreTracksOf less.now (map rc_value languages.items)) }
-    ensures no_letters { ¬ IsErrOf result OpFault.Letters }
-    ensures no_states { ¬ IsErrOf result OpFault.States }
-{
-    let alphabet = track_alphabet(alloc, less)?;
-    let mut builder = DfaBuilder::new(alloc, alphabet)?;
-    builder.add_state(false)?;
-    let none = builder.finish()?;
-    let none = Rc::new(alloc, canonical(alloc, &none)?)?;
-    Ok(vec![in alloc; none.clone()?, none.clone()?, none]?)
-}
-
-// The alphabet of the first of two tracks of one size.
-fn track_alphabet(alloc: Global, less: &Dfa) -> Result<Alphabet, OpFault>
-    requires { (digits : ℕ) × (less.now.sizes ≡ digits ∷ digits ∷ []) }
-    ensures alphabet { IfOk result (λ alphabet. alphabet ≡ slice_index_or less.now.sizes 0 0 ∷ []) }
-    ensures no_letters { ¬ IsErrOf result OpFault.Letters }
-    ensures no_states { ¬ IsErrOf result OpFault.States }
-{
-    let digits = less.alphabet().sizes()[0];
-    Alphabet::new(alloc, &[digits])
+    let first_name = Name::new(alloc, first)?;
+    let second_name = Name::new(alloc, second)?;
+    let names = vec![in alloc; first_name, second_name]?;
+    Ok(Tracked::of_canonical(less.copy(alloc)?, names))
 }

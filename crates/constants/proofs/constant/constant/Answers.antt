@@ -9,6 +9,7 @@ use Rattle.constants.specs.Constants.{ConstantAlike}
 use Rattle.constants.specs.WordPaths.{IsPaddingPath}
 use Rattle.constants.proofs.ConstantKinds.{constant_apart, constant_width}
 use Rattle.constants.proofs.ConstantLinks.{constant_is, two_apart}
+use Rattle.constants.proofs.ConstantWidthLemmas.{constant_size}
 use Rattle.constants.proofs.constant.constant.Goals as goal
 
 pub returns-then-limit-lt2-clause-states : goal.returns-then-limit-lt2-clause-states
@@ -47,3 +48,7 @@ returns-clause-width c =
     let long : length word ≡ c.len.result = ap length (sym c.deref-2.ensures.value) ∙ c.deref-2.ensures.len ∙ sym c.len.ensures in
     subst (λ n. HasWidth (ConstantAlike way s c.args.number) c.args.system.now.digits (n + 2)) long
     (constant_width way s c.args.number word c.language-language.ensures.laws c.in_ok-word.ensures.word d path)
+
+pub returns-clause-size : goal.returns-clause-size
+returns-clause-size c =
+    constant_size c.args.system.now.way (system_of c.args.system.now) c.args.number c.in_ok-canonical.field-0 (returns-clause-constant c) (c.len.result + 2) c.in_ok-canonical.ensures.canonical (returns-clause-width c)

@@ -19,6 +19,6 @@ loop-state-preserved c =
       counts = λ n q are within.
           subst (λ (xs : List ℕ). get_or xs q 0 ≡ capped (words_at Msd a (suc n) q)) (sym c.in_ok-push.ensures.items)
           (entries-push (λ p. capped (words_at Msd a (suc n) p)) 0 c.loop-state.next.items state c.sum_along.result c.loop-state.invariant.long (λ p less. c.loop-state.invariant.counts n p are less)
-          (c.sum_along.ensures ∙ ap (λ (es : List Edge). capped (sum_by (λ e. get_or row e.target 0) es)) c.edges.ensures.edges ∙ counts_from-suc a n state row c.edges.ensures.table inside are)
+          (c.sum_along.ensures ∙ ap (λ (es : List Edge). capped (sum_by (λ e. get_or row e.target 0) es)) (c.deref.ensures.value ∙ c.in_ok-edges_into.ensures.edges) ∙ counts_from-suc a n state row c.in_ok-edges_into.ensures.table inside are)
           q within);
     }

@@ -1,0 +1,51 @@
+-- Words whose tracks are in the languages of systems.
+use Rattle.std.proofs.Common.{◌≡◌, ℕ, ◌<◌, true, List, [], ◌∷◌, get_or, length, sym, ap, ◌∙◌, subst, arith}
+use Rattle.std.specs.List.{range_with_len}
+use Rattle.std.proofs.lemmas.List.FromFn.{length-range_with_len, get_or-range_with_len}
+use Rattle.std.proofs.lemmas.List.Sums.{AllPass-from_list_all, list_all-from_AllPass}
+use Rattle.digit_tuple.specs.Parts.{letter_part, part}
+use Rattle.digit_tuple.specs.Paddings.{in_order}
+use Rattle.digit_tuple.specs.Deterministic.{Automaton, accepts_of}
+use Rattle.digit_tuple.specs.declared.direction.Direction.{Direction}
+use Rattle.digit_tuple.proofs.PaddingLemmas.{in_order-map}
+use Rattle.product_op.specs.Validity.{language_at, is_valid}
+use Rattle.numeration.specs.Systems.{System}
+use Rattle.numeration.specs.Spelling.{sizes_of, Spells}
+use Rattle.numeration.specs.SomeTracks.{system_at}
+use Rattle.numeration.proofs.TrackLemmas.{track, numerals_from_spelling, spelling_from_numerals}
+use Rattle.numeration.proofs.PartSpelling.{AreValid, ranks, numerals_valid, valid_numerals}
+use Rattle.num_system.specs.Joined.{AreLanguagesOf}
+
+module _ (way : Direction) (ss : List System) (languages : List Automaton) (are : AreLanguagesOf way ss languages) (w : List ℕ) where
+  language_tells : (i : ℕ) → i < length ss → accepts_of (language_at languages i) (part (sizes_of ss) (i ∷ []) w) ≡ (system_at ss i).test (track ss i (in_order way w))
+  language_tells i within =
+      (are.each i within).accepts (part (sizes_of ss) (i ∷ []) w)
+      ∙ ap (system_at ss i).test (in_order-map way (letter_part (sizes_of ss) (i ∷ [])) w)
+
+  pub valid_from : is_valid (sizes_of ss) languages w ≡ true → AreValid ss (in_order way w)
+  valid_from accepted i within =
+      let all = AllPass-from_list_all (λ track. accepts_of (language_at languages track) (part (sizes_of ss) (track ∷ []) w)) (range_with_len 0 (length languages)) accepted in
+      let less : i < length languages = omega (arith, within, are.count) in
+      let here : get_or (range_with_len 0 (length languages)) i 0 ≡ i = omega (arith, get_or-range_with_len 0 (length languages) i 0 less) in
+      sym (language_tells i within)
+      ∙ subst (λ (j : ℕ). accepts_of (language_at languages j) (part (sizes_of ss) (j ∷ []) w) ≡ true) here
+      (all i 0 (omega (arith, less, length-range_with_len 0 (length languages))))
+
+  pub valid_to : AreValid ss (in_order way w) → is_valid (sizes_of ss) languages w ≡ true
+  valid_to valid =
+      list_all-from_AllPass (λ track. accepts_of (language_at languages track) (part (sizes_of ss) (track ∷ []) w)) (range_with_len 0 (length languages))
+      (λ i d inside.
+      let less : i < length languages = omega (arith, inside, length-range_with_len 0 (length languages)) in
+      let within : i < length ss = omega (arith, less, are.count) in
+      let here : i ≡ get_or (range_with_len 0 (length languages)) i d = omega (arith, get_or-range_with_len 0 (length languages) i d less) in
+      subst (λ (j : ℕ). accepts_of (language_at languages j) (part (sizes_of ss) (j ∷ []) w) ≡ true) here
+      (language_tells i within ∙ valid i within))
+
+  -- a valid word spells numbers
+  pub spelled_from : is_valid (sizes_of ss) languages w ≡ true → (ns : List ℕ) × Spells ss (in_order way w) ns
+  spelled_from accepted =
+      (ranks ss (in_order way w), spelling_from_numerals ss (in_order way w) (ranks ss (in_order way w)) (numerals_valid ss (in_order way w) (valid_from accepted)))
+
+  -- and a word that spells numbers is valid
+  pub spelled_to : (ns : List ℕ) → Spells ss (in_order way w) ns → is_valid (sizes_of ss) languages w ≡ true
+  spelled_to ns spelled = valid_to (valid_numerals ss (in_order way w) ns (numerals_from_spelling ss (in_order way w) ns spelled))

@@ -1,0 +1,15 @@
+use Rattle.std.specs.Result.{IfOk}
+use Rattle.num_system.proofs.StepLemmas.{IfOk-three}
+use Rattle.number_order.proofs.KeptLemmas.{language_kept}
+use Rattle.num_system.proofs.seal.least_language.Goals as goal
+
+pub returns : goal.returns
+returns g c =
+    let s = g.N.NumSystem.system c.args.system.now in
+    let way = g.N.NumSystem.way c.args.system.now in
+    IfOk-three c.canonical.result _ _ _ _
+    (λ least sizes language canonical. record {
+      accepts = language_kept way s c.in_ok-language.language least (g.met.N.NumSystem.laws c.args.system.now) c.in_ok-language.ensures sizes language canonical;
+      canonical = canonical;
+    })
+    c.canonical.ensures.sizes c.canonical.ensures.language c.canonical.ensures.canonical

@@ -1,0 +1,34 @@
+//! Laws of automata that hold of relations, each a call that does nothing.
+
+ghost use Rattle.num_system.specs.Links.{ProductsHold, ComplementsHold, ValidPartsHold, ValidPartsSpell, ProjectionsHold, SentencesHold};
+
+/// A product of automata that hold of relations holds of what its connective says of them.
+pub fn products_hold()
+    ensures { ProductsHold }
+{}
+
+/// A complement among the valid words holds of the tuples of which the relation does not hold.
+pub fn complements_hold()
+    ensures { ComplementsHold }
+{}
+
+/// The valid part of an automaton that holds of a relation holds of it.
+pub fn valid_parts_hold()
+    ensures { ValidPartsHold }
+{}
+
+/// The valid part of an automaton for which leading zeros change nothing holds of the tuples of which
+/// it accepts some spelling.
+pub fn valid_parts_spell()
+    ensures { ValidPartsSpell }
+{}
+
+/// A projection holds of the tuples that some number completes to one of which the relation holds.
+pub fn projections_hold()
+    ensures { ProjectionsHold }
+{}
+
+/// An automaton without tracks accepts the empty word just where its sentence is true.
+pub fn sentences_hold()
+    ensures { SentencesHold }
+{}
