@@ -1,11 +1,9 @@
 pub mod DirectionLemmas
+pub mod ValidWords
 pub mod SpelledWords
 pub mod OneRegex
 pub mod RelationLemmas
-pub mod StepSizes
-pub mod DoneSteps
-pub mod OnePad
-pub mod OneValid
+pub mod TrackNumbers
 pub mod OneRelation
 pub mod OneLanguages
 pub mod RelationDone

@@ -1,17 +1,19 @@
 -- The step of an expression has one width and one line.
-use Rattle.std.proofs.Common.{◌≡◌, ◌⊎◌, ◌↔◌, ℕ, ◌+◌, ◌<◌, ◌≤◌, Bool, true, false, IsTrue, List, length, ℤ, refl, sym, ap, ◌∙◌, subst, inl, inr, arith}
+use Rattle.std.proofs.Common.{◌≡◌, ◌⊎◌, ◌↔◌, ℕ, ◌<◌, ◌≤◌, Bool, true, false, IsTrue, List, length, ℤ, refl, sym, ap, ◌∙◌, subst, inl, inr, arith}
 use Rattle.std.proofs.lemmas.Bool.{cases_lt}
 use Rattle.digit_tuple.specs.Deterministic.{Automaton, letters_of, states_of, accepts_of}
 use Rattle.digit_tuple.specs.Letters.{IsAlphabet, IsWord, product}
 use Rattle.digit_tuple.specs.Sets.{sizes_of}
 use Rattle.digit_tuple.specs.Tuples.{Codes}
-use Rattle.digit_tuple.specs.Width.{HasApart, HasWidth}
+use Rattle.digit_tuple.specs.Width.{IsEquivalence, IsOneWidth}
+use Rattle.digit_tuple.specs.declared.kind.Kind.TheVariants as kinds
 use Rattle.digit_tuple.specs.declared.steps.StepLine.{StepLine}
 use Rattle.digit_tuple.proofs.TupleLemmas.{tuples_from_word}
 use Rattle.minimise.proofs.CanonicalLemmas.{canonical_forms}
 use Rattle.regex_build.specs.Expression.{Expression}
 use Rattle.regex_build.specs.Matches.{Matches}
-use Rattle.minimise.proofs.ApartLemmas.{apart_within_width}
+use Rattle.digit_tuple.proofs.WidthLemmas.{IsOneWidth-equivalence}
+use Rattle.automaton_steps.proofs.OneLines.{one_line as one_step_line, not_beside}
 use Rattle.reg_steps.specs.RegexSteps.{AlikeBy, IsRegexAutomaton, IsRegexStep, ExceedsStates}
 
 pub same_truth : (v w : Bool) (P : Type 0) → (IsTrue v ↔ P) → (IsTrue w ↔ P) → v ≡ w
@@ -30,27 +32,27 @@ one_automaton sets e d f one other = canonical_forms d f one.canonical other.can
         let coded : (tuples : List (List ℤ)) × Codes sets tuples word = tuples_from_word sets word (subst P one.sizes is) in
         same_truth (accepts_of d word) (accepts_of f word) (Matches e coded.0) (one.language coded.0 word coded.1) (other.language coded.0 word coded.1)
 
--- words that are alike to one word are alike
-shared : (sets : List (List ℤ)) (e : Expression (List ℤ)) (w v u : List ℕ) → AlikeBy sets e w u → AlikeBy sets e v u → AlikeBy sets e w v
-shared sets e w v u one other = record {
-  nothing = (λ is. other.nothing.1 (one.nothing.0 is), λ is. one.nothing.1 (other.nothing.0 is));
-  marks = λ place. (λ is. (other.marks place).1 ((one.marks place).0 is), λ is. (one.marks place).1 ((other.marks place).0 is));
+-- words are alike as equals are
+IsEquivalence-regex : (sets : List (List ℤ)) (e : Expression (List ℤ)) → IsEquivalence (AlikeBy sets e)
+IsEquivalence-regex sets e = record {
+  reflexive = λ w. record { nothing = (λ is. is, λ is. is); marks = λ place. (λ is. is, λ is. is) };
+  symmetric = λ w v alike. record { nothing = (alike.nothing.1, alike.nothing.0); marks = λ place. ((alike.marks place).1, (alike.marks place).0) };
+  transitive = λ u v w one two. record {
+    nothing = (λ is. two.nothing.0 (one.nothing.0 is), λ is. one.nothing.1 (two.nothing.1 is));
+    marks = λ place. (λ is. (two.marks place).0 ((one.marks place).0 is), λ is. (one.marks place).1 ((two.marks place).1 is));
+  };
 }
 
--- words that are apart are no more than the width
-few : (sets : List (List ℤ)) (e : Expression (List ℤ)) (k m : ℕ) → HasApart (AlikeBy sets e) (product (sizes_of sets)) k → HasWidth (AlikeBy sets e) (product (sizes_of sets)) m → k ≤ m
-few sets e k m apart width = apart_within_width (AlikeBy sets e) (product (sizes_of sets)) k m (shared sets e) apart width
+one_regex_width : (sets : List (List ℤ)) (e : Expression (List ℤ)) → IsOneWidth (AlikeBy sets e) (product (sizes_of sets))
+one_regex_width sets e = IsOneWidth-equivalence (AlikeBy sets e) (product (sizes_of sets)) (IsEquivalence-regex sets e)
 
 -- a step within the limit does not pass it
 pub within_or_above : (limit : ℕ) (sets : List (List ℤ)) (e : Expression (List ℤ)) (d : Automaton) (line : StepLine) → IsRegexStep limit sets e d line → ExceedsStates limit sets e → ⊥
-within_or_above limit sets e d line step above = omega (arith, few sets e (limit + 1) line.width above.apart step.width, step.within)
+within_or_above limit sets e d line step above = not_beside (AlikeBy sets e) (product (sizes_of sets)) (one_regex_width sets e) limit (states_of d) kinds.Regex line step.line_is above.exceeds
 
 pub one_line : (limit : ℕ) (sets : List (List ℤ)) (e : Expression (List ℤ)) (d f : Automaton) (line other : StepLine) → IsRegexStep limit sets e d line → IsRegexStep limit sets e f other → line ≡ other
-one_line limit sets e d f line other a b =
-    let kinds : line.kind ≡ other.kind = a.kind_is ∙ sym b.kind_is in
-    let widths : line.width ≡ other.width = omega (arith, few sets e line.width other.width a.width.some b.width, few sets e other.width line.width b.width.some a.width) in
-    let sizes : line.size ≡ other.size = a.size_is ∙ (ap (λ (x : Automaton). states_of x) (one_automaton sets e d f a.of_regex b.of_regex) ∙ sym b.size_is) in
-    λ i. record { kind = kinds i; width = widths i; size = sizes i }
+one_line limit sets e d f line other a b = one_step_line (AlikeBy sets e) (product (sizes_of sets)) (one_regex_width sets e) limit (states_of d) (states_of f) kinds.Regex line other a.line_is b.line_is
+    (ap (λ (x : Automaton). states_of x) (one_automaton sets e d f a.of_regex b.of_regex))
 
 -- whether sizes are those of an alphabet can be told
 pub alphabet_is : (sizes : List ℕ) → (¬ IsAlphabet sizes → ⊥) → IsAlphabet sizes

@@ -5,12 +5,13 @@ use Rattle.digit_tuple.specs.declared.direction.Direction.{Direction}
 use Rattle.digit_tuple.specs.declared.steps.StepLine.{StepLine}
 use Rattle.regex_build.specs.Expression.{Expression}
 use Rattle.reg_steps.specs.RegexSteps.{ExceedsStates}
-use Rattle.reg_steps.specs.PadSteps.{IsPadStep, PadExceeds}
-use Rattle.reg_steps.specs.ValidSteps.{IsValidStep, ValidExceeds}
+use Rattle.automaton_steps.specs.PadSteps.{IsPadStep, PadExceeds}
+use Rattle.automaton_steps.specs.ValidSteps.{IsValidStep, ValidExceeds}
+use Rattle.automaton_steps.proofs.OneOutcomes.{pad_outcome, valid_outcome}
+use Rattle.automaton_steps.proofs.OneResults.{one_closure}
+use Rattle.reg_steps.specs.Numbered.{numbered}
 use Rattle.reg_steps.specs.RelationSteps.{IsClosed, AreRelationSteps, SecondExceeds, ThirdExceeds}
 use Rattle.reg_steps.proofs.OneRegex.{one_automaton, one_line, within_or_above}
-use Rattle.reg_steps.proofs.OnePad.{one_closure, one_pad_line, pad_within_or_above}
-use Rattle.reg_steps.proofs.OneValid.{one_valid_line, valid_within_or_above}
 
 module _ (limit : ℕ) (direction : Direction) (sets : List (List ℤ)) (e : Expression (List ℤ)) where
   pub one_matches : (a b : IsClosed limit direction sets e) → a.matches ≡ b.matches
@@ -21,13 +22,13 @@ module _ (limit : ℕ) (direction : Direction) (sets : List (List ℤ)) (e : Exp
   moved_pad a b = subst (λ (d : Automaton). IsPadStep limit direction d a.closed a.pad) (one_matches a b) a.pad_step
 
   pub one_closed : (a b : IsClosed limit direction sets e) → a.closed ≡ b.closed
-  one_closed a b = one_closure b.matches direction a.closed b.closed (moved_pad a b).closure b.pad_step.closure
+  one_closed a b = one_closure direction b.matches a.closed b.closed (moved_pad a b).closure b.pad_step.closure
 
   pub one_regex_line : (a b : IsClosed limit direction sets e) → a.regex ≡ b.regex
   one_regex_line a b = one_line limit sets e a.matches b.matches a.regex b.regex a.regex_step b.regex_step
 
   pub one_closed_line : (a b : IsClosed limit direction sets e) → a.pad ≡ b.pad
-  one_closed_line a b = one_pad_line b.matches limit direction a.closed b.closed a.pad b.pad (moved_pad a b) b.pad_step
+  one_closed_line a b = (pad_outcome limit direction b.matches).line a.closed b.closed a.pad b.pad (moved_pad a b) b.pad_step
 
   -- where the second step was done, no step before passed the limit, nor did it
   pub closed_not_first : IsClosed limit direction sets e → ExceedsStates limit sets e → ⊥
@@ -36,7 +37,7 @@ module _ (limit : ℕ) (direction : Direction) (sets : List (List ℤ)) (e : Exp
   pub closed_not_second : IsClosed limit direction sets e → SecondExceeds limit direction sets e → ⊥
   closed_not_second a b =
       let same : b.matches ≡ a.matches = one_automaton sets e b.matches a.matches b.regex_step.of_regex a.regex_step.of_regex in
-      pad_within_or_above a.matches limit direction a.closed a.pad a.pad_step (subst (λ (d : Automaton). PadExceeds limit direction d) same b.exceeds)
+      (pad_outcome limit direction a.matches).no_states a.closed a.pad a.pad_step (subst (λ (d : Automaton). PadExceeds limit direction d) same b.exceeds)
 
   -- where the first step was done it did not pass the limit
   pub second_not_first : SecondExceeds limit direction sets e → ExceedsStates limit sets e → ⊥
@@ -45,9 +46,9 @@ module _ (limit : ℕ) (direction : Direction) (sets : List (List ℤ)) (e : Exp
   module _ (languages : List Automaton) where
     pub one_last_line : (c d : Automaton) (valid other : StepLine) → AreRelationSteps limit direction languages sets e c valid → AreRelationSteps limit direction languages sets e d other → valid ≡ other
     one_last_line c d valid other a b =
-        let moved : IsValidStep limit languages b.before.closed c valid = subst (λ (x : Automaton). IsValidStep limit languages x c valid) (one_closed a.before b.before) a.valid_step in
-        one_valid_line languages b.before.closed limit c d valid other moved b.valid_step
+        let moved : IsValidStep limit languages (numbered b.before.closed) (numbered c) valid = subst (λ (x : Automaton). IsValidStep limit languages (numbered x) (numbered c) valid) (one_closed a.before b.before) a.valid_step in
+        (valid_outcome limit languages (numbered b.before.closed)).line (numbered c) (numbered d) valid other moved b.valid_step
 
     pub done_not_third : (c : Automaton) (valid : StepLine) → AreRelationSteps limit direction languages sets e c valid → ThirdExceeds limit direction languages sets e → ⊥
     done_not_third c valid a b =
-        valid_within_or_above languages a.before.closed limit c valid a.valid_step (subst (λ (x : Automaton). ValidExceeds limit languages x) (one_closed b.before a.before) b.exceeds)
+        (valid_outcome limit languages (numbered a.before.closed)).no_states (numbered c) valid a.valid_step (subst (λ (x : Automaton). ValidExceeds limit languages (numbered x)) (one_closed b.before a.before) b.exceeds)

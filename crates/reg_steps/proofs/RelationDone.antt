@@ -2,18 +2,21 @@
 use Rattle.std.proofs.Common.{◌≡◌, ℕ, ◌+◌, List, [], ◌∷◌, length, ℤ, Result, Ok, Err, inr, ap, ◌∙◌, subst, arith}
 use Rattle.std.proofs.lemmas.List.{length-append}
 use Rattle.digit_tuple.specs.Deterministic.{Automaton}
+use Rattle.digit_tuple.specs.StepResults.{IsDone}
 use Rattle.digit_tuple.specs.Steps.{StepLog, with_line}
 use Rattle.digit_tuple.specs.declared.direction.Direction.{Direction}
 use Rattle.digit_tuple.specs.declared.steps.StepLine.{StepLine}
 use Rattle.minimise.specs.Tracked.{NamedAutomaton}
 use Rattle.regex_build.specs.Expression.{Expression}
-use Rattle.reg_steps.specs.declared.fault.StepFault.{StepFault}
-use Rattle.reg_steps.specs.declared.fault.StepFault.TheVariants as faults
+use Rattle.digit_tuple.specs.declared.step_fault.StepFault.{StepFault}
+use Rattle.digit_tuple.specs.declared.step_fault.StepFault.TheVariants as faults
 use Rattle.reg_steps.specs.RegexSteps.{IsRegexStep}
-use Rattle.reg_steps.specs.PadSteps.{IsPadStep}
-use Rattle.reg_steps.specs.ValidSteps.{IsValidStep, ValidExceeds}
+use Rattle.automaton_steps.specs.PadSteps.{IsPadStep}
+use Rattle.automaton_steps.specs.ValidSteps.{IsValidStep, ValidExceeds, DoesValid}
+use Rattle.reg_steps.specs.Numbered.{numbered}
+use Rattle.reg_steps.proofs.TrackNumbers.{numbered_too}
 use Rattle.reg_steps.specs.RelationSteps.{IsClosed}
-use Rattle.reg_steps.specs.Refusals.{IsDone, DoesValid, DoesRelation}
+use Rattle.reg_steps.specs.Refusals.{DoesRelation}
 
 same_limit : (old new : StepLog) (line : StepLine) → new ≡ with_line old line → new.limit ≡ old.limit
 same_limit old new line is = ap (λ (log : StepLog). log.limit) is
@@ -43,13 +46,18 @@ module _ (old mid late : StepLog) (direction : Direction) (languages : List Auto
   late_lines = omega (arith, one_longer mid late pad.line pad.new_is, one_longer old mid regex.line regex.new_is)
 
   -- the last step is done, or refused
-  pub relation_done : (new : StepLog) (result : Result NamedAutomaton StepFault) → DoesValid late languages closed result new → DoesRelation old direction languages sets tree result new
+  pub relation_done : (new : StepLog) (result : Result NamedAutomaton StepFault) → DoesValid late languages (numbered closed) result new → DoesRelation old direction languages sets tree result new
   relation_done new (Ok part) done = record {
     valid = done.line;
-    steps = record { before = before; valid_step = subst (λ (limit : ℕ). IsValidStep limit languages closed part.automaton done.line) late_limit done.step };
+    steps = record {
+      before = before;
+      valid_step =
+          subst (λ (a : NamedAutomaton). IsValidStep old.limit languages (numbered closed) a done.line) (numbered_too part closed done.step.valid_part.names done.step.valid_part.sizes)
+          (subst (λ (limit : ℕ). IsValidStep limit languages (numbered closed) part done.line) late_limit done.step);
+    };
     new_is = done.new_is ∙ ap (λ (log : StepLog). with_line log done.line) (pad.new_is ∙ ap (λ (log : StepLog). with_line log pad.line) regex.new_is);
   }
-  relation_done new (Err (faults.Letters step)) (is, none) = absurd none
-  relation_done new (Err (faults.States step)) (is, above) =
-      inr (inr (omega (arith, is, late_lines), record { before = before; exceeds = subst (λ (limit : ℕ). ValidExceeds limit languages closed) late_limit above }))
+  relation_done new (Err (faults.Letters step)) refused = absurd refused.by_limit.1
+  relation_done new (Err (faults.States step)) refused =
+      inr (inr (omega (arith, refused.by_limit.0, late_lines), record { before = before; exceeds = subst (λ (limit : ℕ). ValidExceeds limit languages (numbered closed)) late_limit refused.by_limit.1 }))
   relation_done new (Err faults.Memory) refused = tt

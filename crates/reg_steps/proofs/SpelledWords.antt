@@ -1,9 +1,8 @@
 -- Words whose tracks are valid, and words that spell numbers.
 use Rattle.std.proofs.Common.{◌≡◌, ℕ, ◌<◌, true, List, [], ◌∷◌, length, map, get_or, sym, ap, ◌∙◌, subst, arith}
-use Rattle.std.specs.List.{range_with_len, AllPass}
+use Rattle.std.specs.List.{range_with_len}
 use Rattle.std.proofs.lemmas.List.{get_or_default}
-use Rattle.std.proofs.lemmas.List.Sums.{AllPass-from_list_all, list_all-from_AllPass}
-use Rattle.std.proofs.lemmas.List.FromFn.{length-range_with_len, get_or-range_with_len, length-map-range_with_len, get_or-map-range_with_len}
+use Rattle.std.proofs.lemmas.List.FromFn.{length-map-range_with_len, get_or-map-range_with_len}
 use Rattle.digit_tuple.specs.Deterministic.{Automaton, accepts_of}
 use Rattle.digit_tuple.specs.Parts.{part}
 use Rattle.digit_tuple.specs.Paddings.{in_order}
@@ -13,32 +12,13 @@ use Rattle.numeration.specs.Words.{rank}
 use Rattle.numeration.specs.Systems.{System, IsNumeral}
 use Rattle.numeration.specs.Spelling.{Spells, sizes_of}
 use Rattle.numeration.proofs.TrackLemmas.{track, numerals_from_spelling, spelling_from_numerals}
+use Rattle.reg_steps.proofs.ValidWords.{each_track, all_tracks, IsInLanguage}
 use Rattle.reg_steps.specs.Relations.{AreSystemLanguages}
 use Rattle.reg_steps.proofs.DirectionLemmas.{part-in_order}
 
 -- what stands for a system that is not there
 abbrev pub no_system : System
 no_system = record { digits = 0; test = λ w. true }
-
-module _ (sizes : List ℕ) (languages : List Automaton) (w : List ℕ) where
-  -- whether the track is in its language
-  abbrev pub in_language : ℕ → Type 0
-  in_language i = accepts_of (language_at languages i) (part sizes (i ∷ []) w) ≡ true
-
-  pub each_track : is_valid sizes languages w ≡ true → (i : ℕ) → i < length languages → in_language i
-  each_track valid i within =
-      let at : get_or (range_with_len 0 (length languages)) i 0 ≡ i = omega (arith, get_or-range_with_len 0 (length languages) i 0 within) in
-      let passes = AllPass-from_list_all (λ track. accepts_of (language_at languages track) (part sizes (track ∷ []) w)) (range_with_len 0 (length languages)) valid i 0 (omega (arith, within, length-range_with_len 0 (length languages))) in
-      subst in_language at passes
-
-  pub all_tracks : ((i : ℕ) → i < length languages → in_language i) → is_valid sizes languages w ≡ true
-  all_tracks each = list_all-from_AllPass (λ track. accepts_of (language_at languages track) (part sizes (track ∷ []) w)) (range_with_len 0 (length languages)) pass
-    where
-      pass : AllPass (λ track. accepts_of (language_at languages track) (part sizes (track ∷ []) w)) (range_with_len 0 (length languages))
-      pass i d within =
-          let small : i < length languages = omega (arith, within, length-range_with_len 0 (length languages)) in
-          let at : get_or (range_with_len 0 (length languages)) i d ≡ i = omega (arith, get_or-range_with_len 0 (length languages) i d small) in
-          subst in_language (sym at) (each i small)
 
 module _ (direction : Direction) (ss : List System) (languages : List Automaton) (are : AreSystemLanguages direction ss languages) (w : List ℕ) where
   -- a track is valid where its language accepts it
@@ -69,7 +49,7 @@ module _ (direction : Direction) (ss : List System) (languages : List Automaton)
   pub spelled_valid : (ns : List ℕ) → Spells ss (in_order direction w) ns → is_valid (sizes_of ss) languages w ≡ true
   spelled_valid ns spelled = all_tracks (sizes_of ss) languages w each
     where
-      each : (i : ℕ) → i < length languages → in_language (sizes_of ss) languages w i
+      each : (i : ℕ) → i < length languages → IsInLanguage (sizes_of ss) languages w i
       each i within =
           let inside : i < length ss = omega (arith, within, are.count) in
           track_test i no_system inside ∙ ((numerals_from_spelling ss (in_order direction w) ns spelled).each i no_system inside).0

@@ -1,7 +1,6 @@
 -- Definitions that the contracts cite, in reading order.
 pub mod RegexSteps
-pub mod PadSteps
-pub mod ValidSteps
+pub mod Numbered
 pub mod RelationSteps
 pub mod Relations
 pub mod Laws

@@ -2,17 +2,11 @@
 //! numeration systems the steps `regex`, `pad` and `valid`.
 #![tactic(auto)]
 
-/// Why a step gives no automaton.
-pub mod fault;
-
 /// The step `regex`.
 pub mod regex_step;
 
-/// The step `pad`.
-pub mod pad_step;
-
-/// The step `valid`.
-pub mod valid_step;
+/// Automata whose tracks are named by their numbers.
+mod numbered;
 
 /// The three steps over numeration systems.
 pub mod relation_steps;

@@ -1,12 +1,11 @@
 //! The step `regex`.
 
-ghost use Rattle.std.specs.Prelude.{◌<◌, ◌^◌, length};
-ghost use Rattle.reg_steps.specs.Refusals.{DoesRegex};
+ghost use Rattle.reg_steps.specs.RegexSteps.{DoesRegex};
 
-use crate::fault::StepFault;
 use digit_tuple::dfa::Dfa;
 use digit_tuple::faults::OpFault;
 use digit_tuple::kind::Kind;
+use digit_tuple::step_fault::StepFault;
 use digit_tuple::stepped::Stepped;
 use digit_tuple::steps::Steps;
 use regex_build::build::build;
@@ -22,7 +21,6 @@ use std::alloc::Global;
 /// first; `States` exactly where the width passes the limit. The steps are as before then, also where
 /// memory is wanting.
 pub fn regex_step(alloc: Global, regex: &Regex, steps: &mut Steps) -> Result<Dfa, StepFault>
-    requires few { length steps.old.lines < 2 ^ 32 }
     ensures { DoesRegex steps.old regex.now.sets regex.now.tree result steps.new }
 {
     match build(alloc, regex, steps.limit()) {
@@ -30,8 +28,8 @@ pub fn regex_step(alloc: Global, regex: &Regex, steps: &mut Steps) -> Result<Dfa
             steps.done(Kind::Regex, width, result.states())?;
             Ok(result)
         }
-        Err(OpFault::Letters) => Err(StepFault::Letters(steps.count() + 1)),
-        Err(OpFault::States) => Err(StepFault::States(steps.count() + 1)),
+        Err(OpFault::Letters) => Err(StepFault::Letters(steps.next_number())),
+        Err(OpFault::States) => Err(StepFault::States(steps.next_number())),
         Err(OpFault::Memory) => Err(StepFault::Memory),
     }
 }

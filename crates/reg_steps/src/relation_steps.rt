@@ -1,17 +1,18 @@
 //! The three steps over numeration systems.
 
-ghost use Rattle.std.specs.Prelude.{◌+◌, ◌<◌, ◌^◌, length, map};
+ghost use Rattle.std.specs.Prelude.{map};
 ghost use Rattle.std.specs.Rc.{rc_value};
 ghost use Rattle.digit_tuple.specs.Sets.{sizes_of};
 ghost use Rattle.product_op.specs.Validity.{AreLanguages};
 ghost use Rattle.reg_steps.specs.Refusals.{DoesRelation};
 
-use crate::fault::StepFault;
-use crate::pad_step::pad_step;
+use crate::numbered::numbered;
 use crate::regex_step::regex_step;
-use crate::valid_step::valid_step;
+use automaton_steps::pad_step::pad_step;
+use automaton_steps::valid_step::valid_step;
 use digit_tuple::dfa::Dfa;
 use digit_tuple::direction::Direction;
+use digit_tuple::step_fault::StepFault;
 use digit_tuple::steps::Steps;
 use minimise::tracked::Tracked;
 use regex_build::regex::Regex;
@@ -20,7 +21,8 @@ use std::rc::Rc;
 
 /// The automaton of an expression over numeration systems of one direction, whose sets are the digits
 /// of each track's system, by the steps `regex`, `pad` and `valid` as the next ones. There is a
-/// canonical language for each track: that of its system. The result is canonical.
+/// canonical language for each track: that of its system. The result is canonical, its tracks under
+/// their numbers.
 ///
 /// It accepts the words whose tracks are valid and of which some word matches the expression that is
 /// the same but for zeros at the end of the most significant letters: by a law of `laws` the spellings
@@ -35,11 +37,11 @@ pub fn relation_steps(
     languages: &[Rc<Dfa>],
     steps: &mut Steps,
 ) -> Result<Tracked, StepFault>
-    requires few { length steps.old.lines + 2 < 2 ^ 32 }
     requires languages { AreLanguages (sizes_of regex.now.sets) (map rc_value languages.now) }
     ensures { DoesRelation steps.old direction (map rc_value languages.now) regex.now.sets regex.now.tree result steps.new }
 {
     let matches = regex_step(alloc, regex, steps)?;
     let closed = pad_step(alloc, &matches, direction, steps)?;
-    valid_step(alloc, &closed, languages, steps)
+    let relation = numbered(alloc, closed)?;
+    valid_step(alloc, &relation, languages, steps)
 }

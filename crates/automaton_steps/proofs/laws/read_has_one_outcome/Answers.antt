@@ -1,0 +1,5 @@
+use Rattle.automaton_steps.proofs.OneOutcomes.{read_outcome}
+use Rattle.automaton_steps.proofs.laws.read_has_one_outcome.Goals as goal
+
+pub returns : goal.returns
+returns c = read_outcome

@@ -1,0 +1,43 @@
+//! The step `complement`.
+
+ghost use Rattle.std.specs.Prelude.{map};
+ghost use Rattle.std.specs.Rc.{rc_value};
+ghost use Rattle.product_op.specs.Validity.{AreLanguages};
+ghost use Rattle.automaton_steps.specs.ComplementSteps.{DoesComplement};
+
+use digit_tuple::dfa::Dfa;
+use digit_tuple::faults::OpFault;
+use digit_tuple::kind::Kind;
+use digit_tuple::step_fault::StepFault;
+use digit_tuple::stepped::Stepped;
+use digit_tuple::steps::Steps;
+use minimise::tracked::Tracked;
+use product_op::validity::complement_in;
+use std::alloc::Global;
+use std::rc::Rc;
+
+/// The words that are not accepted and whose tracks are each in the track's language, by the step
+/// `complement` as the next one. There is a canonical language for each track. The tracks, the width
+/// and the cost are those of `complement_in`.
+///
+/// # Errors
+/// `States` exactly where the width passes the limit. The steps are as before then, also where memory
+/// is wanting.
+pub fn complement_step(
+    alloc: Global,
+    argument: &Tracked,
+    languages: &[Rc<Dfa>],
+    steps: &mut Steps,
+) -> Result<Tracked, StepFault>
+    requires languages { AreLanguages argument.now.automaton.sizes (map rc_value languages.now) }
+    ensures { DoesComplement steps.old (map rc_value languages.now) argument.now result steps.new }
+{
+    match complement_in(alloc, argument, languages, steps.limit()) {
+        Ok(Stepped { result, width }) => {
+            steps.done(Kind::Complement, width, result.dfa().states())?;
+            Ok(result)
+        }
+        Err(OpFault::States) => Err(StepFault::States(steps.next_number())),
+        Err(_) => Err(StepFault::Memory),
+    }
+}

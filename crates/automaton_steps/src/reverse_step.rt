@@ -1,0 +1,34 @@
+//! The step `reverse`.
+
+ghost use Rattle.automaton_steps.specs.ReverseSteps.{DoesReverse};
+
+use determinise::reversal::reverse;
+use digit_tuple::dfa::Dfa;
+use digit_tuple::faults::OpFault;
+use digit_tuple::kind::Kind;
+use digit_tuple::step_fault::StepFault;
+use digit_tuple::stepped::Stepped;
+use digit_tuple::steps::Steps;
+use minimise::canonical::canonical;
+use std::alloc::Global;
+
+/// The canonical automaton of the words whose reversal is accepted, by the step `reverse` as the next
+/// one. The width is the number of residuals of that language, the empty one among them where it
+/// occurs. The cost is that of `reverse`.
+///
+/// # Errors
+/// `States` exactly where the width passes the limit. The steps are as before then, also where memory
+/// is wanting.
+pub fn reverse_step(alloc: Global, argument: &Dfa, steps: &mut Steps) -> Result<Dfa, StepFault>
+    ensures { DoesReverse steps.old argument.now result steps.new }
+{
+    match reverse(alloc, argument, steps.limit()) {
+        Ok(Stepped { result, width }) => {
+            let reversed = canonical(alloc, &result)?;
+            steps.done(Kind::Reverse, width, reversed.states())?;
+            Ok(reversed)
+        }
+        Err(OpFault::States) => Err(StepFault::States(steps.next_number())),
+        Err(_) => Err(StepFault::Memory),
+    }
+}
