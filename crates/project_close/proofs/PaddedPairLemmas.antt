@@ -1,7 +1,7 @@
 -- Pairs of states that words lead to without their trailing zeros and with them.
-use Rattle.std.proofs.Common.{◌≡◌, ◌≢◌, ◌==◌, ◌&&◌, ℕ, zero, suc, Bool, true, false, if◌then◌else◌, List, [], ◌∷◌, ◌++◌, reverse, slice_index, Option, None, Some, ◌↔◌, IsTrue, refl, sym, ap, ◌∙◌, true≢false, arith}
+use Rattle.std.proofs.Common.{◌≡◌, ◌≢◌, ◌==◌, ◌&&◌, ℕ, zero, suc, ◌<◌, ◌≤◌, Bool, true, false, if◌then◌else◌, List, [], ◌∷◌, ◌++◌, reverse, slice_index, Option, None, Some, ◌↔◌, ◌⊎◌, inl, inr, IsTrue, refl, sym, ap, ◌∙◌, true≢false, arith}
 use Rattle.std.specs.Option.{option_and_then, option_map_or}
-use Rattle.std.proofs.lemmas.Bool.{eqb-true, false_from_ne_true}
+use Rattle.std.proofs.lemmas.Bool.{cases_lt, eqb-true, false_from_ne_true}
 use Rattle.std.proofs.lemmas.Option.{none-some}
 use Rattle.digit_tuple.specs.AcceptingStates.{AreAccepting}
 use Rattle.digit_tuple.specs.Automaton.{Branching}
@@ -13,18 +13,22 @@ use Rattle.digit_tuple.specs.declared.direction.Direction.TheVariants.{Lsd}
 use Rattle.digit_tuple.proofs.KeyLemmas.{key_accepts-run}
 use Rattle.digit_tuple.specs.Reversed.{IsReversal}
 use Rattle.determinise.proofs.ReversalLemmas as reversal
+use Rattle.digit_tuple.specs.Width.{HasWidth}
+use Rattle.digit_tuple.proofs.WidthLemmas.{HasApart-within}
 use Rattle.minimise.specs.Canonical.{IsCanonical}
+use Rattle.minimise.proofs.ApartLemmas.{canonical_apart}
 use Rattle.minimise.specs.Classes.{next_of, first_of}
 use Rattle.minimise.proofs.LeadLemmas.{lead, SameAfter-lead, one_lead}
 use Rattle.minimise.proofs.SinkLemmas.{not_accepting_past}
 use Rattle.project_close.specs.Padding.{IsPadded, LsdPaddedAlike}
-use Rattle.project_close.specs.PaddedPairs.{AreFinal, are_sinks, pair_after, some_pair, twice}
+use Rattle.project_close.specs.PaddedPairs.{AreFinal, KeepsAcceptance, are_sinks, pair_after, some_pair, twice}
 use Rattle.project_close.specs.ZeroClosure.{IsOverFlagged, IsReached, flag_at}
 use Rattle.digit_tuple.proofs.AcceptedLemmas.{accepted_over}
 use Rattle.digit_tuple.proofs.PaddingLemmas.{strip-zeros, zeros_at_end, IsWord-strip, reverse-zeros}
 use Rattle.project_close.proofs.PairEdges.{are_sinks-one, not_sinks}
+use Rattle.project_close.proofs.WidthLaws.{IsEquivalence-padded}
 use Rattle.project_close.proofs.TrimmedWords.{with_front, trimmed, strip-trimmed}
-use Rattle.project_close.proofs.SinkLeads.{accepts_of-lead, accepting_within, within_from_lead, run_from_lead, lead_from_run, lead-append, lead-sink}
+use Rattle.project_close.proofs.SinkLeads.{accepts_of-lead, accepting_within, within_from_lead, run_from_lead, lead_from_run, lead-append, lead-sink, next_past}
 
 module _ (d : Automaton) where
   -- where a word without trailing zeros leads, or the state from before, where there are zeros alone
@@ -146,6 +150,38 @@ module _ (d : Automaton) (canonical : IsCanonical d) (live : first_of d ≢ stat
                   ∙ sym (accepts_of-lead d v)
                   ∙ padded.3,
             )
+
+module _ (d : Automaton) (canonical : IsCanonical d) (keeps : KeepsAcceptance d) where
+  kept-zero : (q : ℕ) → accepting_of d (next_of d q 0) ≡ accepting_of d q
+  kept-zero q = by (cases_lt q (states_of d))
+    where
+      by : (q < states_of d) ⊎ (states_of d ≤ q) → accepting_of d (next_of d q 0) ≡ accepting_of d q
+      by (inl within) = keeps q within
+      by (inr past) = ap (accepting_of d) (next_past d q 0 past) ∙ not_accepting_past d (states_of d) (omega arith) ∙ sym (not_accepting_past d q past)
+
+  kept-zeros : (k q : ℕ) → accepting_of d (lead d q (zeros k)) ≡ accepting_of d q
+  kept-zeros zero q = refl
+  kept-zeros (suc k) q = kept-zeros k (next_of d q 0) ∙ kept-zero q
+
+  accepts_stripped : (u : List ℕ) → accepts_of d u ≡ accepting_of d (lead d (first_of d) (strip Lsd u))
+  accepts_stripped u =
+      let end = zeros_at_end u in
+      accepts_of-lead d u
+      ∙ ap (λ (v : List ℕ). accepting_of d (lead d (first_of d) v)) end.1
+      ∙ ap (accepting_of d) (lead-append d (strip Lsd u) (zeros end.0) (first_of d))
+      ∙ kept-zeros end.0 (lead d (first_of d) (strip Lsd u))
+
+  -- the language is closed under trailing zeros
+  pub accepts-padded : (w : List ℕ) → IsWord (letters_of d) w → IsTrue (accepts_of d w) ↔ IsPadded Lsd d w
+  accepts-padded w over = (
+    (λ is. (w, over, refl, is)),
+    (λ padded. accepts_stripped w ∙ ap (λ (v : List ℕ). accepting_of d (lead d (first_of d) v)) (sym padded.2) ∙ sym (accepts_stripped padded.0) ∙ padded.3),
+  )
+
+  -- and there are at most as many states as kinds of words
+  pub states_within : (width : ℕ) → HasWidth (LsdPaddedAlike d) (letters_of d) width → states_of d ≤ width
+  states_within width = HasApart-within (LsdPaddedAlike d) (letters_of d) (IsEquivalence-padded d Lsd) (states_of d) width
+      (canonical_apart d canonical (LsdPaddedAlike d) (λ w v u over there more alike. alike.whole u more))
 
 module _ (d : Automaton) (canonical : IsCanonical d) (n : Branching) (turned : IsReversal d n) (last : List ℕ) (are : AreAccepting d last) (flags : List Bool)
     (reached : (q : ℕ) → (flag_at flags q ≡ true) ↔ IsReached n (true ∷ []) last q) where

@@ -1,6 +1,6 @@
 -- Pairs of states as keys of the closure under trailing zeros: where the word leads without its trailing zeros, and
 -- where it leads with them. The sink is the number past the states. Two sinks are no key but the first.
-use Rattle.std.specs.Prelude.{◌≡◌, ◌==◌, ℕ, zero, suc, ◌≤◌, ◌↔◌, Bool, true, false, not, ◌&&◌, List, [], ◌∷◌, filter, map, length, slice_index, Option, None, Some, MatchOption, ⊤, if◌then◌else◌}
+use Rattle.std.specs.Prelude.{◌≡◌, ◌==◌, ℕ, zero, suc, ◌<◌, ◌≤◌, ◌↔◌, Bool, true, false, not, ◌&&◌, List, [], ◌∷◌, filter, map, length, slice_index, Option, None, Some, MatchOption, ⊤, if◌then◌else◌}
 use Rattle.std.proofs.Common.{refl, arith}
 use Rattle.digit_tuple.specs.Deterministic.{Automaton, IsTable, states_of, letters_of, accepting_of, edges_of}
 use Rattle.digit_tuple.specs.Keys.{KeyEdge}
@@ -19,6 +19,10 @@ AreFinal d flags = (q : ℕ) → (flag_at flags q ≡ true) ↔ ((k : ℕ) × (a
 pub record AreFinalFlags (d : Automaton) (flags : List Bool) : Type 0 where
   pub count : length flags ≡ states_of d
   pub final : AreFinal d flags
+
+-- each state accepts exactly where the one does that the zero letter leads to, so that zeros after a word change nothing
+abbrev pub KeepsAcceptance : Automaton → Type 0
+KeepsAcceptance d = (q : ℕ) → q < states_of d → accepting_of d (next_of d q 0) ≡ accepting_of d q
 
 -- the pair of one state
 abbrev pub twice : ℕ → List ℕ

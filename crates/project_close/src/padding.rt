@@ -27,8 +27,9 @@ use std::alloc::Global;
 /// empty, is that after both, and one that after both without their trailing zeros. The result has at
 /// most as many states. `States` comes exactly where the width passes the limit, and `Letters` never.
 /// Memory may also run out where 2^32 - 1 states are not enough. Only what words lead to is made: time
-/// and memory follow the size of `a` and the width times the letters, and for sets of residuals also
-/// the sizes of these sets.
+/// and memory follow the size of `a` and the edges from these sets, or from these pairs, of residuals,
+/// and for sets also their sizes. Where the words are all there already the result is a copy of `a`, and
+/// nothing is made least; where the most significant digit comes first no set is made then either.
 pub fn pad(
     alloc: Global,
     a: &Dfa,

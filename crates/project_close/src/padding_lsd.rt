@@ -10,7 +10,7 @@ ghost use Rattle.minimise.specs.Canonical.{IsCanonical};
 ghost use Rattle.minimise.specs.Classes.{first_of};
 ghost use Rattle.minimise.specs.Residuals.{IsDead};
 ghost use Rattle.project_close.specs.Padding.{IsPadded, PaddedAlike};
-ghost use Rattle.project_close.specs.PaddedPairs.{AreFinalFlags, IsPair, twice, pair_after, edges_by_zero, edges_by_others, first_is_pair, pair_after_is_pair};
+ghost use Rattle.project_close.specs.PaddedPairs.{AreFinalFlags, IsPair, KeepsAcceptance, twice, pair_after, edges_by_zero, edges_by_others, first_is_pair, pair_after_is_pair};
 ghost use Rattle.project_close.specs.ZeroClosure.{flag_at};
 
 use crate::emptiness::accepts_nothing;
@@ -19,6 +19,7 @@ use digit_tuple::accepting_states::accepting_states;
 use digit_tuple::alphabet::Alphabet;
 use digit_tuple::dfa::Dfa;
 use digit_tuple::edges::Edge;
+use digit_tuple::exploration::explore;
 use digit_tuple::faults::{OpFault, OutOfMemory};
 use digit_tuple::key_edges::KeyEdges;
 use digit_tuple::key_graph::KeyGraph;
@@ -26,7 +27,7 @@ use digit_tuple::no_words::no_words_within;
 use digit_tuple::reversed::reversed;
 use digit_tuple::stepped::Stepped;
 use minimise::canonical_exploration::explore_canonical;
-use minimise::sink::{first_state, next_state};
+use minimise::sink::{first_state, is_accepting, next_state};
 use std::alloc::Global;
 
 /// The pairs of states that words lead to without their trailing zeros and with them, and for each
@@ -137,9 +138,59 @@ pub fn pad_lsd(alloc: Global, a: &Dfa, limit: u32) -> Result<Stepped<Dfa>, OpFau
     let alphabet = a.alphabet().copy(alloc)?;
     if accepts_nothing(a) {
         no_words_within(alloc, alphabet, limit)
+    } else if keeps_acceptance(a) {
+        pad_itself(alloc, a, alphabet, limit)
     } else {
         explore_pairs(alloc, a, alphabet, limit)
     }
+}
+
+// Whether zeros after a word change nothing.
+fn keeps_acceptance(a: &Dfa) -> bool
+    ensures { IsTrue result ↔ KeepsAcceptance a.now }
+{
+    for state in 0..a.states() {
+        let next = next_state(a, state, 0);
+        if is_accepting(a, next) != a.accepting(state) {
+            return false;
+        }
+    }
+    true
+}
+
+// The closure of an automaton that is closed already: itself. Only the width is explored, and flags
+// say nothing of it.
+fn pad_itself(
+    alloc: Global,
+    a: &Dfa,
+    alphabet: Alphabet,
+    limit: u32,
+) -> Result<Stepped<Dfa>, OpFault>
+    requires canonical { IsCanonical a.now }
+    requires live { ¬ IsDead a.now 0 }
+    requires closed { KeepsAcceptance a.now }
+    requires alphabet { alphabet ≡ a.now.sizes }
+    ensures sizes { IfOk result (λ stepped. stepped.result.sizes ≡ a.now.sizes) }
+    ensures canonical { IfOk result (λ stepped. IsCanonical stepped.result) }
+    ensures language { IfOk result (λ stepped. (w : List ℕ) → IsWord (letters_of a.now) w
+        → IsTrue (accepts_of stepped.result w) ↔ IsPadded Lsd a.now w) }
+    ensures width { IfOk result (λ stepped. HasWidth (PaddedAlike Lsd a.now) (letters_of a.now) stepped.width) }
+    ensures size { IfOk result (λ stepped. states_of stepped.result ≤ stepped.width) }
+    ensures within { IfOk result (λ stepped. stepped.width ≤ limit) }
+    ensures states { IsErrOf result OpFault.States → HasApart (PaddedAlike Lsd a.now) (letters_of a.now) (limit + 1) }
+    ensures no_letters { ¬ IsErrOf result OpFault.Letters }
+{
+    let pairs = PaddedPairs {
+        dfa: a,
+        flags: &[],
+        letters: alphabet.letters(),
+    };
+    let explored = explore(alloc, &pairs, alphabet, limit)?;
+    let result = a.copy(alloc)?;
+    Ok(Stepped {
+        result,
+        width: explored.width,
+    })
 }
 
 // The closure of an automaton that accepts some word.
