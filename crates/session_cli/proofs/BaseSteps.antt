@@ -11,7 +11,7 @@ use Rattle.minimise.specs.Residuals.{SameLanguage}
 use Rattle.product_op.specs.Validity.{language_at, no_language}
 use Rattle.numeration.specs.Systems.{System}
 use Rattle.numeration.specs.Relations.{IsLanguageOf}
-use Rattle.num_system.proofs.SealLemmas.{language_kept}
+use Rattle.number_order.proofs.KeptLemmas.{language_kept}
 use Rattle.base_k.specs.declared.base_k.BaseK.{BaseK}
 use Rattle.base_k.specs.Positional.{base}
 use Rattle.base_k.specs.BaseLaws.{base_is_system}

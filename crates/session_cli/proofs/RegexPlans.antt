@@ -16,13 +16,14 @@ use Rattle.product_op.specs.Validity.{AreLanguages}
 use Rattle.numeration.specs.Spelling as spelling
 use Rattle.base_k.specs.BaseLaws.{base_is_system}
 use Rattle.numeration.specs.Systems.{System, IsSystem, AreSystems}
-use Rattle.reg_steps.specs.declared.fault.StepFault.{StepFault}
-use Rattle.reg_steps.specs.declared.fault.StepFault.TheVariants as step_faults
+use Rattle.digit_tuple.specs.declared.step_fault.StepFault.{StepFault}
+use Rattle.digit_tuple.specs.declared.step_fault.StepFault.TheVariants as step_faults
 use Rattle.reg_steps.specs.RegexSteps as regex_steps
 use Rattle.reg_steps.specs.RegexSteps.{IsRegexStep}
 use Rattle.reg_steps.specs.RelationSteps.{SecondExceeds, ThirdExceeds}
 use Rattle.reg_steps.specs.Relations.{IsRelation, AreSystemLanguages}
-use Rattle.reg_steps.specs.Refusals.{IsDone, IsRefusedBy, AreDone, AreRefused}
+use Rattle.digit_tuple.specs.StepResults.{IsDone, IsRefusedBy}
+use Rattle.reg_steps.specs.Refusals.{AreDone, AreRefused}
 use Rattle.reg_steps.proofs.OneLanguages.{languages_of_tracks}
 use Rattle.reg_steps.proofs.RelationLemmas.{relation_made}
 use Rattle.session_cli.specs.declared.fault.Fault.{Fault}

@@ -8,8 +8,8 @@ use Rattle.system_names.specs.Names.{base_name, IsBuiltInName}
 use Rattle.command_head.specs.Heads as heads
 use Rattle.session_cli.specs.declared.fault.Fault.{Fault}
 use Rattle.session_cli.specs.declared.fault.Fault.TheVariants as faults
-use Rattle.reg_steps.specs.declared.fault.StepFault.{StepFault}
-use Rattle.reg_steps.specs.declared.fault.StepFault.TheVariants as steps
+use Rattle.digit_tuple.specs.declared.step_fault.StepFault.{StepFault}
+use Rattle.digit_tuple.specs.declared.step_fault.StepFault.TheVariants as steps
 use Rattle.session_cli.specs.declared.bases.Bases.{Bases}
 use Rattle.session_cli.specs.Checks.{Pure, Fails}
 use Rattle.session_cli.specs.Tracks.{NamedSystem, names_of}

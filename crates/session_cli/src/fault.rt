@@ -4,7 +4,7 @@ ghost use Rattle.session_cli.specs.Bases.{fault_of};
 
 use digit_tuple::faults::OutOfMemory;
 use digit_tuple::name::Name;
-use reg_steps::fault::StepFault;
+use digit_tuple::step_fault::StepFault;
 use std::alloc::{AllocError, AllocFailed};
 use wal_outside::Folder;
 
