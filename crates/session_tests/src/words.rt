@@ -61,11 +61,9 @@ fn run_refused(
     failing_writes: &'static [u64],
 ) -> Result<Left, AllocError> {
     let outside = Outside {
-        reads: &[],
-        failing_reads: &[],
         writes,
         failing_writes,
-        failing_store: &[],
+        ..SURE
     };
     run_words(alloc, &["walnut", "--states", "15"], SCRIPT, &outside)
 }
