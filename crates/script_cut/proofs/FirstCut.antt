@@ -2,7 +2,7 @@
 use Rattle.std.proofs.Common.{◌≡◌, ◌≢◌, ℕ, ◌+◌, ◌<◌, ◌≤◌, Bool, false, IsTrue, List, [], ◌∷◌, ◌++◌, length, take, drop, refl, sym, ◌∙◌, arith, inl, inr, append-nil, append_assoc, length-append}
 use Rattle.std.proofs.lemmas.List.{take_at, drop_at, drop_all}
 use Rattle.script_cut.specs.Texts.{commented, AreGaps, Starts, unbroken, terminator_of, line_ends}
-use Rattle.script_cut.specs.Cuts.{Ended, Terminated, Unterminated, PastLimit, Place, Next, IsAtEnd, HasNoCommand, CutsCommand, CutsOpen, CutsOff}
+use Rattle.script_cut.specs.Cuts.{Ended, Terminated, Unterminated, PastLimit, Rest, Next, IsAtEnd, HasNoCommand, CutsCommand, CutsOpen, CutsOff}
 use Rattle.script_cut.specs.Lengths.{gap_count, text_count}
 use Rattle.script_cut.proofs.Gaps.{gap_count-gaps, gap_count-starts}
 use Rattle.script_cut.proofs.Commands.{text_count-command, text_count-unbroken, text_count-front}
@@ -16,7 +16,7 @@ abbrev pub text_size : List ℕ → ℕ
 text_size left = text_count false (behind_gaps left)
 
 -- the first item is a command
-pub record FirstCommand (shown : Bool) (old : Place) (text : List ℕ) (line : ℕ) (new : Place) : Type 0 where
+pub record FirstCommand (shown : Bool) (old : Rest) (text : List ℕ) (line : ℕ) (new : Rest) : Type 0 where
   pub found : text_size old.left < length (behind_gaps old.left)
   pub within : gap_count false old.left + text_size old.left < old.room
   pub text_is : text ≡ take (text_size old.left) (behind_gaps old.left)
@@ -25,7 +25,7 @@ pub record FirstCommand (shown : Bool) (old : Place) (text : List ℕ) (line : �
   pub room_is : new.room + (gap_count false old.left + text_size old.left + 1) ≡ old.room
 
 -- the first item is a text without terminator
-pub record FirstOpen (old : Place) (text : List ℕ) (line : ℕ) (new : Place) : Type 0 where
+pub record FirstOpen (old : Rest) (text : List ℕ) (line : ℕ) (new : Rest) : Type 0 where
   pub none : length (behind_gaps old.left) ≤ text_size old.left
   pub some : 0 < length (behind_gaps old.left)
   pub within : length old.left ≤ old.room
@@ -35,7 +35,7 @@ pub record FirstOpen (old : Place) (text : List ℕ) (line : ℕ) (new : Place) 
   pub room_is : new.room + length old.left ≡ old.room
 
 -- there is none before the limit, and more behind it
-pub record FirstPast (old : Place) (text : List ℕ) (line : ℕ) (new : Place) : Type 0 where
+pub record FirstPast (old : Rest) (text : List ℕ) (line : ℕ) (new : Rest) : Type 0 where
   pub none : old.room ≤ gap_count false old.left + text_size old.left
   pub more : old.room < length old.left
   pub text_is : text ≡ []
@@ -43,7 +43,7 @@ pub record FirstPast (old : Place) (text : List ℕ) (line : ℕ) (new : Place) 
   pub left_is : new.left ≡ []
   pub room_is : new.room ≡ 0
 
-abbrev pub IsFirst : Ended → Place → List ℕ → ℕ → Place → Type 0
+abbrev pub IsFirst : Ended → Rest → List ℕ → ℕ → Rest → Type 0
 IsFirst (Terminated shown) old text line new = FirstCommand shown old text line new
 IsFirst Unterminated old text line new = FirstOpen old text line new
 IsFirst PastLimit old text line new = FirstPast old text line new
@@ -76,7 +76,7 @@ some_left : (past : List ℕ) → past ≢ [] → 0 < length past
 some_left [] more = absurd (more refl)
 some_left (b ∷ bs) more = omega arith
 
-command_first : (shown : Bool) (old : Place) (text : List ℕ) (line : ℕ) (new : Place) → (next : Next old (record { text = text; line = line; ended = Terminated shown }) new) → CutsCommand shown old next.before text new → FirstCommand shown old text line new
+command_first : (shown : Bool) (old : Rest) (text : List ℕ) (line : ℕ) (new : Rest) → (next : Next old (record { text = text; line = line; ended = Terminated shown }) new) → CutsCommand shown old next.before text new → FirstCommand shown old text line new
 command_first shown old text line new next cut =
     let parts : Splits old.left next.before (text ++ terminator_of shown ∷ new.left) = splits_of old.left next.before text (terminator_of shown ∷ new.left) cut.split cut.gaps cut.command.begun.starts in
     let size : text_size old.left ≡ length text = rw parts.behind (text_count-command shown false text new.left cut.command.begun.unbroken cut.command.closed) in
@@ -89,7 +89,7 @@ command_first shown old text line new next cut =
       room_is = omega (arith, parts.gap, size, cut.room);
     }
 
-open_first : (old : Place) (text : List ℕ) (line : ℕ) (new : Place) → (next : Next old (record { text = text; line = line; ended = Unterminated }) new) → CutsOpen old next.before text new → FirstOpen old text line new
+open_first : (old : Rest) (text : List ℕ) (line : ℕ) (new : Rest) → (next : Next old (record { text = text; line = line; ended = Unterminated }) new) → CutsOpen old next.before text new → FirstOpen old text line new
 open_first old text line new next cut =
     let split : old.left ≡ next.before ++ (text ++ []) = rw (append-nil text) cut.split in
     let found : Splits old.left next.before (text ++ []) = splits_of old.left next.before text [] split cut.gaps cut.begun.starts in
@@ -125,7 +125,7 @@ reach-no_command bytes past (inr begun) =
     let far : length begun.before + length begun.text ≤ reach (begun.before ++ (begun.text ++ past)) = reach-begun begun.before begun.text past begun.gaps begun.begun.starts begun.begun.unbroken in
     rw (begun.split, append_assoc, length-append) far
 
-past_first : (old : Place) (text : List ℕ) (line : ℕ) (new : Place) → (next : Next old (record { text = text; line = line; ended = PastLimit }) new) → CutsOff old next.before text new → FirstPast old text line new
+past_first : (old : Rest) (text : List ℕ) (line : ℕ) (new : Rest) → (next : Next old (record { text = text; line = line; ended = PastLimit }) new) → CutsOff old next.before text new → FirstPast old text line new
 unfolding reach
 past_first old text line new next cut =
     let far : length next.before ≤ reach (next.before ++ cut.past) = reach-no_command next.before cut.past cut.no_command in
@@ -139,13 +139,13 @@ past_first old text line new next cut =
     }
 
 -- an item that comes next is the first
-pub first_of_next : (old : Place) (ended : Ended) (text : List ℕ) (line : ℕ) (new : Place) → Next old (record { text = text; line = line; ended = ended }) new → IsFirst ended old text line new
+pub first_of_next : (old : Rest) (ended : Ended) (text : List ℕ) (line : ℕ) (new : Rest) → Next old (record { text = text; line = line; ended = ended }) new → IsFirst ended old text line new
 first_of_next old (Terminated shown) text line new next = command_first shown old text line new next next.cut
 first_of_next old Unterminated text line new next = open_first old text line new next next.cut
 first_of_next old PastLimit text line new next = past_first old text line new next next.cut
 
 -- at the end nothing stands behind the gaps
-pub none_behind : (place : Place) → IsAtEnd place → behind_gaps place.left ≡ []
+pub none_behind : (place : Rest) → IsAtEnd place → behind_gaps place.left ≡ []
 none_behind place end =
     let gaps : gap_count false (place.left ++ []) ≡ length place.left + gap_count (commented false place.left) [] = gap_count-gaps false place.left [] end.gaps in
     let all : gap_count false place.left ≡ length place.left + 0 = rw append-nil at gaps in

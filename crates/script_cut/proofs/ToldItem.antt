@@ -3,7 +3,7 @@ use Rattle.std.proofs.Common.{◌≡◌, ℕ, Bool, true, false, List, [], ◌++
 use Rattle.std.specs.List.{concat}
 use Rattle.std.specs.Io.KnownBytes.{Consumes, IsAtEnd as HasGivenAll}
 use Rattle.wal_outside.specs.Views.{SourceView}
-use Rattle.script_cut.specs.Cuts.{Place}
+use Rattle.script_cut.specs.Cuts.{Rest}
 use Rattle.script_cut.specs.Kept.{Kept}
 use Rattle.script_cut.specs.Cutting.{place_of, MayCome, GivesItem, HasCut}
 use Rattle.script_cut.specs.Laws.{GivesToldItem}
@@ -31,8 +31,8 @@ told_by old new left now from to result false true begun is told told' h =
     let ended : HasGivenAll (Some now) = rw told' at (h.ended begun is) in
     subst P (sym taken) (h.item now (may_come new.over to.left now true is told' ended))
 told_by old new left now from to result true true begun is told told' h =
-    let P : Place → Type 0 = λ place. GivesItem place result (place_of new now) in
-    let Q : Place → Type 0 = λ place. GivesItem (place_of old (concat h.pieces ++ [])) result place in
+    let P : Rest → Type 0 = λ place. GivesItem place result (place_of new now) in
+    let Q : Rest → Type 0 = λ place. GivesItem (place_of old (concat h.pieces ++ [])) result place in
     subst P (same_place old (concat h.pieces ++ []) left begun) (subst Q (same_place new [] now is) (h.item [] (may_come_over new.over to.left is)))
 
 pub told_item : (old : Kept) (from : SourceView) (result : Result Cut CutFault) (new : Kept) (to : SourceView) → GivesToldItem old from result new to

@@ -14,25 +14,25 @@ pub record Item : Type 0 where
   pub line : ℕ
   pub ended : Ended
 
--- a place in a script: the bytes that are left, how many of them may still be passed, and the line
-pub record Place : Type 0 where
+-- what is left of a script from a place on: the bytes, how many of them may still be passed, and the line
+pub record Rest : Type 0 where
   pub left : List ℕ
   pub room : ℕ
   pub line : ℕ
 
 -- a script is read up to 16,777,216 bytes
-abbrev pub start : List ℕ → Place
+abbrev pub start : List ℕ → Rest
 start script = record { left = script; room = 16777216; line = 1 }
 
 -- gaps, a command, its terminator, and the rest
-pub record CutsCommand (shown : Bool) (old : Place) (before text : List ℕ) (new : Place) : Type 0 where
+pub record CutsCommand (shown : Bool) (old : Rest) (before text : List ℕ) (new : Rest) : Type 0 where
   pub gaps : AreGaps before
   pub command : IsCommand text
   pub split : old.left ≡ before ++ (text ++ terminator_of shown ∷ new.left)
   pub room : new.room + (length before + length text + 1) ≡ old.room
 
 -- gaps, and a command with no terminator up to the script's end
-pub record CutsOpen (old : Place) (before text : List ℕ) (new : Place) : Type 0 where
+pub record CutsOpen (old : Rest) (before text : List ℕ) (new : Rest) : Type 0 where
   pub gaps : AreGaps before
   pub begun : IsOpen text
   pub split : old.left ≡ before ++ text
@@ -52,7 +52,7 @@ abbrev pub HasNoCommand : List ℕ → Type 0
 HasNoCommand bytes = IsTrue (all_gaps false bytes) ⊎ HasBegun bytes
 
 -- as many bytes as may be passed, with no command that has its terminator, and a byte past them
-pub record CutsOff (old : Place) (before text : List ℕ) (new : Place) : Type 0 where
+pub record CutsOff (old : Rest) (before text : List ℕ) (new : Rest) : Type 0 where
   pub no_command : HasNoCommand before
   pub full : length before ≡ old.room
   pub past : List ℕ
@@ -63,31 +63,31 @@ pub record CutsOff (old : Place) (before text : List ℕ) (new : Place) : Type 0
   pub no_room : new.room ≡ 0
 
 -- what stands before an item, the item's text, and the place behind it
-abbrev pub IsCut : Ended → Place → List ℕ → List ℕ → Place → Type 0
+abbrev pub IsCut : Ended → Rest → List ℕ → List ℕ → Rest → Type 0
 IsCut (Terminated shown) old before text new = CutsCommand shown old before text new
 IsCut Unterminated old before text new = CutsOpen old before text new
 IsCut PastLimit old before text new = CutsOff old before text new
 
 -- The next item from a place on, and the place behind it. Its line is that of its first byte; past the limit
 -- it is the line of the first byte that may not be passed.
-pub record Next (old : Place) (item : Item) (new : Place) : Type 0 where
+pub record Next (old : Rest) (item : Item) (new : Rest) : Type 0 where
   pub before : List ℕ
   pub cut : IsCut item.ended old before item.text new
   pub line_is : item.line ≡ old.line + line_ends before
   pub next_line : new.line ≡ item.line + line_ends item.text
 
 -- no command up to the script's end; a comment may be open there
-pub record IsAtEnd (place : Place) : Type 0 where
+pub record IsAtEnd (place : Rest) : Type 0 where
   pub gaps : IsTrue (all_gaps false place.left)
   pub within : length place.left ≤ place.room
 
 -- these items one after another, and the place behind them
-abbrev pub CutsTo : Place → List Item → Place → Type 0
+abbrev pub CutsTo : Rest → List Item → Rest → Type 0
 CutsTo old [] new = new ≡ old
-CutsTo old (item ∷ items) new = (mid : Place) × Next old item mid × CutsTo mid items new
+CutsTo old (item ∷ items) new = (mid : Rest) × Next old item mid × CutsTo mid items new
 
 -- the items from a place on up to the end
-pub record HasItems (place : Place) (items : List Item) : Type 0 where
-  pub last : Place
+pub record HasItems (place : Rest) (items : List Item) : Type 0 where
+  pub last : Rest
   pub cut : CutsTo place items last
   pub end : IsAtEnd last

@@ -4,7 +4,7 @@ use Rattle.std.specs.List.{concat}
 use Rattle.std.specs.Io.KnownBytes.{IsAtEnd as HasGivenAll}
 use Rattle.wal_outside.specs.Views.{SourceView}
 use Rattle.script_cut.specs.Asking.{Gives, AreAsked}
-use Rattle.script_cut.specs.Cuts.{Ended, Terminated, Unterminated, PastLimit, Place, Next, IsAtEnd, HasNoCommand}
+use Rattle.script_cut.specs.Cuts.{Ended, Terminated, Unterminated, PastLimit, Rest, Next, IsAtEnd, HasNoCommand}
 use Rattle.script_cut.specs.Kept.{Kept}
 use Rattle.script_cut.specs.declared.cut.Cut.{Cut}
 use Rattle.script_cut.specs.declared.cut.Cut.TheVariants as cuts
@@ -13,7 +13,7 @@ use Rattle.script_cut.specs.declared.cut.CutFault.TheVariants as faults
 
 -- Where a cutter stands in the script, if these bytes are still to come: what it holds is left, and then they
 -- are. Once the source has ended nothing is left.
-abbrev pub place_of : Kept → List ℕ → Place
+abbrev pub place_of : Kept → List ℕ → Rest
 place_of kept more = record { left = if kept.over then [] else kept.held ++ more; room = kept.room; line = kept.line }
 
 -- these bytes may still come: all that the source tells, any where it tells nothing, and none behind its end
@@ -23,7 +23,7 @@ MayCome false None more = ⊤
 MayCome false (Some left) more = more ≡ left
 
 -- what is answered of the next item
-abbrev pub GivesItem : Place → Result Cut CutFault → Place → Type 0
+abbrev pub GivesItem : Rest → Result Cut CutFault → Rest → Type 0
 GivesItem old (Ok (cuts.Command text shown line)) new =
     Next old (record { text = text.items; line = line; ended = Terminated shown }) new × (length text.items ≤ 65536)
 GivesItem old (Ok cuts.End) new = IsAtEnd old
@@ -32,7 +32,7 @@ GivesItem old (Err (faults.Syntax line len)) new =
 GivesItem old (Err (faults.Long line)) new =
     (text : List ℕ) × (ended : Ended) × Next old (record { text = text; line = line; ended = ended }) new × (65536 < length text)
 GivesItem old (Err (faults.ScriptLimit line)) new =
-    (last : Place) × Next old (record { text = []; line = line; ended = PastLimit }) last
+    (last : Rest) × Next old (record { text = []; line = line; ended = PastLimit }) last
 GivesItem old (Err faults.Failed) new = ⊤
 GivesItem old (Err faults.Memory) new = ⊤
 

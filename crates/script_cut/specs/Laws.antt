@@ -1,18 +1,18 @@
 -- What holds of the cuts of every script.
 use Rattle.std.specs.Prelude.{◌≡◌, ℕ, List, Some, Result}
 use Rattle.wal_outside.specs.Views.{SourceView}
-use Rattle.script_cut.specs.Cuts.{Item, Place, Next, HasItems}
+use Rattle.script_cut.specs.Cuts.{Item, Rest, Next, HasItems}
 use Rattle.script_cut.specs.Kept.{Kept}
 use Rattle.script_cut.specs.Cutting.{place_of, GivesItem, HasCut}
 use Rattle.script_cut.specs.declared.cut.Cut.{Cut}
 use Rattle.script_cut.specs.declared.cut.CutFault.{CutFault}
 
 -- a place has at most one next item, with one place behind it
-abbrev pub HasOneNext : Place → Type 0
-HasOneNext place = (i j : Item) (p q : Place) → Next place i p → Next place j q → (i ≡ j) × (p ≡ q)
+abbrev pub HasOneNext : Rest → Type 0
+HasOneNext place = (i j : Item) (p q : Rest) → Next place i p → Next place j q → (i ≡ j) × (p ≡ q)
 
 -- and one list of items up to the end
-abbrev pub HasOneList : Place → Type 0
+abbrev pub HasOneList : Rest → Type 0
 HasOneList place = (is js : List Item) → HasItems place is → HasItems place js → is ≡ js
 
 -- where the source tells what it has left, the item is the next one of what was held and what was left

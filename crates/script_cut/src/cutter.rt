@@ -13,7 +13,7 @@ ghost use Rattle.script_cut.specs.declared.cut.Cut.TheVariants.{End};
 ghost use Rattle.script_cut.specs.declared.cut.CutFault.TheVariants.{Failed as SourceFailed, Memory};
 
 use crate::cut::{Cut, CutFault};
-use crate::scanning::{Part, gaps_of, line_ends, text_of};
+use crate::scanning::{Stretch, gaps_of, line_ends, text_of};
 use crate::window::Window;
 use std::alloc::Global;
 use std::marker::Model;
@@ -230,7 +230,7 @@ impl Cutter {
     }
 
     /// The gaps at the front of the next `count` bytes.
-    fn gaps_ahead(&self, count: usize, commented: bool) -> Part
+    fn gaps_ahead(&self, count: usize, commented: bool) -> Stretch
         requires { count ≤ length self.now.held }
         ensures len { result.len ≡ gap_count commented (take count self.now.held) }
         ensures open { result.open ≡ gap_open commented (take count self.now.held) }
@@ -240,7 +240,7 @@ impl Cutter {
     }
 
     /// The text at the front of the next `count` bytes.
-    fn text_ahead(&self, count: usize, quoted: bool) -> Part
+    fn text_ahead(&self, count: usize, quoted: bool) -> Stretch
         requires { count ≤ length self.now.held }
         ensures len { result.len ≡ text_count quoted (take count self.now.held) }
         ensures open { result.open ≡ text_open quoted (take count self.now.held) }

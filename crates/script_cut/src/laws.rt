@@ -1,6 +1,6 @@
 ghost use Rattle.std.specs.Prelude.{Result};
 ghost use Rattle.wal_outside.specs.Views.{SourceView};
-ghost use Rattle.script_cut.specs.Cuts.{Place};
+ghost use Rattle.script_cut.specs.Cuts.{Rest};
 ghost use Rattle.script_cut.specs.Kept.{Kept};
 ghost use Rattle.script_cut.specs.Laws.{HasOneNext, HasOneList, GivesToldItem};
 ghost use Rattle.script_cut.specs.declared.cut.Cut.{Cut};
@@ -8,8 +8,8 @@ ghost use Rattle.script_cut.specs.declared.cut.CutFault.{CutFault};
 
 /// A law, with nothing to run: the next item at a place of a script is determined, and so are all its items.
 pub fn one_cut()
-    ensures next { (place : Place) → HasOneNext place }
-    ensures list { (place : Place) → HasOneList place }
+    ensures next { (place : Rest) → HasOneNext place }
+    ensures list { (place : Rest) → HasOneList place }
 {}
 
 /// A law, with nothing to run: where the source tells what it has left, a call gives the next item of what the

@@ -1,19 +1,19 @@
-// The parts at the front of some bytes.
+// The gaps and the texts at the front of some bytes.
 ghost use Rattle.std.specs.Prelude.{◌≡◌, ◌≤◌, length};
 ghost use Rattle.script_cut.specs.Texts.{is_gap as is_gap_byte, is_terminator as is_terminator_byte, comment_after, after_byte, line_ends as line_ends_of};
 ghost use Rattle.script_cut.specs.Lengths.{gap_count, gap_open, text_count, text_open};
 
 use text_grammar::Class;
 
-/// How many bytes a part has, and whether a comment or a quote is open behind it.
+/// How many bytes a stretch at the front has, and whether a comment or a quote is open after it.
 #[derive(Clone, Copy, Debug)]
-pub(crate) struct Part {
+pub(crate) struct Stretch {
     pub(crate) len: usize,
     pub(crate) open: bool,
 }
 
 /// What stands before the first command, where a comment is open or not.
-pub(crate) fn gaps_of(bytes: &[u8], commented: bool) -> Part
+pub(crate) fn gaps_of(bytes: &[u8], commented: bool) -> Stretch
     ensures len { result.len ≡ gap_count commented bytes.now }
     ensures open { result.open ≡ gap_open commented bytes.now }
     ensures within { result.len ≤ length bytes.now }
@@ -21,18 +21,18 @@ pub(crate) fn gaps_of(bytes: &[u8], commented: bool) -> Part
     let mut open = commented;
     for (index, byte) in bytes.iter().enumerate() {
         if !open && !is_gap(*byte) {
-            return Part { len: index, open };
+            return Stretch { len: index, open };
         }
         open = is_commented_after(open, *byte);
     }
-    Part {
+    Stretch {
         len: bytes.len(),
         open,
     }
 }
 
 /// What stands before the first terminator outside quotes, where a quote is open or not.
-pub(crate) fn text_of(bytes: &[u8], quoted: bool) -> Part
+pub(crate) fn text_of(bytes: &[u8], quoted: bool) -> Stretch
     ensures len { result.len ≡ text_count quoted bytes.now }
     ensures open { result.open ≡ text_open quoted bytes.now }
     ensures within { result.len ≤ length bytes.now }
@@ -40,11 +40,11 @@ pub(crate) fn text_of(bytes: &[u8], quoted: bool) -> Part
     let mut open = quoted;
     for (index, byte) in bytes.iter().enumerate() {
         if is_terminator(*byte) && !open {
-            return Part { len: index, open };
+            return Stretch { len: index, open };
         }
         open = is_quoted_after(open, *byte);
     }
-    Part {
+    Stretch {
         len: bytes.len(),
         open,
     }

@@ -3,7 +3,7 @@ use Rattle.std.proofs.Common.{◌≡◌, ◌≢◌, ℕ, ◌+◌, ◌<◌, ◌�
 use Rattle.std.specs.List.{concat}
 use Rattle.std.specs.Io.KnownBytes.{Consumes, IsAtEnd as HasGivenAll}
 use Rattle.wal_outside.specs.Causes.{Rose}
-use Rattle.script_cut.specs.Cuts.{Ended, Terminated, Unterminated, PastLimit, Place, Next, start, CutsTo, CutsCommand, CutsOpen, CutsOff, IsAtEnd}
+use Rattle.script_cut.specs.Cuts.{Ended, Terminated, Unterminated, PastLimit, Rest, Next, start, CutsTo, CutsCommand, CutsOpen, CutsOff, IsAtEnd}
 use Rattle.script_cut.specs.Kept.{Kept, fresh}
 use Rattle.script_cut.specs.Cutting.{place_of, MayCome, GivesItem, HasFailed, HasCut}
 use Rattle.script_cut.specs.declared.cut.Cut.{Cut}
@@ -72,7 +72,7 @@ given_next limit from to now kept next result old mid held told tally more b c i
 -- an item was answered
 pub between_next : (limit : ℕ) (from to now : SourceView) (kept next : Kept) (result : Result Cut CutFault) (old mid new : StoreView) (held told then : SinkView) (tally counted : Tally)
     → kept.over ≡ false → IsBetween limit from to kept old mid held told tally → HasCut kept to result next now → now.faults ≡ to.faults
-    → ((script : List ℕ) (place behind : Place) → Stands limit script old mid held told place tally → GivesItem place result behind → Stands limit script old new held then behind counted)
+    → ((script : List ℕ) (place behind : Rest) → Stands limit script old mid held told place tally → GivesItem place result behind → Stands limit script old new held then behind counted)
     → IsBetween limit from now next old new held then counted
 between_next limit from to now kept next result old mid new held told then tally counted begun b c source step = record {
   gave = b.gave ++ concat c.pieces;
@@ -89,7 +89,7 @@ between_next limit from to now kept next result old mid new held told then tally
 -- the run ended with an item
 pub between_ends : (limit : ℕ) (from to now : SourceView) (kept next : Kept) (result : Result Cut CutFault) (old mid new : StoreView) (held told then : SinkView) (tally : Tally) (state : Status)
     → kept.over ≡ false → IsBetween limit from to kept old mid held told tally → HasCut kept to result next now → now.faults ≡ to.faults
-    → ((gave more : List ℕ) (place behind : Place) → Stands limit (gave ++ more) old mid held told place tally → GivesItem place result behind → now.faults ≡ from.faults → Ran limit gave more from now old new held then state)
+    → ((gave more : List ℕ) (place behind : Rest) → Stands limit (gave ++ more) old mid held told place tally → GivesItem place result behind → now.faults ≡ from.faults → Ran limit gave more from now old new held then state)
     → HasRun limit from now old new held then state
 between_ends limit from to now kept next result old mid new held told then tally state begun b c source step =
     let more : (more : List ℕ) × MayCome next.over now.left more = some_more next.over now.left in
@@ -126,7 +126,7 @@ between_finishes limit from to now kept next line len old mid held told then tal
     (λ gave more place behind stands (text, cut, len_is, short) source'. finishes limit gave more from now old mid held told then place behind tally (record { text = text; line = line; ended = Unterminated }) (faults.Syntax parts.Command len) state stands cut (at_end place text behind cut.before cut.cut) source'
     (λ ledger. open_step limit ledger mid text line len (omega arith) len_is) ends)
   where
-    at_end : (place : Place) (text : List ℕ) (behind : Place) (before : List ℕ) → CutsOpen place before text behind → IsAtEnd behind
+    at_end : (place : Rest) (text : List ℕ) (behind : Rest) (before : List ℕ) → CutsOpen place before text behind → IsAtEnd behind
     at_end place text behind before cut = none_left behind cut.nothing_left
 
 pub between_limit : (limit : ℕ) (from to now : SourceView) (kept next : Kept) (line : ℕ) (old mid : StoreView) (held told then : SinkView) (tally : Tally) (state : Status)
@@ -138,7 +138,7 @@ between_limit limit from to now kept next line old mid held told then tally stat
     (λ gave more place behind stands (last, cut) source'. finishes limit gave more from now old mid held told then place last tally (record { text = []; line = line; ended = PastLimit }) faults.ScriptLimit state stands cut (at_end place last cut.before cut.cut) source'
     (λ ledger. limit_step limit ledger mid line) ends)
   where
-    at_end : (place last : Place) (before : List ℕ) → CutsOff place before [] last → IsAtEnd last
+    at_end : (place last : Rest) (before : List ℕ) → CutsOff place before [] last → IsAtEnd last
     at_end place last before off = none_left last off.nothing_left
 
 -- the source failed, or there was no memory for the next item
@@ -188,10 +188,10 @@ pub between_memory : (limit : ℕ) (from to then : SourceView) (kept next : Kept
 between_memory limit from to then kept next old mid held told tally begun b c source =
     between_fault limit from to then kept next (Err cut_faults.Memory) old mid held told tally status.Memory begun b c (inr (record { source_kept = source ∙ b.source_kept; state_is = refl }))
 
-command_room : (place : Place) (before text : List ℕ) (shown : Bool) (behind : Place) → CutsCommand shown place before text behind → behind.room < place.room
+command_room : (place : Rest) (before text : List ℕ) (shown : Bool) (behind : Rest) → CutsCommand shown place before text behind → behind.room < place.room
 command_room place before text shown behind cut = omega (arith, cut.room)
 
-long_room : (ended : Ended) (place : Place) (text : List ℕ) (line : ℕ) (behind : Place) → Next place (record { text = text; line = line; ended = ended }) behind → 65536 < length text → behind.room < place.room
+long_room : (ended : Ended) (place : Rest) (text : List ℕ) (line : ℕ) (behind : Rest) → Next place (record { text = text; line = line; ended = ended }) behind → 65536 < length text → behind.room < place.room
 long_room (Terminated shown) place text line behind next long = command_room place next.before text shown behind next.cut
 long_room Unterminated place text line behind next long = of_open next.before next.cut
   where
@@ -208,7 +208,7 @@ room_falls to now kept next text shown line c =
     let more : (more : List ℕ) × MayCome next.over now.left more = some_more next.over now.left in
     long_free (c.item more.0 more.1).0
   where
-    long_free : {place behind : Place} → Next place (record { text = text.items; line = line; ended = Terminated shown }) behind → behind.room < place.room
+    long_free : {place behind : Rest} → Next place (record { text = text.items; line = line; ended = Terminated shown }) behind → behind.room < place.room
     long_free {place} {behind} next = command_room place next.before text.items shown behind next.cut
 
 pub room_falls_long : (to now : SourceView) (kept next : Kept) (line : ℕ) → HasCut kept to (Err (cut_faults.Long line)) next now → next.room < kept.room

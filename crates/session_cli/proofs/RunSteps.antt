@@ -2,7 +2,7 @@
 use Rattle.std.proofs.Common.{◌≡◌, ℕ, Bool, true, false, ◌||◌, if◌then◌else◌, List, [], ◌∷◌, ◌++◌, Option, None, Some, Ok, Err, refl, sym, ap, subst, append_assoc, append-nil}
 use Rattle.std.specs.Option.{option_map}
 use Rattle.wal_outside.specs.Files.{Files, same_file}
-use Rattle.script_cut.specs.Cuts.{Item, Place, Next, CutsTo}
+use Rattle.script_cut.specs.Cuts.{Item, Rest, Next, CutsTo}
 use Rattle.session_cli.specs.Trees.{Entry, Bytes, Ledger}
 use Rattle.session_cli.specs.Texts.{HasText, HasTextAt}
 use Rattle.session_cli.specs.Accepting.{Answer, after}
@@ -41,8 +41,8 @@ run_more limit [] (a ∷ answers) ledger last old mid item answer new run step =
 run_more limit (i ∷ items) [] ledger last old mid item answer new run step = absurd run
 run_more limit (i ∷ items) (a ∷ answers) ledger last old mid item answer new run step = (run.0, run.1, run_more limit items answers (after ledger a) last run.0 mid item answer new run.2 step)
 
-pub cuts_more : (items : List Item) (old mid : Place) (item : Item) (new : Place) → CutsTo old items mid → Next mid item new → CutsTo old (items ++ item ∷ []) new
-cuts_more [] old mid item new cut next = let P : Place → Type 0 = λ place. Next place item new in (new, subst P cut next, refl)
+pub cuts_more : (items : List Item) (old mid : Rest) (item : Item) (new : Rest) → CutsTo old items mid → Next mid item new → CutsTo old (items ++ item ∷ []) new
+cuts_more [] old mid item new cut next = let P : Rest → Type 0 = λ place. Next place item new in (new, subst P cut next, refl)
 cuts_more (i ∷ items) old mid item new cut next = (cut.0, cut.1, cuts_more items cut.0 mid item new cut.2 next)
 
 pub printed_more : (limit : ℕ) (items : List Item) (answers : List Answer) (ledger last : Ledger) (old mid : StoreView) (item : Item) (answer : Answer) → Run limit ledger old items answers last mid → printed (items ++ item ∷ []) (answers ++ answer ∷ []) ≡ printed items answers ++ line_of item answer

@@ -3,7 +3,7 @@ use Rattle.std.proofs.Common.{◌≡◌, ℕ, ◌<◌, ◌≤◌, ◌⊎◌, Boo
 use Rattle.wal_outside.specs.Sending.{Sends, HasSent}
 use Rattle.wal_outside.specs.declared.sink.WriteFault.{WriteFault}
 use Rattle.wal_outside.proofs.SendingSteps.{none_sent, sends_then}
-use Rattle.script_cut.specs.Cuts.{Ended, Terminated, Unterminated, PastLimit, Item, Place, Next, start, CutsTo, CutsOff, IsAtEnd}
+use Rattle.script_cut.specs.Cuts.{Ended, Terminated, Unterminated, PastLimit, Item, Rest, Next, start, CutsTo, CutsOff, IsAtEnd}
 use Rattle.session_cli.specs.declared.fault.Part.TheVariants as parts
 use Rattle.session_cli.specs.declared.fault.Fault.{Fault}
 use Rattle.session_cli.specs.declared.fault.Fault.TheVariants as faults
@@ -23,7 +23,7 @@ use Rattle.session_cli.proofs.CommandSteps.{own_ledger, kept_store}
 use Rattle.session_cli.proofs.RunSteps.{stores_first, stores_after, run_more, cuts_more, printed_more, some_of-append}
 
 -- what was answered and printed so far
-pub record Stands (limit : ℕ) (script : List ℕ) (old now : StoreView) (held told : SinkView) (place : Place) (tally : Tally) : Type 0 where
+pub record Stands (limit : ℕ) (script : List ℕ) (old now : StoreView) (held told : SinkView) (place : Rest) (tally : Tally) : Type 0 where
   pub items : List Item
   pub answers : List Answer
   pub ledger : Ledger
@@ -94,7 +94,7 @@ step_of limit ledger old new text shown line result printed c = record {
 }
 
 -- a command was answered and its line handed over
-pub goes_on : (limit : ℕ) (script : List ℕ) (old mid new : StoreView) (held told now : SinkView) (place next : Place) (tally counted : Tally) (text : List ℕ) (shown : Bool) (line : ℕ)
+pub goes_on : (limit : ℕ) (script : List ℕ) (old mid new : StoreView) (held told now : SinkView) (place next : Rest) (tally counted : Tally) (text : List ℕ) (shown : Bool) (line : ℕ)
     → Stands limit script old mid held told place tally → Next place (record { text = text; line = line; ended = Terminated shown }) next
     → ((ledger : Ledger) → StoresTold ledger mid.files → HasAnswered limit ledger mid text shown line told tally (Ok tt) new now counted)
     → Stands limit script old new held now next counted
@@ -116,7 +116,7 @@ goes_on limit script old mid new held told now place next tally counted text sho
     }
 
 -- a command was answered, and the sink stopped in its line
-pub stops : (limit : ℕ) (script : List ℕ) (from to : SourceView) (old mid new : StoreView) (held told now : SinkView) (place next : Place) (tally counted : Tally) (text : List ℕ) (shown : Bool) (line : ℕ) (fault : WriteFault) (state : Status)
+pub stops : (limit : ℕ) (script : List ℕ) (from to : SourceView) (old mid new : StoreView) (held told now : SinkView) (place next : Rest) (tally counted : Tally) (text : List ℕ) (shown : Bool) (line : ℕ) (fault : WriteFault) (state : Status)
     → Stands limit script old mid held told place tally → Next place (record { text = text; line = line; ended = Terminated shown }) next
     → ((ledger : Ledger) → StoresTold ledger mid.files → HasAnswered limit ledger mid text shown line told tally (Err fault) new now counted)
     → to.faults ≡ from.faults → state ≡ stop_status fault → RanToStop limit script from to old new held now state
@@ -143,7 +143,7 @@ stops limit script from to old mid new held told now place next tally counted te
     }
 
 -- nothing but gaps is left
-pub ends_there : (limit : ℕ) (script : List ℕ) (from to : SourceView) (old now : StoreView) (held told : SinkView) (place : Place) (tally : Tally) (state : Status) → Stands limit script old now held told place tally → IsAtEnd place → to.faults ≡ from.faults → state ≡ tally_status tally → RanThrough limit script from to old now held told state
+pub ends_there : (limit : ℕ) (script : List ℕ) (from to : SourceView) (old now : StoreView) (held told : SinkView) (place : Rest) (tally : Tally) (state : Status) → Stands limit script old now held told place tally → IsAtEnd place → to.faults ≡ from.faults → state ≡ tally_status tally → RanThrough limit script from to old now held told state
 ends_there limit script from to old now held told place tally state stands end kept state_is = record {
   items = stands.items;
   answers = stands.answers;
@@ -173,7 +173,7 @@ pub limit_step : (limit : ℕ) (ledger : Ledger) (store : StoreView) (line : ℕ
 limit_step limit ledger store line = record { known = ledger; known_is = own_ledger store.files ledger; answered = refl; files = refl; later = omega arith; cause = λ is. cc; failed = refl }
 
 -- an item that is too long is refused, and the store stays
-pub long_step : (limit : ℕ) (ended : Ended) (ledger : Ledger) (store : StoreView) (place : Place) (text : List ℕ) (line : ℕ) (next : Place) → Next place (record { text = text; line = line; ended = ended }) next → 65536 < length text
+pub long_step : (limit : ℕ) (ended : Ended) (ledger : Ledger) (store : StoreView) (place : Rest) (text : List ℕ) (line : ℕ) (next : Rest) → Next place (record { text = text; line = line; ended = ended }) next → 65536 < length text
     → Answers limit ledger store (record { text = text; line = line; ended = ended }) (Err (faults.Long 65536)) store
 long_step limit (Terminated shown) ledger store place text line next cut long = record { known = ledger; known_is = own_ledger store.files ledger; answered = inl (refl, long); files = refl; later = omega arith; cause = λ is. cc; failed = refl }
 long_step limit Unterminated ledger store place text line next cut long = record { known = ledger; known_is = own_ledger store.files ledger; answered = (refl, long); files = refl; later = omega arith; cause = λ is. cc; failed = refl }
@@ -183,11 +183,11 @@ long_step limit PastLimit ledger store place text line next cut long = absurd (n
     no_text before off = omega (arith, ap length off.no_text, long)
 
 -- nothing is left
-pub none_left : (place : Place) → place.left ≡ [] → IsAtEnd place
+pub none_left : (place : Rest) → place.left ≡ [] → IsAtEnd place
 none_left place is = record { gaps = rw is refl; within = omega (arith, ap length is) }
 
 -- an item was refused, its line handed over, and the store stays
-pub refuses : (limit : ℕ) (script : List ℕ) (old mid : StoreView) (held told now : SinkView) (place next : Place) (tally counted : Tally) (item : Item) (fault : Fault)
+pub refuses : (limit : ℕ) (script : List ℕ) (old mid : StoreView) (held told now : SinkView) (place next : Rest) (tally counted : Tally) (item : Item) (fault : Fault)
     → Stands limit script old mid held told place tally → Next place item next → ((ledger : Ledger) → Answers limit ledger mid item (Err fault) mid)
     → HasSent told (fault_line item.line fault) now → AddsFault tally fault counted → Stands limit script old mid held now next counted
 refuses limit script old mid held told now place next tally counted item fault stands cut step sent adds = record {
@@ -203,7 +203,7 @@ refuses limit script old mid held told now place next tally counted item fault s
 }
 
 -- or the sink stopped in its line
-pub refuses_stop : (limit : ℕ) (script : List ℕ) (from to : SourceView) (old mid : StoreView) (held told now : SinkView) (place next : Place) (tally : Tally) (item : Item) (fault : Fault) (stop : WriteFault) (state : Status)
+pub refuses_stop : (limit : ℕ) (script : List ℕ) (from to : SourceView) (old mid : StoreView) (held told now : SinkView) (place next : Rest) (tally : Tally) (item : Item) (fault : Fault) (stop : WriteFault) (state : Status)
     → Stands limit script old mid held told place tally → Next place item next → ((ledger : Ledger) → Answers limit ledger mid item (Err fault) mid)
     → Sends told (fault_line item.line fault) (Err stop) now → to.faults ≡ from.faults → state ≡ stop_status stop → RanToStop limit script from to old mid held now state
 refuses_stop limit script from to old mid held told now place next tally item fault stop state stands cut step stopped kept state_is = record {
@@ -225,7 +225,7 @@ refuses_stop limit script from to old mid held told now place next tally item fa
 }
 
 -- the last item is a refusal that leaves the store
-pub finishes : (limit : ℕ) (gave more : List ℕ) (from to : SourceView) (old mid : StoreView) (held told now : SinkView) (place last : Place) (tally : Tally) (item : Item) (fault : Fault) (state : Status)
+pub finishes : (limit : ℕ) (gave more : List ℕ) (from to : SourceView) (old mid : StoreView) (held told now : SinkView) (place last : Rest) (tally : Tally) (item : Item) (fault : Fault) (state : Status)
     → Stands limit (gave ++ more) old mid held told place tally → Next place item last → IsAtEnd last → to.faults ≡ from.faults
     → ((ledger : Ledger) → Answers limit ledger mid item (Err fault) mid)
     → Finishes told item.line fault tally now state → Ran limit gave more from to old mid held now state

@@ -6,7 +6,7 @@ use Rattle.wal_outside.specs.Sending.{Sends, HasSent}
 use Rattle.wal_outside.specs.Views.{SourceView, SinkView, StoreView}
 use Rattle.wal_outside.specs.declared.sink.WriteFault.{WriteFault}
 use Rattle.wal_outside.specs.declared.sink.WriteFault.TheVariants as writes
-use Rattle.script_cut.specs.Cuts.{Item, Place, start, CutsTo, IsAtEnd, HasNoCommand}
+use Rattle.script_cut.specs.Cuts.{Item, Rest, start, CutsTo, IsAtEnd, HasNoCommand}
 use Rattle.session_cli.specs.declared.status.Status.{Status}
 use Rattle.session_cli.specs.declared.status.Status.TheVariants as status
 use Rattle.session_cli.specs.Words.{GivesLimit, GivesNone}
@@ -30,7 +30,7 @@ pub record HasGiven (from to : SourceView) (gave more : List ℕ) : Type 0 where
 pub record RanThrough (limit : ℕ) (script : List ℕ) (from to : SourceView) (old new : StoreView) (held now : SinkView) (state : Status) : Type 0 where
   pub items : List Item
   pub answers : List Answer
-  pub last : Place
+  pub last : Rest
   pub cut : CutsTo (start script) items last
   pub end : IsAtEnd last
   pub ledger : Ledger
@@ -46,7 +46,7 @@ pub record RanToStop (limit : ℕ) (script : List ℕ) (from to : SourceView) (o
   pub answers : List Answer
   pub item : Item
   pub answer : Answer
-  pub last : Place
+  pub last : Rest
   pub cut : CutsTo (start script) (items ++ item ∷ []) last
   pub ledger : Ledger
   pub run : Run limit (first_ledger old.files) old (items ++ item ∷ []) (answers ++ answer ∷ []) ledger new
@@ -75,7 +75,7 @@ pub record WantedMemory (from to : SourceView) (state : Status) : Type 0 where
 pub record RanToFault (limit : ℕ) (gave more : List ℕ) (from to : SourceView) (old new : StoreView) (held now : SinkView) (state : Status) : Type 0 where
   pub items : List Item
   pub answers : List Answer
-  pub last : Place
+  pub last : Rest
   pub cut : CutsTo (start (gave ++ more)) items last
   pub behind : List ℕ
   pub left_is : last.left ≡ behind ++ more

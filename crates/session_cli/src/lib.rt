@@ -13,8 +13,6 @@ mod printed;
 mod plan;
 // the systems of tracks, by their names
 mod bases;
-// the expression of a command: its steps and its text
-mod regexes;
 // the words with which commands begin
 mod command_word;
 // the command `reg`

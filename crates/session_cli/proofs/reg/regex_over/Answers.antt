@@ -1,7 +1,7 @@
 use Rattle.std.proofs.lemmas.Result.{err_from_is_err_and}
 use Rattle.session_cli.specs.Tracks.{OverSets}
 use Rattle.session_cli.proofs.RegexPlans.{made_over_sets, refused_over_sets, unparsed}
-use Rattle.session_cli.proofs.regexes.regex_over.Goals as goal
+use Rattle.session_cli.proofs.reg.regex_over.Goals as goal
 
 pub returns : goal.returns
 returns c =

@@ -5,7 +5,7 @@ use Rattle.digit_tuple.specs.Sets.{sizes_of}
 use Rattle.product_op.specs.Validity.{AreLanguages}
 use Rattle.session_cli.specs.Bases.{named_in}
 use Rattle.session_cli.proofs.RegexPlans.{made_over_systems, refused_over_systems, languages_fit}
-use Rattle.session_cli.proofs.regexes.regex_over_bases.Goals as goal
+use Rattle.session_cli.proofs.reg.regex_over_bases.Goals as goal
 
 pub relation_steps-requires-clause-languages : goal.relation_steps-requires-clause-languages
 relation_steps-requires-clause-languages c =
