@@ -3,7 +3,7 @@ use Rattle.std.proofs.Common.{◌≡◌, ℕ, ◌≤◌, List, [], ◌∷◌, �
 use Rattle.digit_tuple.specs.Deterministic.{Automaton, letters_of, states_of, accepts_of}
 use Rattle.digit_tuple.specs.Letters.{IsWord, product}
 use Rattle.digit_tuple.specs.Paddings.{in_order}
-use Rattle.digit_tuple.specs.Width.{HasApart, HasWidth, IsEquivalence}
+use Rattle.digit_tuple.specs.Width.{HasApart, HasWidth}
 use Rattle.digit_tuple.specs.declared.direction.Direction.{Direction}
 use Rattle.digit_tuple.proofs.WidthLemmas.{HasApart-within, HasWidth-unique, HasWidth-excludes}
 use Rattle.digit_tuple.proofs.WordLemmas.{IsWord-append}

@@ -1,5 +1,5 @@
 -- What operations on automata of relations hold of, for relations by tests.
-use Rattle.std.proofs.Common.{◌≡◌, ℕ, Bool, [], ◌↔◌, IsTrue}
+use Rattle.std.proofs.Common.{[]}
 use Rattle.digit_tuple.specs.Deterministic.{accepts_of}
 use Rattle.numeration.proofs.RankLemmas.{same_tests}
 use Rattle.num_system.specs.Links.{Passes, ProductsHold, ComplementsHold, ValidPartsHold, ValidPartsSpell, ProjectionsHold, SentencesHold}

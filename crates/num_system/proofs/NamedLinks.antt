@@ -1,15 +1,13 @@
 -- Products of automata with named tracks hold of the joined relation.
-use Rattle.std.proofs.Common.{◌≡◌, ℕ, ◌<◌, Bool, true, false, ◌&&◌, List, [], ◌∷◌, get_or, length, ◌⊎◌, inl, inr, refl, ap, sym, ◌∙◌, subst, arith, IsTrue, if◌then◌else◌}
-use Rattle.std.specs.List.{All, Contains, range_with_len}
+use Rattle.std.proofs.Common.{◌≡◌, ℕ, ◌<◌, Bool, true, false, ◌&&◌, List, [], get_or, length, ◌⊎◌, inl, inr, refl, ap, sym, ◌∙◌, subst, arith, IsTrue, if◌then◌else◌}
+use Rattle.std.specs.List.{All, Contains}
 use Rattle.std.proofs.lemmas.Bool.{and_parts}
 use Rattle.std.proofs.lemmas.List.{length-map, get_or-map}
 use Rattle.std.proofs.lemmas.List.Elements.{All-contains}
-use Rattle.std.proofs.lemmas.List.FromFn.{length-range_with_len, get_or-range_with_len}
-use Rattle.std.proofs.lemmas.List.Sums.{AllPass-from_list_all, list_all-from_AllPass}
 use Rattle.std.proofs.Math.Bool.{and-true}
 use Rattle.digit_tuple.specs.Letters.{product, IsWord}
 use Rattle.digit_tuple.specs.Names.{place_of, places_of, joint_names, AreDistinct, AreJoint}
-use Rattle.digit_tuple.specs.Parts.{letter_part, part}
+use Rattle.digit_tuple.specs.Parts.{part}
 use Rattle.digit_tuple.specs.Paddings.{in_order}
 use Rattle.digit_tuple.specs.Deterministic.{Automaton, accepts_of}
 use Rattle.digit_tuple.specs.declared.direction.Direction.{Direction}
@@ -20,7 +18,7 @@ use Rattle.product_op.specs.declared.op.Op.{Op}
 use Rattle.product_op.specs.declared.op.Op.TheVariants.{And, AndNot, Or, Xor, Implies, Iff}
 use Rattle.product_op.specs.Connectives.{connective, among_valid}
 use Rattle.product_op.specs.Tracks.{joint_sizes}
-use Rattle.product_op.specs.Validity.{language_at, is_valid}
+use Rattle.product_op.specs.Validity.{is_valid}
 use Rattle.product_op.specs.Products.{in_product}
 use Rattle.product_op.proofs.SizeLemmas.{AreDistinct-ordered}
 use Rattle.numeration.specs.Systems.{System}
@@ -28,7 +26,6 @@ use Rattle.numeration.specs.Spelling.{sizes_of, letters_in}
 use Rattle.numeration.specs.Relations.{HoldsOf}
 use Rattle.numeration.specs.SomeTracks.{system_at, systems_at}
 use Rattle.num_system.specs.Joined.{joined, IsBound, AreLanguagesOf}
-use Rattle.digit_tuple.proofs.PaddingLemmas.{in_order-map}
 use Rattle.numeration.proofs.TrackLemmas.{track}
 use Rattle.numeration.proofs.PartSpelling.{AreValid}
 use Rattle.num_system.proofs.ValidWords.{valid_from, valid_to}

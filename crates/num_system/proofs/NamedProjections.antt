@@ -5,14 +5,13 @@ use Rattle.digit_tuple.specs.Letters.{product, IsWord}
 use Rattle.digit_tuple.specs.Names.{names_without}
 use Rattle.digit_tuple.specs.Parts.{picked, part}
 use Rattle.digit_tuple.specs.Paddings.{padded}
-use Rattle.digit_tuple.specs.Deterministic.{Automaton, accepts_of}
+use Rattle.digit_tuple.specs.Deterministic.{accepts_of}
 use Rattle.digit_tuple.specs.declared.direction.Direction.{Direction}
 use Rattle.digit_tuple.proofs.NameLemmas.{places_of-within}
 use Rattle.minimise.specs.Tracked.{NamedAutomaton}
 use Rattle.project_close.specs.StayingTracks.{staying_places}
 use Rattle.project_close.proofs.ProjectionLemmas.{names_without-there}
 use Rattle.numeration.specs.Systems.{System, AreSystems}
-use Rattle.numeration.specs.Spelling.{sizes_of}
 use Rattle.numeration.specs.Relations.{HoldsOf}
 use Rattle.numeration.specs.SomeTracks.{systems_at, completed}
 use Rattle.numeration.proofs.ProjectionLinks.{projection_holds}

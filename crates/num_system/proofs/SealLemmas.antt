@@ -1,7 +1,7 @@
 -- What a system's automata tell of the sealed system.
 use Rattle.std.proofs.Common.{◌≡◌, ℕ, List, ap, sym, ◌∙◌, subst}
 use Rattle.digit_tuple.specs.Paddings.{in_order}
-use Rattle.digit_tuple.specs.Deterministic.{Automaton, accepts_of}
+use Rattle.digit_tuple.specs.Deterministic.{accepts_of}
 use Rattle.digit_tuple.specs.declared.direction.Direction.{Direction}
 use Rattle.minimise.specs.Canonical.{IsCanonical}
 use Rattle.numeration.specs.Systems.{System, IsSystem}

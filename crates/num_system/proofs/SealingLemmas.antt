@@ -9,7 +9,6 @@ use Rattle.numeration.specs.Systems.{System, IsSystem}
 use Rattle.number_order.specs.Orders.{OrderAlike, pair_sizes, pair_letters}
 use Rattle.number_order.proofs.OrderWidthLemmas.{order_width_excludes}
 use Rattle.num_system.specs.Sealing.{IsOrderWithin, ExceedsByLetters, letters_at_order, letters_at_successor}
-use Rattle.num_system.specs.SuccessorSteps.{chain_sizes}
 use Rattle.num_system.proofs.StepLemmas.{two_fit, not_too_large}
 use Rattle.num_system.proofs.SuccessorLemmas.{chain_sizes_are}
 

@@ -4,7 +4,6 @@ use Rattle.digit_tuple.specs.Deterministic.{Automaton, accepts_of}
 use Rattle.digit_tuple.specs.Letters.{IsWord}
 use Rattle.digit_tuple.specs.Paddings.{in_order}
 use Rattle.digit_tuple.specs.declared.direction.Direction.{Direction}
-use Rattle.digit_tuple.specs.declared.direction.Direction.TheVariants.{Msd, Lsd}
 use Rattle.numeration.specs.Systems.{System}
 use Rattle.numeration.specs.Spelling.{Spells}
 use Rattle.numeration.specs.Relations.{HoldsOf}

@@ -1,5 +1,5 @@
 -- Relations on the numbers of some tracks, joined by a connective.
-use Rattle.std.specs.Prelude.{◌≡◌, ℕ, ◌<◌, false, List, map, length, slice_index_or, ◌⊎◌, ◌↔◌, ⊤}
+use Rattle.std.specs.Prelude.{◌≡◌, ℕ, ◌<◌, List, length, ◌⊎◌, ◌↔◌, ⊤}
 use Rattle.std.specs.List.{All, Contains}
 use Rattle.digit_tuple.specs.Deterministic.{Automaton}
 use Rattle.digit_tuple.specs.declared.direction.Direction.{Direction}

@@ -1,4 +1,4 @@
-use Rattle.std.proofs.Common.{rules, ◌+◌, ◌∷◌, [], ◌++◌, ◌≡◌, ap, ◌∙◌, List, ℕ, length}
+use Rattle.std.proofs.Common.{rules, ◌+◌, ◌++◌, ap, ◌∙◌, List, ℕ, length}
 use Rattle.std.proofs.lemmas.Result.{err_from_is_err_and}
 use Rattle.digit_tuple.specs.Letters.{IsAlphabet, IsTooLarge}
 use Rattle.digit_tuple.specs.Width.{HasApart}

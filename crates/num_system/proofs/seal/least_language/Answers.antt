@@ -1,4 +1,3 @@
-use Rattle.std.specs.Result.{IfOk}
 use Rattle.num_system.proofs.StepLemmas.{IfOk-three}
 use Rattle.number_order.proofs.KeptLemmas.{language_kept}
 use Rattle.num_system.proofs.seal.least_language.Goals as goal
