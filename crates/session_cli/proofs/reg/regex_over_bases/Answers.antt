@@ -7,10 +7,13 @@ use Rattle.session_cli.specs.Bases.{named_in}
 use Rattle.session_cli.proofs.RegexPlans.{made_over_systems, refused_over_systems, languages_fit}
 use Rattle.session_cli.proofs.reg.regex_over_bases.Goals as goal
 
-pub relation_steps-requires-clause-languages : goal.relation_steps-requires-clause-languages
-relation_steps-requires-clause-languages c =
-    subst (λ ls. AreLanguages (sizes_of c.in_ok-regex.regex.sets) (map rc_value ls)) (sym c.deref.ensures.value)
-    (languages_fit c.args.bases.now.direction (named_in c.args.bases.now.systems.items) (map rc_value c.in_ok-languages.languages.items) c.args.body.now c.in_ok-regex.regex c.in_ok-languages.ensures (rw c.in_ok-tracks.ensures at c.in_ok-regex.ensures))
+pub relation_steps-requires : goal.relation_steps-requires
+relation_steps-requires c =
+    record {
+      languages =
+          subst (λ ls. AreLanguages (sizes_of c.in_ok-regex.regex.sets) (map rc_value ls)) (sym c.deref.ensures.value)
+          (languages_fit c.args.bases.now.direction (named_in c.args.bases.now.systems.items) (map rc_value c.in_ok-languages.languages.items) c.args.body.now c.in_ok-regex.regex c.in_ok-languages.ensures (rw c.in_ok-tracks.ensures at c.in_ok-regex.ensures));
+    }
 
 pub returns-in_err-relation : goal.returns-in_err-relation
 returns-in_err-relation c =
