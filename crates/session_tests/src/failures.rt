@@ -3,7 +3,7 @@
 use crate::command_rows::COMMANDS;
 use crate::rows::Row;
 use crate::set_rows::SETS;
-use crate::whole::{Left, Outside, SURE, run_script};
+use crate::whole::{Left, Outside, SURE, over_sink, run_script};
 use session_cli::Status;
 use std::alloc::{AllocError, Global};
 use std::process::Abort;
@@ -153,12 +153,7 @@ fn run_over_sink(
     writes: &'static [usize],
     failing_writes: &'static [u64],
 ) -> Result<Left, AllocError> {
-    let outside = Outside {
-        writes,
-        failing_writes,
-        ..SURE
-    };
-    run_script(alloc, REFUSED, &outside)
+    run_script(alloc, REFUSED, &over_sink(writes, failing_writes))
 }
 
 #[test]

@@ -26,6 +26,15 @@ pub const SURE: Outside = Outside {
     failing_store: &[],
 };
 
+/// Everything works but the sink, which takes pieces of these lengths and fails at these calls.
+pub fn over_sink(writes: &'static [usize], failing_writes: &'static [u64]) -> Outside {
+    Outside {
+        writes,
+        failing_writes,
+        ..SURE
+    }
+}
+
 /// What a run leaves.
 #[derive(Drop)]
 pub struct Left {

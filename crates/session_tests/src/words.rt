@@ -1,6 +1,6 @@
 //! Words of the command line.
 
-use crate::whole::{Left, Outside, SURE, run_words};
+use crate::whole::{Left, SURE, over_sink, run_words};
 use session_cli::Status;
 use std::alloc::{AllocError, Global};
 use std::process::Abort;
@@ -60,11 +60,7 @@ fn run_refused(
     writes: &'static [usize],
     failing_writes: &'static [u64],
 ) -> Result<Left, AllocError> {
-    let outside = Outside {
-        writes,
-        failing_writes,
-        ..SURE
-    };
+    let outside = over_sink(writes, failing_writes);
     run_words(alloc, &["walnut", "--states", "15"], SCRIPT, &outside)
 }
 
