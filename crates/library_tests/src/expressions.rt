@@ -1,0 +1,177 @@
+//! Texts of expressions, with their trees by hand, and texts that are none.
+
+use crate::automata::header_of;
+use digit_tuple::header::Header;
+use reference::words::all_words;
+use regex_build::fault::RegexFault;
+use regex_build::parse;
+use regex_build::regex::Regex;
+use regex_build::step::Step;
+use std::alloc::Global;
+use std::test::Fail;
+
+// Writes a step: a letter by its members, and `&` for one after the other.
+fn show_step(alloc: Global, step: &Step, text: &mut String) -> Result<(), Fail> {
+    match step {
+        Step::Empty => text.push_str("()")?,
+        Step::Letter(letter) => {
+            for member in letter.members() {
+                let member = format!(in alloc; "'{member}")?;
+                text.push_str(&member)?;
+            }
+        }
+        Step::Any => text.push('.')?,
+        Step::Either => text.push('|')?,
+        Step::Follow => text.push('&')?,
+        Step::Star => text.push('*')?,
+        Step::Plus => text.push('+')?,
+        Step::Optional => text.push('?')?,
+    }
+    Ok(())
+}
+
+// The steps in postfix order.
+fn shown(alloc: Global, regex: &Regex) -> Result<String, Fail> {
+    let mut text = String::new(alloc);
+    for step in regex.steps() {
+        show_step(alloc, step, &mut text)?;
+    }
+    Ok(text)
+}
+
+// Texts over the set of -1, 0, 1, 7 and 10, and their steps in postfix order.
+const TREES: [(&str, &str); 11] = [
+    ("0", "'0"),
+    ("010", "'0'1&'0&"),
+    ("0|1|0", "'0'1|'0|"),
+    ("01|1*0", "'0'1&'1*'0&|"),
+    ("0*+?", "'0*+?"),
+    ("(0|1)*1", "'0'1|*'1&"),
+    ("0(10)", "'0'1'0&&"),
+    (" ( ) | .\t", "().|"),
+    ("[ 1 0 ]", "'10"),
+    ("[- 1][007]", "'-1'7&"),
+    ("[0]+", "'0+"),
+];
+
+#[test]
+fn trees_over_one_set(rt: HostRuntime) -> Result<(), Fail> {
+    let header = header_of(rt.alloc(), &[&[-1, 0, 1, 7, 10]])?;
+    for (text, steps) in TREES {
+        let regex = parse(rt.alloc(), text.as_bytes(), &header)?;
+        assert_eq!(rt; shown(rt.alloc(), &regex)?.as_str(), steps, "of {text}");
+    }
+    Ok(())
+}
+
+#[test]
+fn trees_over_two_sets(rt: HostRuntime) -> Result<(), Fail> {
+    let header = header_of(rt.alloc(), &[&[0, 1], &[-2147483648, 2147483647]])?;
+    let regex = parse(rt.alloc(), b"[0,-2147483648].|[1,2147483647]*", &header)?;
+    let made = shown(rt.alloc(), &regex)?;
+    assert_eq!(rt; made.as_str(), "'0'-2147483648.&'1'2147483647*|");
+    Ok(())
+}
+
+// Sets, texts over them, and their faults.
+const FAULTS: [(&[&[i32]], &str, Option<RegexFault>); 30] = [
+    (&[&[0, 1]], "", Some(RegexFault::Syntax(0))),
+    (&[&[0, 1]], " \t", Some(RegexFault::Syntax(2))),
+    (&[&[0, 1]], "*0", Some(RegexFault::Syntax(0))),
+    (&[&[0, 1]], "0|", Some(RegexFault::Syntax(2))),
+    (&[&[0, 1]], "0||1", Some(RegexFault::Syntax(2))),
+    (&[&[0, 1]], "(|0)", Some(RegexFault::Syntax(1))),
+    (&[&[0, 1]], "(0", Some(RegexFault::Syntax(2))),
+    (&[&[0, 1]], "0)", Some(RegexFault::Syntax(1))),
+    (&[&[0, 1]], "02", Some(RegexFault::Number(1))),
+    (&[&[0, 1]], "0*2x", Some(RegexFault::Number(2))),
+    (&[&[0, 1]], "0x2", Some(RegexFault::Syntax(1))),
+    (&[&[0, 1]], "[]", Some(RegexFault::Syntax(1))),
+    (&[&[0, 1]], "[0,1]", Some(RegexFault::Syntax(2))),
+    (&[&[0, 1]], "[0", Some(RegexFault::Syntax(2))),
+    (&[&[0, 1]], "[-]", Some(RegexFault::Syntax(1))),
+    (&[&[0, 1]], "[ - x", Some(RegexFault::Syntax(2))),
+    (&[&[0, 1]], "[0-1]", Some(RegexFault::Syntax(2))),
+    (&[&[0, 1]], "-1", Some(RegexFault::Syntax(0))),
+    (&[&[0, 1]], "0[ 12 34", Some(RegexFault::Number(3))),
+    (
+        &[&[0, 1]],
+        "[99999999999999999999]",
+        Some(RegexFault::Number(1)),
+    ),
+    (&[&[0, 1]], "[4294967296]", Some(RegexFault::Number(1))),
+    (&[&[0, 1]], "[- 4294967296]x", Some(RegexFault::Number(1))),
+    (&[], " 0", Some(RegexFault::Syntax(1))),
+    (&[], ".[0]", Some(RegexFault::Syntax(1))),
+    (&[], "(.|())*", None),
+    (&[&[0, 1], &[0]], "0", Some(RegexFault::Syntax(0))),
+    (&[&[0, 1], &[0]], "[0]", Some(RegexFault::Syntax(2))),
+    (&[&[0, 1], &[0]], "[0,0,0]", Some(RegexFault::Syntax(4))),
+    (&[&[0, 1], &[0]], "[0,1]", Some(RegexFault::Number(3))),
+    (&[&[0, 1], &[0]], "[1,0]", None),
+];
+
+#[test]
+fn texts_have_these_faults(rt: HostRuntime) -> Result<(), Fail> {
+    for (tracks, text, fault) in FAULTS {
+        let header = header_of(rt.alloc(), tracks)?;
+        let found = parse(rt.alloc(), text.as_bytes(), &header).err();
+        assert_eq!(rt; found, fault, "of {text}");
+    }
+    Ok(())
+}
+
+// So many parentheses in one another.
+fn nested(alloc: Global, depth: usize) -> Result<Vec<u8>, Fail> {
+    let mut text = vec![in alloc; b'('; depth]?;
+    for _ in 0..depth {
+        text.push(b')')?;
+    }
+    Ok(text)
+}
+
+#[test]
+fn parentheses_nest_128_deep(rt: HostRuntime) -> Result<(), Fail> {
+    let header = header_of(rt.alloc(), &[&[0]])?;
+    let most = parse(rt.alloc(), &nested(rt.alloc(), 128)?, &header);
+    assert_eq!(rt; most.err(), None);
+    let more = parse(rt.alloc(), &nested(rt.alloc(), 129)?, &header);
+    assert_eq!(rt; more.err(), Some(RegexFault::Depth(128)));
+    Ok(())
+}
+
+// How many texts over these bytes have an expression, up to a length.
+fn read(alloc: Global, header: &Header, bytes: &[u8], longest: usize) -> Result<usize, Fail> {
+    let mut count: usize = 0;
+    let letters = u32::try_from(bytes.len())?;
+    for length in 0..=longest {
+        for word in &all_words(alloc, letters, length)? {
+            let mut text = Vec::new(alloc);
+            for place in word.letters() {
+                text.push(*bytes.get(*place as usize).ok_or("a byte")?)?;
+            }
+            count = count.saturating_add(usize::from(parse(alloc, &text, header).is_ok()));
+        }
+    }
+    Ok(count)
+}
+
+// Sets, bytes, the longest texts over them, and how many of these are expressions, counted outside by a plain
+// recogniser that tries every way to read a text.
+const READ: [(&[&[i32]], &str, usize, usize); 5] = [
+    (&[&[-1, 0, 1]], "01()|*", 5, 677),
+    (&[&[-1, 0, 1]], "1.()+?", 5, 1077),
+    (&[&[-1, 0, 1]], "[]1-, ", 5, 95),
+    (&[&[-1, 0, 1], &[-1, 0, 1]], "[]1,.", 6, 9),
+    (&[], "()|.*", 5, 137),
+];
+
+#[test]
+fn expressions_are_counted(rt: HostRuntime) -> Result<(), Fail> {
+    for (tracks, bytes, longest, count) in READ {
+        let header = header_of(rt.alloc(), tracks)?;
+        let found = read(rt.alloc(), &header, bytes.as_bytes(), longest)?;
+        assert_eq!(rt; found, count, "over {bytes}");
+    }
+    Ok(())
+}

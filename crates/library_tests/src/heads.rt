@@ -1,0 +1,149 @@
+//! The heads of commands: what they have, and their first faults.
+
+ghost use Rattle.std.specs.Prelude.{◌<◌, ◌^◌, length};
+
+use command_head::{Alphabets, HeadFault, RegParts, first_word, reg_parts};
+use digit_tuple::name::Name;
+use digit_tuple::sets::Sets;
+use std::alloc::Global;
+use std::test::Fail;
+
+// Writes sets, each in braces.
+fn show_sets(alloc: Global, sets: &Sets, text: &mut String) -> Result<(), Fail> {
+    for set in sets.as_slice() {
+        let mut before = "{";
+        for member in set.members() {
+            let member = format!(in alloc; "{before}{member}")?;
+            text.push_str(&member)?;
+            before = ",";
+        }
+        text.push('}')?;
+    }
+    Ok(())
+}
+
+// Writes names, each after a blank.
+fn show_names(names: &[Name], text: &mut String) -> Result<(), Fail> {
+    for name in names {
+        text.push(' ')?;
+        text.push_str(name.as_str())?;
+    }
+    Ok(())
+}
+
+// The name, the sets or systems, and after `=` the quoted text.
+fn shown(alloc: Global, parts: &RegParts<'_>) -> Result<String, Fail> {
+    let mut text = String::from_str(alloc, parts.name.as_str())?;
+    match &parts.alphabets {
+        Alphabets::Sets(sets) => show_sets(alloc, sets, &mut text)?,
+        Alphabets::Systems(names) => show_names(names, &mut text)?,
+    }
+    text.push('=')?;
+    for byte in parts.body {
+        text.push(char::from(*byte))?;
+    }
+    Ok(text)
+}
+
+// What a short text has, as a text, or its fault.
+fn read(alloc: Global, text: &str) -> Result<Result<String, HeadFault>, Fail> {
+    if text.len() > 1000 {
+        return Err(Fail::from("a short text"));
+    }
+    match reg_parts(alloc, text.as_bytes()) {
+        Ok(parts) => Ok(Ok(shown(alloc, &parts)?)),
+        Err(fault) => Ok(Err(fault)),
+    }
+}
+
+// Texts and what they have.
+const HEADS: [(&str, &str); 10] = [
+    ("reg ab {0,1} \"0*1\"", "ab{0,1}=0*1"),
+    ("reg a{ 7 , -3,2}\"\"\n", "a{-3,2,7}="),
+    ("reg\tx_9 {007} \"a;b\n\" ", "x_9{7}=a;b\n"),
+    (
+        "reg msd_2 {-2147483648,2147483647} \"0\"",
+        "msd_2{-2147483648,2147483647}=0",
+    ),
+    ("reg a {0}{1}\"R\"", "a{0}{1}=R"),
+    ("reg a{1,0} {2}\t{-0}\"R\"", "a{0,1}{2}{0}=R"),
+    ("reg a msd_2 \"1\"", "a msd_2=1"),
+    (
+        "reg a msd_2 lsd_fib msd_41 \"x\"",
+        "a msd_2 lsd_fib msd_41=x",
+    ),
+    ("reg a msd_02\nmsd_1\"\"", "a msd_02 msd_1="),
+    (
+        "reg a msd_0123456789012345678901234567890123456789012345678901234567 \"0\"",
+        "a msd_0123456789012345678901234567890123456789012345678901234567=0",
+    ),
+];
+
+#[test]
+fn heads_are_read(rt: HostRuntime) -> Result<(), Fail> {
+    for (text, wanted) in HEADS {
+        match read(rt.alloc(), text)? {
+            Ok(found) => assert_eq!(rt; found.as_str(), wanted),
+            Err(_) => assert!(rt; false, "refused: {text}"),
+        }
+    }
+    Ok(())
+}
+
+// Texts and their first faults: of sets, of systems, and numbers out of 32 bits.
+const FAULTS: [(&str, HeadFault); 30] = [
+    ("rege a {0} \"0\"", HeadFault::Syntax(0)),
+    ("reg", HeadFault::Syntax(3)),
+    ("reg a  ", HeadFault::Syntax(7)),
+    ("reg 1 {0} \"0\"", HeadFault::Syntax(4)),
+    ("reg a=1 {0} \"0\"", HeadFault::Syntax(4)),
+    ("reg a=- {0} \"0\"", HeadFault::Syntax(5)),
+    ("reg a.txt {0} \"0\"", HeadFault::Syntax(4)),
+    ("reg a.tx {0} \"0\"", HeadFault::Syntax(5)),
+    ("reg a {} \"0\"", HeadFault::Syntax(7)),
+    ("reg a {0,} \"0\"", HeadFault::Syntax(9)),
+    ("reg a {0,00} \"0\"", HeadFault::Syntax(9)),
+    ("reg a {0,- 1} \"0\"", HeadFault::Syntax(9)),
+    ("reg a {0 1} \"0\"", HeadFault::Syntax(9)),
+    ("reg a {0} \"0", HeadFault::Syntax(10)),
+    ("reg a {0} \"0\" {1}", HeadFault::Syntax(14)),
+    ("reg a {0} ", HeadFault::Syntax(10)),
+    ("reg a {0},{1} \"0\"", HeadFault::Syntax(9)),
+    ("reg a msd_2 {0,1} \"[0,0]\"", HeadFault::Syntax(12)),
+    ("reg a {0}msd_2 \"0\"", HeadFault::Syntax(9)),
+    ("reg a msd_2_3 \"0\"", HeadFault::Syntax(6)),
+    ("reg a msd_ \"0\"", HeadFault::Syntax(6)),
+    ("reg a Msd_2 \"0\"", HeadFault::Syntax(6)),
+    ("reg a msd_2=1 \"0\"", HeadFault::Syntax(6)),
+    ("reg a lsd_2 msd_2.txt \"0\"", HeadFault::Syntax(12)),
+    ("reg a msd_2= \"0\"", HeadFault::Syntax(11)),
+    ("reg a msd_2", HeadFault::Syntax(11)),
+    (
+        "reg a msd_01234567890123456789012345678901234567890123456789012345678 \"0\"",
+        HeadFault::Syntax(6),
+    ),
+    ("reg a {0, 2147483648,} \"0\"", HeadFault::Number(10)),
+    ("reg a {-2147483649} \"0\"", HeadFault::Number(7)),
+    (
+        "reg a {0} {1}{00,18446744073709551616} \"0\"",
+        HeadFault::Number(17),
+    ),
+];
+
+#[test]
+fn faults_are_the_first(rt: HostRuntime) -> Result<(), Fail> {
+    for (text, wanted) in FAULTS {
+        match read(rt.alloc(), text)? {
+            Ok(_) => assert!(rt; false, "accepted: {text}"),
+            Err(found) => assert_eq!(rt; found, wanted, "of {text}"),
+        }
+    }
+    Ok(())
+}
+
+#[test]
+fn the_first_word_ends_at_a_blank_or_a_quote(rt: HostRuntime) {
+    assert_eq!(rt; first_word(b"reg a"), b"reg".as_slice());
+    assert_eq!(rt; first_word(b"eval\"x\""), b"eval".as_slice());
+    assert_eq!(rt; first_word(b"prove{a}\t"), b"prove{a}".as_slice());
+}
