@@ -55,7 +55,7 @@ run_more : {K : Kinds} (A : Making K) (ps qs : List Placed) (s : State K) → ru
 run_more A [] qs s = refl
 run_more A (p ∷ ps) qs s = after_after (step A s (token_of p)) _ _ _ (λ n. run_more A ps qs n)
 
-run_placed : {K : Kinds} (A : Making K) (ps : List Placed) (s : State K) → run_tokens A (map token_of ps) s ≡ run A ps s
+pub run_placed : {K : Kinds} (A : Making K) (ps : List Placed) (s : State K) → run_tokens A (map token_of ps) s ≡ run A ps s
 run_placed A [] s = refl
 run_placed A (p ∷ ps) s = after_same (step A s (token_of p)) _ _ (λ n. run_placed A ps n)
 

@@ -13,3 +13,7 @@ pub mod Numbers
 pub mod Depths
 pub mod AdvanceSteps
 pub mod ParseSteps
+pub mod Remade
+pub mod Places
+pub mod Cuts
+pub mod OneAnswer

@@ -15,3 +15,4 @@ pub mod Stops
 pub mod LexemeViews
 pub mod Advances
 pub mod Parsing
+pub mod OneAnswer

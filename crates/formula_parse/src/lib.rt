@@ -5,6 +5,7 @@ mod advance;
 mod entering;
 mod fault;
 mod flaw;
+mod laws;
 mod leaving;
 mod lexing;
 mod making;
@@ -15,4 +16,5 @@ mod token;
 pub mod tree;
 
 pub use fault::ParseFault;
+pub use laws::one_answer;
 pub use parser::{one_tree, parse};

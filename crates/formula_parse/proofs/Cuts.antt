@@ -1,0 +1,186 @@
+-- A text stops at one token at most, and not where it is read to its end.
+use Rattle.std.proofs.Common.{◌≡◌, refl, sym, ◌∙◌, ap, subst, ℕ, ◌<◌, List, [], ◌∷◌, ◌++◌, append_assoc, map, Option, None, Some, arith}
+use Rattle.std.proofs.lemmas.List.{append-nil, map-append, same_from_push}
+use Rattle.std.specs.List.{AllByRecursion}
+use Rattle.formula_parse.specs.Tokens.{Token, number, Placed, here, value_of, token_of, nesting_of}
+use Rattle.formula_parse.specs.Derivations.{Formula, spelled, parts, derivations}
+use Rattle.formula_parse.specs.Flaws.{Flaw, formula_flaw}
+use Rattle.formula_parse.specs.Machine.{State, done}
+use Rattle.formula_parse.specs.Runs.{run_tokens}
+use Rattle.formula_parse.specs.Grammar.{IsInRange, IsAllowed, Derives, GoesOn, Begins, Breaks, Reaches}
+use Rattle.formula_parse.specs.Spots.{Spot, spots, tokens}
+use Rattle.formula_parse.specs.Parsing.{Cut}
+use Rattle.formula_parse.proofs.Complete.{final}
+use Rattle.formula_parse.proofs.Places.{made_again, read_places, number_shallow, first_state, placed_from}
+
+-- tokens are spelled by one derivation
+pub one_derivation : (f g : Formula) → map token_of (spelled f) ≡ map token_of (spelled g) → f ≡ g
+one_derivation f g e = one (formula_flaw None f) (formula_flaw None g) (sym (made_again f) ∙ (ap (λ ts. run_tokens derivations ts first_state) e ∙ made_again g))
+  where
+    one : (u w : Option Flaw) → Some (final derivations f u) ≡ Some (final derivations g w) → f ≡ g
+    one u w h =
+        let same : final derivations f u ≡ final derivations g w = cc in
+        let place : done f ≡ done g = ap (λ (z : State parts). z.position) same in
+        cc
+
+-- tokens that go on in two texts are placed in one way
+one_place : (text other : Formula) (read more reads mores : List Placed) → GoesOn text read more → GoesOn other reads mores → map token_of read ≡ map token_of reads → read ≡ reads
+one_place text other read more reads mores g h e =
+    sym (read_places text read more g)
+    ∙ (ap (λ ts. placed_from first_state ts) e ∙ read_places other reads mores h)
+
+-- no text goes on through a token, within the limits
+pub record Stops (front : List Token) (token : Token) : Type 0 where
+  pub before : Begins front
+  pub there : (text : Formula) (read more : List Placed) → GoesOn text read more → map token_of read ≡ front ++ token ∷ [] → AllByRecursion IsAllowed read → ⊥
+
+all_last : (P : Placed → Type 0) (ps : List Placed) (p : Placed) → AllByRecursion P (ps ++ p ∷ []) → P p
+all_last P [] p a = a.0
+all_last P (q ∷ ps) p a = all_last P ps p a.1
+
+all_front : (P : Placed → Type 0) (ps qs : List Placed) → AllByRecursion P (ps ++ qs) → AllByRecursion P ps
+all_front P [] qs a = tt
+all_front P (p ∷ ps) qs a = (a.0, all_front P ps qs a.1)
+
+-- the token that is reached has been read
+record Through (front : List Token) (token : Token) (place : Placed) (r : Reaches front token place) : Type 0 where
+  goes_on : GoesOn r.text (r.read ++ place ∷ []) r.more
+  tokens_are : map token_of (r.read ++ place ∷ []) ≡ front ++ token ∷ []
+
+through : (front : List Token) (token : Token) (place : Placed) (r : Reaches front token place) → Through front token place r
+through front token place r = record {
+  goes_on = record { spells = r.goes_on.spells ∙ sym (append_assoc r.read (place ∷ []) r.more) };
+  tokens_are =
+      map-append token_of r.read (place ∷ []) ∙ (ap (λ ts. ts ++ token_of place ∷ []) r.tokens_are ∙ ap (λ t. front ++ t ∷ []) r.token_is);
+}
+
+reaches_begins : (front : List Token) (token : Token) (place : Placed) → Reaches front token place → Begins front
+reaches_begins front token place r = record { text = r.text; read = r.read; more = place ∷ r.more; goes_on = r.goes_on; tokens_are = r.tokens_are; allowed = r.allowed }
+
+pub breaks_stop : (front : List Token) (token : Token) → Breaks front token → Stops front token
+breaks_stop front token b = record { before = b.before; there = λ text read more g e a. b.there text read more g e }
+
+pub reaches_stop : (front : List Token) (token : Token) (place : Placed) → Reaches front token place → (IsAllowed place → ⊥) → Stops front token
+reaches_stop front token place r h =
+    let t = through front token place r in
+    record {
+      before = reaches_begins front token place r;
+      there = λ text read more g e a.
+          let same : r.read ++ place ∷ [] ≡ read =
+          one_place r.text text (r.read ++ place ∷ []) r.more read more t.goes_on g (t.tokens_are ∙ sym e) in
+          h (all_last IsAllowed r.read place (subst (AllByRecursion IsAllowed) (sym same) a));
+    }
+
+-- a token that breaks is not reached
+pub breaks_reaches : (front : List Token) (token : Token) (place : Placed) → Breaks front token → Reaches front token place → ⊥
+breaks_reaches front token place b r =
+    let t = through front token place r in
+    b.there r.text (r.read ++ place ∷ []) r.more t.goes_on t.tokens_are
+
+-- a token is reached in one place
+pub one_reached : (front : List Token) (token : Token) (p q : Placed) → Reaches front token p → Reaches front token q → p ≡ q
+one_reached front token p q r s =
+    let t = through front token p r in
+    let u = through front token q s in
+    (same_from_push
+    r.read
+    s.read
+    p
+    q
+    (one_place r.text s.text (r.read ++ p ∷ []) r.more (s.read ++ q ∷ []) s.more t.goes_on u.goes_on (t.tokens_are ∙ sym u.tokens_are))).1
+
+-- tokens out of their range are numerals, and not too deep
+pub not_deep : (front : List Token) (token : Token) (p : Placed) → Reaches front token p → (IsInRange p → ⊥) → 128 < nesting_of p → ⊥
+not_deep front token p r h d = by p r h d
+  where
+    by : (p : Placed) → Reaches front token p → (IsInRange p → ⊥) → 128 < nesting_of p → ⊥
+    by (here (number n) e) r h d =
+        let low = number_shallow r.text r.read r.more (here (number n) e) n (through front token (here (number n) e) r).goes_on r.allowed refl in
+        omega arith
+    by (value_of l e) r h d =
+        let low = number_shallow r.text r.read r.more (value_of l e) l.value (through front token (value_of l e) r).goes_on r.allowed refl in
+        omega arith
+    by (here t e) r h d = h tt
+
+-- the front of what was read
+record Front (read : List Placed) (ts : List Token) : Type 0 where
+  front : List Placed
+  rest : List Placed
+  is : read ≡ front ++ rest
+  tokens_are : map token_of front ≡ ts
+
+front_of : (read : List Placed) (ts us : List Token) → map token_of read ≡ ts ++ us → Front read ts
+front_of read [] us e = record { front = []; rest = read; is = refl; tokens_are = refl }
+front_of [] (t ∷ ts) us e = absurd cc
+front_of (p ∷ ps) (t ∷ ts) us e =
+    let f = front_of ps ts us (let h : map token_of ps ≡ ts ++ us = cc in h) in
+    let one : token_of p ≡ t = cc in
+    record { front = p ∷ f.front; rest = f.rest; is = ap (λ z. p ∷ z) f.is; tokens_are = cc (f.tokens_are, one) }
+
+-- tokens that go on past a token at which none goes on
+stops_before : (front : List Token) (token : Token) (rest : List Token) → Stops front token → Begins (front ++ token ∷ rest) → ⊥
+stops_before front token rest s b =
+    let f = front_of b.read (front ++ token ∷ []) rest (b.tokens_are ∙ sym (append_assoc front (token ∷ []) rest)) in
+    s.there
+    b.text
+    f.front
+    (f.rest ++ b.more)
+    (record { spells = b.goes_on.spells ∙ (ap (λ z. z ++ b.more) f.is ∙ append_assoc f.front f.rest b.more) })
+    f.tokens_are
+    (all_front IsAllowed f.front f.rest (subst (AllByRecursion IsAllowed) f.is b.allowed))
+
+-- two places in one list
+data Sides (f : List Spot) (s : Spot) (g : List Spot) (t : Spot) : Type 0 where
+  at_one : f ≡ g → s ≡ t → Sides f s g t
+  before_it : (x : List Spot) → g ≡ f ++ s ∷ x → Sides f s g t
+  after_it : (x : List Spot) → f ≡ g ++ t ∷ x → Sides f s g t
+
+one_more : (a b : Spot) (f : List Spot) (s : Spot) (g : List Spot) (t : Spot) → a ≡ b → Sides f s g t → Sides (a ∷ f) s (b ∷ g) t
+one_more a b f s g t e (at_one h k) = at_one (cc) k
+one_more a b f s g t e (before_it x h) = before_it x cc
+one_more a b f s g t e (after_it x h) = after_it x cc
+
+sides : (f : List Spot) (s : Spot) (r : List Spot) (g : List Spot) (t : Spot) (q : List Spot) → f ++ s ∷ r ≡ g ++ t ∷ q → Sides f s g t
+sides [] s r [] t q e = at_one refl cc
+sides [] s r (b ∷ g) t q e = before_it g cc
+sides (a ∷ f) s r [] t q e = after_it f cc
+sides (a ∷ f) s r (b ∷ g) t q e = one_more a b f s g t (cc) (sides f s r g t q (cc))
+
+tokens_split : (f : List Spot) (s : Spot) (x : List Spot) → tokens (f ++ s ∷ x) ≡ tokens f ++ s.token ∷ tokens x
+tokens_split f s x = map-append (λ (z : Spot). z.token) f (s ∷ x)
+
+pub record SameCut {text : List ℕ} (c d : Cut text) : Type 0 where
+  pub front : c.front ≡ d.front
+  pub spot : c.spot ≡ d.spot
+
+never_past : (f : List Spot) (s : Spot) (g x : List Spot) → Stops (tokens f) s.token → Begins (tokens g) → g ≡ f ++ s ∷ x → ⊥
+never_past f s g x a b e =
+    stops_before (tokens f) s.token (tokens x) a (subst Begins (ap tokens e ∙ tokens_split f s x) b)
+
+pub same_cut : (text : List ℕ) (c d : Cut text) → Stops (tokens c.front) c.spot.token → Stops (tokens d.front) d.spot.token → SameCut c d
+same_cut text c d a b = by (sides c.front c.spot c.rest d.front d.spot d.rest (sym c.is ∙ d.is))
+  where
+    by : Sides c.front c.spot d.front d.spot → SameCut c d
+    by (at_one h k) = record { front = h; spot = k }
+    by (before_it x h) = absurd (never_past c.front c.spot d.front x a b.before h)
+    by (after_it x h) = absurd (never_past d.front d.spot c.front x b a.before h)
+
+-- a whole text has no such cut
+pub whole_stops : (text : List ℕ) (d : Formula) (c : Cut text) → Derives (tokens (spots text)) d → Stops (tokens c.front) c.spot.token → ⊥
+whole_stops text d c s a =
+    stops_before
+    (tokens c.front)
+    c.spot.token
+    (tokens c.rest)
+    a
+    (subst
+    Begins
+    (ap tokens c.is ∙ tokens_split c.front c.spot c.rest)
+    (record {
+      text = d;
+      read = spelled d;
+      more = [];
+      goes_on = record { spells = sym (append-nil (spelled d)) };
+      tokens_are = s.spells;
+      allowed = s.allowed;
+    }))

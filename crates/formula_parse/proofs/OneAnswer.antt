@@ -1,0 +1,100 @@
+-- The answers that the grammar gives to a text are one.
+use Rattle.std.proofs.Common.{◌≡◌, sym, ◌∙◌, ap, subst, ℕ, ◌<◌, List, Option, None, Some, Result, Ok, Err, arith}
+use Rattle.formula_parse.specs.Tokens.{Token, Placed, nesting_of}
+use Rattle.formula_parse.specs.Trees as trees
+use Rattle.formula_parse.specs.Derivations.{Formula}
+use Rattle.formula_parse.specs.Flaws.{Flaw, mixed_chain, not_linear, formula_flaw}
+use Rattle.formula_parse.specs.Grammar.{tree_of, IsInRange, Derives, Breaks, Reaches, told_at}
+use Rattle.formula_parse.specs.Spots.{spots, tokens}
+use Rattle.formula_parse.specs.Parsing.{Cut, Parses}
+use Rattle.formula_parse.specs.OneAnswer.{told, IsOfTheText}
+use Rattle.formula_parse.specs.declared.tree.Formula.{Formula as Tree}
+use Rattle.formula_parse.specs.declared.fault.ParseFault.{ParseFault}
+use Rattle.formula_parse.specs.declared.fault.ParseFault.TheVariants as faults
+use Rattle.formula_parse.proofs.Cuts.{one_derivation, Stops, breaks_stop, reaches_stop, breaks_reaches, one_reached, not_deep, SameCut, same_cut, whole_stops}
+
+-- what a derivation of a whole text tells
+abbrev flawed : Option Flaw → trees.Formula → Result trees.Formula ParseFault
+flawed None f = Ok f
+flawed (Some (mixed_chain b)) f = Err (faults.MixedChain b)
+flawed (Some (not_linear b)) f = Err (faults.NotLinear b)
+
+abbrev answer_of : Formula → Result trees.Formula ParseFault
+answer_of d = flawed (formula_flaw None d) (tree_of d)
+
+-- why the grammar tells this of a text
+data Tells (text : List ℕ) (x : Result trees.Formula ParseFault) : Type 0 where
+  to_the_end : (d : Formula) → Derives (tokens (spots text)) d → answer_of d ≡ x → Tells text x
+  at_break : (c : Cut text) → Breaks (tokens c.front) c.spot.token → Err (faults.Syntax c.spot.at) ≡ x → Tells text x
+  at_number : (c : Cut text) (p : Placed) → Reaches (tokens c.front) c.spot.token p → (IsInRange p → ⊥) → Err (faults.Number (told_at p c.spot.at)) ≡ x → Tells text x
+  at_depth : (c : Cut text) (p : Placed) → Reaches (tokens c.front) c.spot.token p → 128 < nesting_of p → Err (faults.Depth c.spot.at) ≡ x → Tells text x
+
+tells : (text : List ℕ) (f : Result Tree ParseFault) → IsOfTheText f → Parses text f → Tells text (told f)
+tells text (Ok f) i p = to_the_end p.text p.derives (ap (λ w. flawed w (tree_of p.text)) p.flawless ∙ ap Ok p.tree_is)
+tells text (Err (faults.Syntax at)) i p = at_break p.cut p.breaks (ap (λ b. Err (faults.Syntax b)) p.at_is)
+tells text (Err (faults.Number at)) i p =
+    at_number p.cut p.passes.place p.passes.reaches p.passes.out (ap (λ b. Err (faults.Number b)) p.passes.told)
+tells text (Err (faults.Depth at)) i p =
+    at_depth p.cut p.passes.place p.passes.reaches p.passes.deep (ap (λ b. Err (faults.Depth b)) p.at_is)
+tells text (Err (faults.MixedChain at)) i p = to_the_end p.text p.derives (ap (λ w. flawed w (tree_of p.text)) p.flaw_is)
+tells text (Err (faults.NotLinear at)) i p = to_the_end p.text p.derives (ap (λ w. flawed w (tree_of p.text)) p.flaw_is)
+tells text (Err faults.Memory) i p = absurd i
+
+number_stops : (front : List Token) (t : Token) (p : Placed) → Reaches front t p → (IsInRange p → ⊥) → Stops front t
+number_stops front t p r h = reaches_stop front t p r (λ a. h a.1)
+
+depth_stops : (front : List Token) (t : Token) (p : Placed) → Reaches front t p → 128 < nesting_of p → Stops front t
+depth_stops front t p r h = reaches_stop front t p r (λ a. let low = a.0 in omega arith)
+
+module _ (text : List ℕ) where
+  -- a token that is reached in one text, cut so, is reached in the other
+  moved : (c d : Cut text) (p : Placed) → SameCut c d → Reaches (tokens c.front) c.spot.token p → Reaches (tokens d.front) d.spot.token p
+  moved c d p e r =
+      subst
+      (λ t. Reaches (tokens d.front) t p)
+      (ap (λ s. s.token) e.spot)
+      (subst (λ f. Reaches (tokens f) c.spot.token p) e.front r)
+
+  never_reached : (c d : Cut text) (p : Placed) → SameCut c d → Breaks (tokens d.front) d.spot.token → Reaches (tokens c.front) c.spot.token p → ⊥
+  never_reached c d p e b r = breaks_reaches (tokens d.front) d.spot.token p b (moved c d p e r)
+
+  one_number : (c d : Cut text) (p q : Placed) → SameCut c d → Reaches (tokens c.front) c.spot.token p → Reaches (tokens d.front) d.spot.token q → p ≡ q
+  one_number c d p q e r s = one_reached (tokens d.front) d.spot.token p q (moved c d p e r) s
+
+  number_or_depth : (c d : Cut text) (p q : Placed) → SameCut c d → Reaches (tokens c.front) c.spot.token p → (IsInRange p → ⊥) → Reaches (tokens d.front) d.spot.token q → 128 < nesting_of q → ⊥
+  number_or_depth c d p q e r h s l =
+      not_deep (tokens c.front) c.spot.token p r h (subst (λ z. 128 < nesting_of z) (sym (one_number c d p q e r s)) l)
+
+  one_tells : (x y : Result trees.Formula ParseFault) → Tells text x → Tells text y → x ≡ y
+  one_tells x y (to_the_end d a e) (to_the_end f b h) = sym e ∙ (ap answer_of (one_derivation d f (a.spells ∙ sym b.spells)) ∙ h)
+  one_tells x y (to_the_end d a e) (at_break c b h) = absurd (whole_stops text d c a (breaks_stop _ _ b))
+  one_tells x y (to_the_end d a e) (at_number c p r n h) = absurd (whole_stops text d c a (number_stops _ _ p r n))
+  one_tells x y (to_the_end d a e) (at_depth c p r n h) = absurd (whole_stops text d c a (depth_stops _ _ p r n))
+  one_tells x y (at_break c b h) (to_the_end d a e) = absurd (whole_stops text d c a (breaks_stop _ _ b))
+  one_tells x y (at_number c p r n h) (to_the_end d a e) = absurd (whole_stops text d c a (number_stops _ _ p r n))
+  one_tells x y (at_depth c p r n h) (to_the_end d a e) = absurd (whole_stops text d c a (depth_stops _ _ p r n))
+  one_tells x y (at_break c b e) (at_break d a h) =
+      let s = same_cut text c d (breaks_stop _ _ b) (breaks_stop _ _ a) in
+      sym e ∙ (ap (λ z. Err (faults.Syntax z.at)) s.spot ∙ h)
+  one_tells x y (at_break c b e) (at_number d p r n h) =
+      absurd (never_reached d c p (same_cut text d c (number_stops _ _ p r n) (breaks_stop _ _ b)) b r)
+  one_tells x y (at_break c b e) (at_depth d p r n h) = absurd (never_reached d c p (same_cut text d c (depth_stops _ _ p r n) (breaks_stop _ _ b)) b r)
+  one_tells x y (at_number d p r n h) (at_break c b e) =
+      absurd (never_reached d c p (same_cut text d c (number_stops _ _ p r n) (breaks_stop _ _ b)) b r)
+  one_tells x y (at_depth d p r n h) (at_break c b e) = absurd (never_reached d c p (same_cut text d c (depth_stops _ _ p r n) (breaks_stop _ _ b)) b r)
+  one_tells x y (at_number c p r n e) (at_number d q s m h) =
+      let same = same_cut text c d (number_stops _ _ p r n) (number_stops _ _ q s m) in
+      let place = one_number c d p q same r s in
+      sym e
+      ∙ (ap (λ z. Err (faults.Number (told_at z c.spot.at))) place
+      ∙ (ap (λ z. Err (faults.Number (told_at q z.at))) same.spot ∙ h))
+  one_tells x y (at_number c p r n e) (at_depth d q s m h) =
+      absurd (number_or_depth c d p q (same_cut text c d (number_stops _ _ p r n) (depth_stops _ _ q s m)) r n s m)
+  one_tells x y (at_depth d q s m h) (at_number c p r n e) =
+      absurd (number_or_depth c d p q (same_cut text c d (number_stops _ _ p r n) (depth_stops _ _ q s m)) r n s m)
+  one_tells x y (at_depth c p r n e) (at_depth d q s m h) =
+      let same = same_cut text c d (depth_stops _ _ p r n) (depth_stops _ _ q s m) in
+      sym e ∙ (ap (λ z. Err (faults.Depth z.at)) same.spot ∙ h)
+
+pub one_answer_of : (text : List ℕ) (f g : Result Tree ParseFault) → IsOfTheText f → IsOfTheText g → Parses text f → Parses text g → told f ≡ told g
+one_answer_of text f g i j p q = one_tells text (told f) (told g) (tells text f i p) (tells text g j q)

@@ -1,0 +1,22 @@
+-- A text has one answer.
+use Rattle.std.specs.Prelude.{◌≡◌, ℕ, List, Result, Ok, Err, ⊤}
+use Rattle.formula_parse.specs.Trees as trees
+use Rattle.formula_parse.specs.Views.{formula_view}
+use Rattle.formula_parse.specs.Parsing.{Parses}
+use Rattle.formula_parse.specs.declared.tree.Formula.{Formula}
+use Rattle.formula_parse.specs.declared.fault.ParseFault.{ParseFault}
+use Rattle.formula_parse.specs.declared.fault.ParseFault.TheVariants as faults
+
+-- what an answer tells: a tree, or a fault with its byte
+abbrev pub told : Result Formula ParseFault → Result trees.Formula ParseFault
+told (Ok f) = Ok (formula_view f)
+told (Err e) = Err e
+
+-- every answer but want of memory
+abbrev pub IsOfTheText : Result Formula ParseFault → Type 0
+IsOfTheText (Err faults.Memory) = ⊥
+IsOfTheText _ = ⊤
+
+-- no text has two trees, two faults, or one of each
+abbrev pub OneAnswer : Type 0
+OneAnswer = (text : List ℕ) (f g : Result Formula ParseFault) → IsOfTheText f → IsOfTheText g → Parses text f → Parses text g → told f ≡ told g
