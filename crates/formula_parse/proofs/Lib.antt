@@ -17,3 +17,8 @@ pub mod Remade
 pub mod Places
 pub mod Cuts
 pub mod OneAnswer
+pub mod SameTerms
+pub mod SameFormulas
+pub mod Derived
+pub mod Published
+pub mod PublishedGrammar

@@ -16,3 +16,7 @@ pub mod LexemeViews
 pub mod Advances
 pub mod Parsing
 pub mod OneAnswer
+pub mod Published
+pub mod PublishedTrees
+pub mod PublishedFlaws
+pub mod PublishedGrammar

@@ -16,5 +16,5 @@ mod token;
 pub mod tree;
 
 pub use fault::ParseFault;
-pub use laws::one_answer;
+pub use laws::{one_answer, published_grammar};
 pub use parser::{one_tree, parse};
