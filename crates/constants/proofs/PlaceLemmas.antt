@@ -1,15 +1,16 @@
 -- The word at a place among those of its length, digit by digit, and the word of a number.
-use Rattle.std.proofs.Common.{◌≡◌, ℕ, zero, suc, ◌+◌, ◌*◌, ◌<◌, ◌≤◌, Bool, true, false, cond, List, [], ◌∷◌, ◌++◌, length, refl, ap, sym, ◌∙◌, subst, arith, ◌⊎◌, inl, inr, count_by, append_assoc, IsTrue}
+use Rattle.std.proofs.Common.{◌≡◌, ℕ, zero, suc, ◌+◌, ◌<◌, ◌≤◌, Bool, true, false, cond, List, [], ◌∷◌, ◌++◌, length, refl, ap, sym, ◌∙◌, subst, arith, ◌⊎◌, inl, inr, count_by, append_assoc, IsTrue, mul-one}
 use Rattle.std.proofs.lemmas.Bool.{cases_Bool, cases_lt, and_right}
 use Rattle.std.proofs.lemmas.List.{append-nil}
-use Rattle.digit_tuple.specs.Deterministic.{Automaton, accepts_of, letters_of}
+use Rattle.digit_tuple.specs.Deterministic.{Automaton, letters_of}
 use Rattle.digit_tuple.specs.Letters.{IsWord, product}
 use Rattle.digit_tuple.specs.Paddings.{in_order}
 use Rattle.digit_tuple.specs.declared.direction.Direction.{Direction}
+use Rattle.digit_tuple.proofs.PaddingLemmas.{in_order-twice}
 use Rattle.digit_tuple.proofs.WordLemmas.{IsWord-push}
 use Rattle.numeration.specs.Words.{led, words, rank, is_plain, IsLanguage}
-use Rattle.num_system.specs.Sealed.{SystemValue, system_of}
-use Rattle.numeration.specs.Systems.{IsSystem, IsRep}
+use Rattle.numeration.specs.Systems.{System, IsSystem, IsRep}
+use Rattle.numeration.specs.Relations.{IsLanguageOf}
 use Rattle.numeration.proofs.CountLemmas.{count_by-append, count_by-map, count_by-led}
 use Rattle.numeration.proofs.BelowLemmas.{size, below, after, led_below, below-cons, below-less}
 use Rattle.numeration.proofs.RankLemmas.{rank_is_below, rank-zero, rep_exists}
@@ -110,38 +111,38 @@ longer-rep d test number longest language few =
     by w less placed (inr short) = absurd (let most : size d test (length w) ≤ number = few (length w) short in omega (arith, less, placed, most))
 
 -- the automaton of a system's language has its digits and its test
-same-digits : (v : SystemValue) (a : Automaton) → a ≡ v.language → v.language.sizes ≡ v.digits ∷ [] → letters_of a ≡ v.digits
-same-digits v a is sizes = ap letters_of is ∙ ap product sizes ∙ (let one : v.digits * 1 ≡ v.digits = omega arith in one)
+language-digits : (s : System) (way : Direction) (a : Automaton) → IsLanguageOf way s a → letters_of a ≡ s.digits
+language-digits s way a language = ap product language.sizes ∙ mul-one s.digits
 
-same-test : (v : SystemValue) (way : Direction) (a : Automaton) → way ≡ v.way → a ≡ v.language → read way a ≡ (system_of v).test
-same-test v way a turned is = λ i w. accepts_of (is i) (in_order (turned i) w)
+language-test : (s : System) (way : Direction) (a : Automaton) → IsLanguageOf way s a → read way a ≡ s.test
+language-test s way a language = λ i w. (let same : read way a w ≡ s.test w = language.accepts (in_order way w) ∙ ap s.test (in_order-twice way w) in same) i
 
 -- the word at the number's place, for a system
-pub system-rep : (v : SystemValue) (way : Direction) (a : Automaton) (number n : ℕ) (w : List ℕ) → IsSystem (system_of v) → v.language.sizes ≡ v.digits ∷ [] → way ≡ v.way → a ≡ v.language
+pub system-rep : (s : System) (way : Direction) (a : Automaton) (number n : ℕ) (w : List ℕ) → IsSystem s → IsLanguageOf way s a
     → IsAtPlace (letters_of a) (read way a) n number w → ((m : ℕ) → m < n → continuations (letters_of a) (read way a) [] m ≤ number)
-    → IsRep v.digits (system_of v).test number w
-system-rep v way a number n w laws sizes turned is at least =
-    place-rep v.digits (system_of v).test number n w laws
-    (subst (λ d. IsAtPlace d (system_of v).test n number w) digits (subst (λ (t : List ℕ → Bool). IsAtPlace (letters_of a) t n number w) test at))
-    (subst (λ d. (m : ℕ) → m < n → continuations d (system_of v).test [] m ≤ number) digits
+    → IsRep s.digits s.test number w
+system-rep s way a number n w laws language at least =
+    place-rep s.digits s.test number n w laws
+    (subst (λ d. IsAtPlace d s.test n number w) digits (subst (λ (t : List ℕ → Bool). IsAtPlace (letters_of a) t n number w) test at))
+    (subst (λ d. (m : ℕ) → m < n → continuations d s.test [] m ≤ number) digits
     (subst (λ (t : List ℕ → Bool). (m : ℕ) → m < n → continuations (letters_of a) t [] m ≤ number) test least))
   where
-    digits : letters_of a ≡ v.digits
-    digits = same-digits v a is sizes
+    digits : letters_of a ≡ s.digits
+    digits = language-digits s way a language
 
-    test : read way a ≡ (system_of v).test
-    test = same-test v way a turned is
+    test : read way a ≡ s.test
+    test = language-test s way a language
 
-pub system-longer : (v : SystemValue) (way : Direction) (a : Automaton) (number longest : ℕ) → IsSystem (system_of v) → v.language.sizes ≡ v.digits ∷ [] → way ≡ v.way → a ≡ v.language
+pub system-longer : (s : System) (way : Direction) (a : Automaton) (number longest : ℕ) → IsSystem s → IsLanguageOf way s a
     → ((m : ℕ) → m ≤ longest → continuations (letters_of a) (read way a) [] m ≤ number)
-    → (w : List ℕ) × IsRep v.digits (system_of v).test number w × (longest < length w)
-system-longer v way a number longest laws sizes turned is few =
-    longer-rep v.digits (system_of v).test number longest laws
-    (subst (λ d. (m : ℕ) → m ≤ longest → continuations d (system_of v).test [] m ≤ number) digits
+    → (w : List ℕ) × IsRep s.digits s.test number w × (longest < length w)
+system-longer s way a number longest laws language few =
+    longer-rep s.digits s.test number longest laws
+    (subst (λ d. (m : ℕ) → m ≤ longest → continuations d s.test [] m ≤ number) digits
     (subst (λ (t : List ℕ → Bool). (m : ℕ) → m ≤ longest → continuations (letters_of a) t [] m ≤ number) test few))
   where
-    digits : letters_of a ≡ v.digits
-    digits = same-digits v a is sizes
+    digits : letters_of a ≡ s.digits
+    digits = language-digits s way a language
 
-    test : read way a ≡ (system_of v).test
-    test = same-test v way a turned is
+    test : read way a ≡ s.test
+    test = language-test s way a language

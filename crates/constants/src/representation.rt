@@ -8,8 +8,8 @@ ghost use Rattle.std.specs.Prelude.{◌≡◌, ℕ, suc, ◌<◌, ◌≤◌, Lis
 ghost use Rattle.std.specs.Result.{IsErrOf};
 ghost use Rattle.digit_tuple.specs.Deterministic.{IsTable, letters_of, states_of};
 ghost use Rattle.digit_tuple.specs.declared.direction.Direction.{Direction};
-ghost use Rattle.num_system.specs.Sealed.{system_of};
-ghost use Rattle.numeration.specs.Systems.{IsRep};
+ghost use Rattle.numeration.specs.Systems.{System, IsSystem, IsRep};
+ghost use Rattle.numeration.specs.Relations.{IsLanguageOf};
 ghost use Rattle.constants.specs.Continuations.{read, continuations};
 ghost use Rattle.constants.specs.WordCounts.{AreCounts, AreRows};
 ghost use Rattle.constants.specs.Fronts.{IsFront, Fits};
@@ -21,27 +21,26 @@ use crate::word_counts::{first_row, next_row};
 use digit_tuple::dfa::Dfa;
 use digit_tuple::direction::Direction;
 use digit_tuple::faults::{OpFault, OutOfMemory};
-use num_system::system::System;
 use std::alloc::Global;
 
-/// The word that stands for a number: the one of the system's language without leading zero before
-/// which so many stand, shorter words first; its most significant digit first, in either direction
-/// of the system. `States` comes exactly where that word is longer than `longest`, `Letters` never.
-/// Time grows with the word's length times the states and the digits of the language, memory with its
-/// length times the states.
+/// The word that stands for a number, for an automaton that accepts the valid words of a system: the
+/// valid word without leading zero before which so many stand, shorter words first; its most
+/// significant digit first, in either direction. `States` comes exactly where that word is longer than
+/// `longest`, `Letters` never. Time grows with the word's length times the states and the digits of
+/// the language, memory with its length times the states.
 pub fn representation(
     alloc: Global,
-    system: &System,
+    language: &Dfa,
+    direction: Direction,
     number: u64,
     longest: u32,
 ) -> Result<Vec<u32>, OpFault>
-    ensures word { IfOk result (λ word. IsRep system.now.digits (system_of system.now).test number word.items) }
+    ensures word { IfOk result (λ word. (s : System) → IsSystem s → IsLanguageOf direction s language.now → IsRep s.digits s.test number word.items) }
     ensures within { IfOk result (λ word. length word.items ≤ longest) }
-    ensures states { IsErrOf result OpFault.States → (word : List ℕ) × IsRep system.now.digits (system_of system.now).test number word × (longest < length word) }
+    ensures states { IsErrOf result OpFault.States → (s : System) → IsSystem s → IsLanguageOf direction s language.now
+        → (word : List ℕ) × IsRep s.digits s.test number word × (longest < length word) }
     ensures no_letters { ¬ IsErrOf result OpFault.Letters }
 {
-    let language = system.language();
-    let direction = system.direction();
     let rows = rows_past(alloc, language, direction, number, longest)?;
     Ok(word_at(alloc, language, direction, rows, number)?)
 }
