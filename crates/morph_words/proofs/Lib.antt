@@ -1,0 +1,17 @@
+pub mod NumberSteps
+pub mod SpotSteps
+pub mod Orders
+pub mod Maps
+pub mod Walks
+pub mod Complete
+pub mod Fronts
+pub mod Sound
+pub mod Breaking
+pub mod OneParse
+pub mod MorphismShape
+pub mod DigitSteps
+pub mod PrintedLexemes
+pub mod PrintedRules
+pub mod ReadingSteps
+pub mod StageSteps
+pub mod PrintSteps

@@ -1,0 +1,79 @@
+-- A text has one answer.
+use Rattle.std.proofs.Common.{◌≡◌, ℕ, ◌+◌, ◌<◌, ◌≤◌, Bool, true, false, List, ◌++◌, length, inl, inr, Some, Ok, Err, refl, sym, ap, ◌∙◌, subst, arith, append_assoc, take, drop}
+use Rattle.std.specs.Prelude.{◌≢◌, slice_get, Result}
+use Rattle.std.specs.Bool.{MatchBool}
+use Rattle.std.proofs.lemmas.Bool.{cases_lt}
+use Rattle.std.proofs.lemmas.List.{take-append-drop, take-take}
+use Rattle.text_grammar.specs.Faults.{Begins, BreaksAt}
+use Rattle.morph_words.specs.declared.fault.RulesFault.{RulesFault}
+use Rattle.morph_words.specs.declared.fault.RulesFault.TheVariants.{Syntax, Number, Memory}
+use Rattle.morph_words.specs.Lexemes.{spots, lexemes}
+use Rattle.morph_words.specs.Rules.{Rules}
+use Rattle.morph_words.specs.Grammar.{Spells}
+use Rattle.morph_words.specs.Faults.{fault_at, MayBeLetter, IsFault, Parses}
+use Rattle.morph_words.specs.Laws.{OneAnswer}
+use Rattle.morph_words.proofs.Complete.{spelled_read}
+
+-- a front of what begins a text begins one
+begins_shorter : {X T : Type 0} (grammar : List X → T → Type 0) (text : List X) (i j : ℕ) → i ≤ j → Begins grammar (take j text) → Begins grammar (take i text)
+begins_shorter {X} {T} grammar text i j l b =
+    let e : take i text ++ (drop i (take j text) ++ b.0) ≡ take j text ++ b.0 =
+    sym (append_assoc (take i text) (drop i (take j text)) b.0) ∙ ap (λ w. w ++ b.0) (ap (λ w. w ++ drop i (take j text)) (sym (take-take i j text l)) ∙ take-append-drop i (take j text)) in
+    let P : List X → Type 0 = λ w. grammar w b.1 in
+    (drop i (take j text) ++ b.0, b.1, subst P (sym e) b.2)
+
+whole_begins : {X T : Type 0} (grammar : List X → T → Type 0) (text : List X) (i : ℕ) (tree : T) → grammar text tree → Begins grammar (take i text)
+whole_begins {X} grammar text i tree g = let P : List X → Type 0 = λ w. grammar w tree in (drop i text, tree, subst P (sym (take-append-drop i text)) g)
+
+-- a text of the grammar breaks it nowhere
+breaks_nowhere : {X T : Type 0} (grammar : List X → T → Type 0) (text : List X) (i : ℕ) (tree : T) → BreaksAt grammar text i → grammar text tree → ⊥
+breaks_nowhere grammar text i tree b g = elim (cases_lt i (length text)) [
+  | inl l ↦ b.there l (whole_begins grammar text (i + 1) tree g)
+  | inr l ↦ let w : i ≤ length text = b.within in b.end (omega arith) tree g
+]
+
+not_before : {X T : Type 0} (grammar : List X → T → Type 0) (text : List X) (i j : ℕ) → BreaksAt grammar text i → BreaksAt grammar text j → i < j → ⊥
+not_before grammar text i j a b l = let w : j ≤ length text = b.within in a.there (omega arith) (begins_shorter grammar text (i + 1) j (omega arith) b.before)
+
+-- a text breaks a grammar at one place
+breaks_once : {X T : Type 0} (grammar : List X → T → Type 0) (text : List X) (i j : ℕ) → BreaksAt grammar text i → BreaksAt grammar text j → i ≡ j
+breaks_once grammar text i j a b = elim (cases_lt i j) [
+  | inl l ↦ absurd (not_before grammar text i j a b l)
+  | inr l ↦ elim (cases_lt j i) [ inl m ↦ absurd (not_before grammar text j i b a m) | inr m ↦ omega arith ]
+]
+
+-- a fact holds or does not
+one_test : (P : Type 0) (a b : Bool) → MatchBool a P (P → ⊥) → MatchBool b P (P → ⊥) → a ≡ b
+one_test P true true h k = refl
+one_test P true false h k = absurd (k h)
+one_test P false true h k = absurd (h k)
+one_test P false false h k = refl
+
+-- a text has one fault
+one_fault : (text : List ℕ) (f g : RulesFault) → IsFault text f → IsFault text g → f ≡ g
+one_fault text f g a b =
+    let same : a.count ≡ b.count = breaks_once Spells (lexemes text) a.count b.count a.breaks b.breaks in
+    let P : ℕ → Type 0 = λ n. MatchBool a.at_letter (MayBeLetter (take n (lexemes text))) (MayBeLetter (take n (lexemes text)) → ⊥) in
+    let test : a.at_letter ≡ b.at_letter = one_test (MayBeLetter (take b.count (lexemes text))) a.at_letter b.at_letter (subst P same a.may_be) b.may_be in
+    a.fault_is
+    ∙ (ap (λ (c : Bool). fault_at text c (slice_get (spots text) a.count)) test
+    ∙ (ap (λ (n : ℕ). fault_at text b.at_letter (slice_get (spots text) n)) same ∙ sym b.fault_is))
+
+-- and none where it spells rules
+no_fault : (text : List ℕ) (rules : Rules) (f : RulesFault) → Spells (lexemes text) rules → IsFault text f → ⊥
+no_fault text rules f h k = breaks_nowhere Spells (lexemes text) k.count rules k.breaks h
+
+-- a fault that is told and is not want of memory
+fault_told : (text : List ℕ) (f : RulesFault) → Parses text (Err f) → (let r : Result Rules RulesFault = Err f in r) ≢ Err Memory → IsFault text f
+fault_told text (Syntax at) h n = h
+fault_told text (Number at) h n = h
+fault_told text Memory h n = absurd (n refl)
+
+one_map : (text : List ℕ) (r s : Rules) → Spells (lexemes text) r → Spells (lexemes text) s → r ≡ s
+one_map text r s h k = let e : Some r ≡ Some s = sym (spelled_read (lexemes text) r h) ∙ spelled_read (lexemes text) s k in cc
+
+pub one_answer : OneAnswer
+one_answer text (Ok r) (Ok s) a b m n = ap Ok (one_map text r s a b)
+one_answer text (Ok r) (Err g) a b m n = absurd (no_fault text r g a (fault_told text g b n))
+one_answer text (Err f) (Ok s) a b m n = absurd (no_fault text s f b (fault_told text f a m))
+one_answer text (Err f) (Err g) a b m n = ap Err (one_fault text f g (fault_told text f a m) (fault_told text g b n))

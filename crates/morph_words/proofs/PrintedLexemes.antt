@@ -1,0 +1,84 @@
+-- The lexemes of printed rules.
+use Rattle.std.proofs.Common.{◌≡◌, ℕ, zero, suc, ◌+◌, ◌-◌, ◌<◌, ◌≤◌, Bool, true, false, List, [], ◌∷◌, ◌++◌, length, drop, map, append_assoc, decimal, codes, ℤ, pos, negsuc, refl, sym, ap, ◌∙◌, arith}
+use Rattle.std.specs.Prelude.{if◌then◌else◌, nat_lt}
+use Rattle.std.specs.Fmt.{signed_decimal}
+use Rattle.std.specs.List.{AllByRecursion, flat_map}
+use Rattle.std.proofs.lemmas.Bool.Decides.{nat_tests}
+use Rattle.std.proofs.lemmas.List.{length-append}
+use Rattle.std.proofs.lemmas.Fmt.{decimal_digit}
+use Rattle.text_grammar.specs.Bytes.{is_digit}
+use Rattle.morph_words.specs.declared.lexeme.Lexeme.TheVariants.{Letter, Arrow, Blank}
+use Rattle.morph_words.specs.declared.lexeme.Piece.{Piece}
+use Rattle.morph_words.specs.Numbers.{is_short}
+use Rattle.morph_words.specs.Lexemes.{piece, lexeme, spots_from, lexemes_in, lexemes}
+use Rattle.morph_words.specs.Printed.{letter_text, rule_text}
+use Rattle.morph_words.specs.Rules.{IsRule}
+use Rattle.morph_words.proofs.SpotSteps.{spots_skip}
+use Rattle.morph_words.proofs.DigitSteps.{printed_bracket}
+
+-- lexemes are the same from each byte on
+same_lexemes : (a b skipped : ℕ) (bs : List ℕ) → lexemes_in (spots_from a skipped bs) ≡ lexemes_in (spots_from b skipped bs)
+same_lexemes a b skipped [] = refl
+same_lexemes a b (suc skipped) (x ∷ bs) = same_lexemes (suc a) (suc b) skipped bs
+same_lexemes a b zero (x ∷ bs) = ap (λ ts. (lexeme x bs).lexeme ∷ ts) (same_lexemes (suc a) (suc b) (lexeme x bs).more bs)
+
+-- the first lexeme, and those after its bytes
+first_lexeme : (p : Piece) (b : ℕ) (bs : List ℕ) → lexeme b bs ≡ p → p.more ≤ length bs → lexemes (b ∷ bs) ≡ p.lexeme ∷ lexemes (drop p.more bs)
+first_lexeme p b bs e within =
+    ap (λ (q : Piece). q.lexeme ∷ lexemes_in (spots_from 1 q.more bs)) e
+    ∙ ap (λ ts. p.lexeme ∷ ts) (ap lexemes_in (spots_skip 1 p.more bs within) ∙ same_lexemes (1 + p.more) 0 0 (drop p.more bs))
+
+digit_lexeme : (n : ℕ) (rest : List ℕ) → n < 10 → lexeme (48 + n) rest ≡ piece (Letter (pos n)) 0
+digit_lexeme n rest h =
+    let digit : is_digit (48 + n) ≡ true = grind (arith, nat_tests) in
+    let same : 48 + n - 48 ≡ n = omega arith in
+    rw digit (ap (λ k. piece (Letter (pos k)) 0) same)
+
+digit_read : (n : ℕ) (rest : List ℕ) → n < 10 → lexemes (decimal n ++ rest) ≡ Letter (pos n) ∷ lexemes rest
+digit_read n rest h = ap (λ ds. lexemes (ds ++ rest)) (decimal_digit n h) ∙ first_lexeme (piece (Letter (pos n)) 0) (48 + n) rest (digit_lexeme n rest h) (omega arith)
+
+bracket_read : (z : ℤ) (rest : List ℕ) → is_short z ≡ true → lexemes ((91 ∷ (signed_decimal z ++ 93 ∷ [])) ++ rest) ≡ Letter z ∷ lexemes rest
+bracket_read z rest h =
+    let len = length (signed_decimal z) in
+    let bytes = signed_decimal z ++ 93 ∷ rest in
+    let whole : len + length (93 ∷ rest) ≡ length bytes = sym (length-append (signed_decimal z) (93 ∷ rest)) in
+    let behind : drop (len + 1) bytes ≡ rest = past (signed_decimal z) in
+    ap (λ bs. lexemes (91 ∷ bs)) (append_assoc (signed_decimal z) (93 ∷ []) rest)
+    ∙ (first_lexeme (piece (Letter z) (len + 1)) 91 bytes (printed_bracket z rest h) (omega arith) ∙ ap (λ bs. Letter z ∷ lexemes bs) behind)
+  where
+    past : (xs : List ℕ) → drop (length xs + 1) (xs ++ 93 ∷ rest) ≡ rest
+    past [] = refl
+    past (x ∷ xs) = let e : suc (length xs) + 1 ≡ suc (length xs + 1) = omega arith in ap (λ k. drop k (x ∷ (xs ++ 93 ∷ rest))) e ∙ past xs
+
+-- a printed letter is one lexeme
+pub letter_read : (z : ℤ) (rest : List ℕ) → is_short z ≡ true → lexemes (letter_text z ++ rest) ≡ Letter z ∷ lexemes rest
+letter_read (pos n) rest h = by_test (nat_lt n 10) refl
+  where
+    by_test : (b : Bool) → nat_lt n 10 ≡ b → lexemes ((if b then signed_decimal (pos n) else 91 ∷ (signed_decimal (pos n) ++ 93 ∷ [])) ++ rest) ≡ Letter (pos n) ∷ lexemes rest
+    by_test true e = let below : n < 10 = grind (arith, nat_tests) in digit_read n rest below
+    by_test false e = bracket_read (pos n) rest h
+letter_read (negsuc n) rest h = bracket_read (negsuc n) rest h
+
+-- so are letters one after another
+letters_read : (zs : List ℤ) (rest : List ℕ) → AllByRecursion (λ z. is_short z ≡ true) zs → lexemes (flat_map letter_text zs ++ rest) ≡ map Letter zs ++ lexemes rest
+letters_read [] rest h = refl
+letters_read (z ∷ zs) rest h =
+    ap lexemes (append_assoc (letter_text z) (flat_map letter_text zs) rest)
+    ∙ (letter_read z (flat_map letter_text zs ++ rest) h.0 ∙ ap (λ ts. Letter z ∷ ts) (letters_read zs rest h.1))
+
+arrow_read : (rest : List ℕ) → lexemes (codes "->" ++ rest) ≡ Arrow ∷ lexemes rest
+arrow_read rest = first_lexeme (piece Arrow 1) 45 (62 ∷ rest) refl (omega arith)
+
+pub blank_read : (rest : List ℕ) → lexemes (codes " " ++ rest) ≡ Blank ∷ lexemes rest
+blank_read rest = first_lexeme (piece Blank 0) 32 rest refl (omega arith)
+
+pub end_read : lexemes (codes "\n") ≡ Blank ∷ []
+end_read = first_lexeme (piece Blank 0) 10 [] refl (omega arith)
+
+-- the lexemes of a printed rule
+pub rule_read : (rule : ℤ × List ℤ) (rest : List ℕ) → IsRule rule → lexemes (rule_text rule ++ rest) ≡ Letter rule.0 ∷ Arrow ∷ (map Letter rule.1 ++ lexemes rest)
+rule_read rule rest h =
+    let images = flat_map letter_text rule.1 in
+    ap lexemes (append_assoc (letter_text rule.0) (codes "->" ++ images) rest ∙ ap (λ bs. letter_text rule.0 ++ bs) (append_assoc (codes "->") images rest))
+    ∙ (letter_read rule.0 (codes "->" ++ (images ++ rest)) h.letter
+    ∙ ap (λ ts. Letter rule.0 ∷ ts) (arrow_read (images ++ rest) ∙ ap (λ ts. Arrow ∷ ts) (letters_read rule.1 rest h.image)))

@@ -1,0 +1,9 @@
+pub mod Numbers
+pub mod Lexemes
+pub mod Rules
+pub mod Grammar
+pub mod Faults
+pub mod Printed
+pub mod Stages
+pub mod Readings
+pub mod Laws
