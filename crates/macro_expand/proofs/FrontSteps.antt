@@ -1,0 +1,30 @@
+-- The fronts of texts, and the marks before which they stand.
+use Rattle.std.proofs.Common.{◌≡◌, ℕ, zero, suc, ◌<◌, Bool, true, false, cond, List, [], ◌∷◌, length, take, drop, refl, ap, arith, tests, IsAscii}
+use Rattle.std.specs.Prelude.{◌==◌}
+use Rattle.std.proofs.lemmas.Bool.{eqb-true}
+use Rattle.text_grammar.specs.declared.class.Class.TheVariants.{NameByte}
+use Rattle.text_grammar.specs.Bytes.{is_name_byte}
+use Rattle.text_grammar.specs.Fronts.{front_len, front_of}
+use Rattle.macro_expand.specs.Views.{len_before}
+
+name_byte-low : (b : ℕ) → is_name_byte b ≡ true → b < 128
+name_byte-low b h = grind (arith, tests)
+
+-- the bytes of names are ASCII
+pub IsAscii-front : (bytes : List ℕ) → IsAscii (front_of NameByte bytes)
+IsAscii-front [] = λ i. omega arith
+IsAscii-front (b ∷ bs) = by (is_name_byte b) refl (IsAscii-front bs)
+  where
+    by : (t : Bool) → is_name_byte b ≡ t → IsAscii (front_of NameByte bs) → IsAscii (take (cond t (suc (front_len NameByte bs)) 0) (b ∷ bs))
+    by true h more zero = name_byte-low b h
+    by true h more (suc i) = more i
+    by false h more i = omega arith
+
+-- a mark stands first
+pub at_mark : (mark : ℕ) (bytes : List ℕ) → len_before mark bytes ≡ 0 → 0 < length bytes → bytes ≡ mark ∷ drop 1 bytes
+at_mark mark [] h some = absurd (omega arith)
+at_mark mark (b ∷ bs) h some = by (b == mark) refl h
+  where
+    by : (t : Bool) → (b == mark) ≡ t → cond t 0 (suc (len_before mark bs)) ≡ 0 → b ∷ bs ≡ mark ∷ bs
+    by true e z = ap (λ (x : ℕ). x ∷ bs) (eqb-true b mark e)
+    by false e z = absurd (omega arith)

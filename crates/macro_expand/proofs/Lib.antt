@@ -1,0 +1,12 @@
+pub mod AnswerSteps
+pub mod FrontSteps
+pub mod NumberSteps
+pub mod PartSteps
+pub mod ArgumentSteps
+pub mod PieceSteps
+pub mod EachSteps
+pub mod FillSteps
+pub mod TextSteps
+pub mod CallSteps
+pub mod MapSteps
+pub mod PlainTexts

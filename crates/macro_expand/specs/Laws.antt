@@ -1,0 +1,33 @@
+-- What holds of the expansions of all texts.
+use Rattle.std.specs.Prelude.{◌≡◌, ◌≢◌, ℕ, ◌≤◌, true, List, ◌∷◌, ◌++◌, length, Some, Ok}
+use Rattle.std.specs.List.{AllByRecursion}
+use Rattle.std.specs.FinMap.{get}
+use Rattle.text_grammar.specs.Bytes.{is_name_byte}
+use Rattle.macro_expand.specs.Texts.{Texts}
+use Rattle.macro_expand.specs.Calls.{is_name}
+use Rattle.macro_expand.specs.Expansion.{expansion}
+
+-- a mark does not stand in a text
+abbrev pub HasNo : ℕ → List ℕ → Type 0
+HasNo mark text = AllByRecursion (λ b. b ≢ mark) text
+
+-- a text of at most 65,536 bytes without `#` is its own expansion
+abbrev pub KeepsPlainTexts : Type 0
+KeepsPlainTexts = (macros : Texts) (text : List ℕ) → HasNo 35 text → length text ≤ 65536 → expansion macros text ≡ Ok text
+
+-- the name of a macro
+pub record IsName (name : List ℕ) : Type 0 where
+  pub bytes : AllByRecursion (λ b. is_name_byte b ≡ true) name
+  pub form : is_name name ≡ true
+
+-- a macro whose text has neither `#` nor `%`
+pub record IsPlainMacro (macros : Texts) (name text : List ℕ) : Type 0 where
+  pub named : IsName name
+  pub added : get macros name ≡ Some text
+  pub no_call : HasNo 35 text
+  pub no_place : HasNo 37 text
+
+-- such a macro's text stands in the place of its call without arguments, where all is at most 65,536 bytes
+abbrev pub GivesPlainTexts : Type 0
+GivesPlainTexts = (macros : Texts) (name text before behind : List ℕ) → IsPlainMacro macros name text → HasNo 35 before → HasNo 35 behind → length (before ++ (text ++ behind)) ≤ 65536
+    → expansion macros (before ++ (35 ∷ name ++ 40 ∷ 41 ∷ behind)) ≡ Ok (before ++ (text ++ behind))

@@ -1,0 +1,66 @@
+//! A macro's text with arguments in its places.
+
+ghost use Rattle.std.specs.Prelude.{◌≡◌, map, IsAscii};
+ghost use Rattle.std.specs.FinMap.{get};
+ghost use Rattle.macro_expand.specs.Filling.{parts, missing, filled};
+ghost use Rattle.macro_expand.specs.Expansion.{limited, filled_text as text_filled};
+ghost use Rattle.macro_expand.specs.Views.{Answers};
+
+use crate::bytes::behind;
+use crate::fault::{MacroFault, name_of};
+use crate::limited::put;
+use crate::macros::Macros;
+use crate::part::first_part;
+use std::alloc::Global;
+
+/// The first number of a place of the text for which so many arguments are too few.
+fn missing_place(text: &[u8], given: usize) -> Option<u64>
+    ensures { result ≡ missing given (parts text.now) }
+{
+    let mut rest = text;
+    while !rest.is_empty() {
+        let part = first_part(rest);
+        if let Some(number) = part.missing(given) {
+            return Some(number);
+        }
+        rest = behind(part.len(), rest);
+    }
+    None
+}
+
+/// The text with arguments in its places.
+fn fill(alloc: Global, text: &[u8], arguments: &[Vec<u8>]) -> Result<Vec<u8>, MacroFault>
+    ensures { Answers (λ made. made.items) result (limited (filled (map (λ argument. argument.items) arguments.now) (parts text.now))) }
+{
+    let mut made = Vec::new(alloc);
+    let mut rest = text;
+    while !rest.is_empty() {
+        let part = first_part(rest);
+        put(&mut made, part.text(arguments))?;
+        rest = behind(part.len(), rest);
+    }
+    Ok(made)
+}
+
+/// The text of the macro of this name, with arguments in its places.
+pub(crate) fn filled_text(
+    alloc: Global,
+    macros: &Macros,
+    name: &[u8],
+    arguments: &[Vec<u8>],
+) -> Result<Vec<u8>, MacroFault>
+    requires { IsAscii name.now }
+    ensures { Answers (λ made. made.items) result (text_filled name.now (map (λ argument. argument.items) arguments.now) (get macros.now name.now)) }
+{
+    let Some(text) = macros.text_of(name) else {
+        return Err(MacroFault::Unknown(name_of(alloc, name)?));
+    };
+    if let Some(place) = missing_place(text, arguments.len()) {
+        return Err(MacroFault::MacroArgs {
+            name: name_of(alloc, name)?,
+            place,
+            given: arguments.len(),
+        });
+    }
+    fill(alloc, text, arguments)
+}

@@ -1,0 +1,14 @@
+//! What holds of the expansions of all texts.
+
+ghost use Rattle.macro_expand.specs.Laws.{KeepsPlainTexts, GivesPlainTexts};
+
+/// A text of at most 65,536 bytes without `#` is its own expansion.
+pub fn keeps_plain_texts()
+    ensures { KeepsPlainTexts }
+{}
+
+/// A macro's text without `#` and `%` stands in the place of its call without arguments, among bytes without `#`, where
+/// all is at most 65,536 bytes.
+pub fn gives_plain_texts()
+    ensures { GivesPlainTexts }
+{}

@@ -1,0 +1,37 @@
+//! Macros: the expansion of a text in which they are called.
+//!
+//! `#NAME(a,b)` is replaced by the macro's text with the arguments in its places `%0`, `%1` and so on. The arguments
+//! are expanded first, then the text that they fill in. The expansion is one function on texts (`specs/Expansion.antt`);
+//! `expand` gives its value, the first fault with what it keeps included.
+//!
+//! Calls stand on 16 levels at most, so `expand` calls itself no deeper. Each level reads each byte of a call a fixed
+//! number of times, and writes each byte of an expansion once.
+#![tactic(auto)]
+
+// faults of expansions
+mod fault;
+// the texts of macros, by their names
+mod macros;
+// fronts of texts, and what stands behind them
+mod bytes;
+// calls, and the ends of their parentheses
+mod call;
+// the arguments between a call's parentheses
+mod arguments;
+// the calls of a text, and what stands outside of them
+mod piece;
+// the places of a macro's text, and what stands outside of them
+mod part;
+// texts that grow up to a limit
+mod limited;
+// a macro's text with arguments in its places
+mod filling;
+// the expansion
+mod expanding;
+// what holds of all expansions
+mod laws;
+
+pub use expanding::expand;
+pub use fault::MacroFault;
+pub use laws::{gives_plain_texts, keeps_plain_texts};
+pub use macros::Macros;

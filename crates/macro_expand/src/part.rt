@@ -1,0 +1,88 @@
+//! What a macro's text is made of.
+
+ghost use Rattle.std.specs.Prelude.{◌≡◌, ◌<◌, length, map};
+ghost use Rattle.macro_expand.specs.Filling.{number_of as number_in, missing as missing_in, filled};
+ghost use Rattle.macro_expand.specs.Views.{part_len, parts_view, IsFirstPart};
+
+use crate::bytes::{behind, len_before};
+use text_grammar::{Class, front_len};
+
+/// Some bytes outside of places, or the place of an argument: its number, and how many bytes spell it.
+#[derive(Clone, Copy)]
+pub(crate) enum Part<'a> {
+    Plain(&'a [u8]),
+    Place(u64, usize),
+}
+
+/// The number that digits spell; 2^64 - 1 stands for each greater one.
+fn number_of(digits: &[u8]) -> u64
+    ensures { result ≡ number_in digits.now }
+{
+    let mut number: u64 = 0;
+    for digit in digits {
+        number = number
+            .saturating_mul(10)
+            .saturating_add(u64::from(digit.saturating_sub(b'0')));
+    }
+    number
+}
+
+impl<'a> Part<'a> {
+    /// How many bytes of the macro's text it has.
+    pub fn len(&self) -> usize
+        ensures { result ≡ part_len self.now }
+    {
+        match self {
+            Part::Plain(bytes) => bytes.len(),
+            Part::Place(_, len) => *len,
+        }
+    }
+
+    /// Its number, where so many arguments are too few for it.
+    #[tactic(auto, using(crate::proofs::PartSteps::missing_plain))]
+    pub fn missing(&self, given: usize) -> Option<u64>
+        ensures { result ≡ missing_in given (parts_view self.now) }
+    {
+        match self {
+            Part::Plain(_) => None,
+            Part::Place(number, _) => {
+                if *number >= given as u64 {
+                    Some(*number)
+                } else {
+                    None
+                }
+            }
+        }
+    }
+
+    /// What stands there with these arguments.
+    #[tactic(auto, using(crate::proofs::PartSteps::filled_plain))]
+    pub fn text(&self, arguments: &'a [Vec<u8>]) -> &'a [u8]
+        ensures { result.now ≡ filled (map (λ argument. argument.items) arguments.now) (parts_view self.now) }
+    {
+        match self {
+            Part::Plain(bytes) => bytes,
+            Part::Place(number, _) => match arguments.get(*number as usize) {
+                Some(argument) => argument.as_slice(),
+                None => &[],
+            },
+        }
+    }
+}
+
+/// The first part of some bytes.
+pub(crate) fn first_part(bytes: &[u8]) -> Part<'_>
+    requires { 0 < length bytes.now }
+    ensures { IsFirstPart bytes.now result }
+{
+    let plain = len_before(b'%', bytes);
+    if plain > 0 {
+        return Part::Plain(&bytes[..plain]);
+    }
+    let after = behind(1, bytes);
+    let digits = front_len(Class::Digit, after);
+    if digits == 0 {
+        return Part::Plain(&bytes[..1]);
+    }
+    Part::Place(number_of(&after[..digits]), digits + 1)
+}
