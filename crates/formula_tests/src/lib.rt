@@ -1,4 +1,5 @@
-//! Tests of the parser of formulas: trees and faults worked by hand, and texts as long as a command's.
+//! Tests of the parsers of formulas and of rules of morphisms: what is read of texts and their faults, worked by hand, and texts
+//! as long as a command's.
 #![tactic(auto)]
 
 // texts with the trees that they must have
@@ -12,3 +13,7 @@ mod faults;
 // texts of 65,536 bytes
 #[cfg(test)]
 mod long_texts;
+
+// rules of morphisms, as they are printed and with their first faults
+#[cfg(test)]
+mod rules;
