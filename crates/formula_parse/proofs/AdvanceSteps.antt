@@ -1,14 +1,13 @@
 -- A step at any position, with the limits.
-use Rattle.std.proofs.Common.{◌≡◌, refl, sym, ◌∙◌, ap, subst, ℕ, ◌<◌, ◌≤◌, min, Bool, true, false, Option, None, Some, Ok, Err, arith}
-use Rattle.std.specs.Prelude.{IsSome, IsSomeAnd, ◌^◌}
+use Rattle.std.proofs.Common.{◌≡◌, refl, sym, subst, ℕ, ◌<◌, ◌≤◌, min, true, false, Option, None, Some, Ok, Err, arith}
+use Rattle.std.specs.Prelude.{IsSome, IsSomeAnd}
 use Rattle.formula_parse.specs.Tokens as tokens
 use Rattle.formula_parse.specs.Tokens.{here, value_of, number, nesting_of}
-use Rattle.formula_parse.specs.Machine as machine
 use Rattle.formula_parse.specs.Machine.{Position, at_letter, at_value, depth, step}
 use Rattle.formula_parse.specs.Runs.{placed}
-use Rattle.formula_parse.specs.Grammar.{made, trees, IsInRange, IsAllowed, told_at, letter_bound}
-use Rattle.formula_parse.specs.StateViews.{Machine, state_view, token_view}
-use Rattle.formula_parse.specs.Stops.{Gives, GivesLetter, Steps, IsLetterBelow, IsLetterPast}
+use Rattle.formula_parse.specs.Grammar.{made, trees, IsInRange, told_at, letter_bound}
+use Rattle.formula_parse.specs.StateViews.{Machine, state_view}
+use Rattle.formula_parse.specs.Stops.{Steps}
 use Rattle.formula_parse.specs.Advances.{Advances}
 use Rattle.formula_parse.specs.declared.state.State.{State}
 use Rattle.formula_parse.specs.declared.fault.Stop.TheVariants as stops

@@ -1,15 +1,15 @@
 -- What a derivation spells, the machine reads to what the derivation is made to.
 use Rattle.std.proofs.Common.{◌≡◌, refl, ◌∙◌, ℕ, suc, Bool, true, false, List, [], ◌∷◌, Option, None, Some}
-use Rattle.formula_parse.specs.Tokens.{Name, Relation, Quantifier, Connective, Sign, Letter, Token, Placed, here, times, sign, relation, closing, connective, implies, iff, end}
+use Rattle.formula_parse.specs.Tokens.{Name, Relation, Quantifier, Connective, Sign, Token, Placed, here, times, sign, relation, closing, connective, implies, iff, end}
 use Rattle.formula_parse.specs.Trees.{Names, no_names, names}
 use Rattle.formula_parse.specs.Making.{Kinds, Making}
-use Rattle.formula_parse.specs.Derivations.{Factor, variable, numeral, in_parens, Factors, no_factors, factors, Addends, no_addends, addends, Term, term, Terms, no_terms, terms, Index, index, Core, compare, words, word_letter, letter_word, call_none, call, not_closed, grouped, Closed, marked, Operands, no_operands, operands, Chains, no_chains, chains, Implications, no_implications, implications, Last, ends, quantified, Formula, formula, factor_then, factors_then, addends_then, term_then, arguments_then, places_then, index_then, letter_then, marks_then, variables_then, within, tildes_then, core_then, closed_then, operands_then, chains_then, implications_then, last_then, formula_then, spelled}
-use Rattle.formula_parse.specs.Systems.{marks_system, tildes_system, core_system, closed_system, operands_system, chains_system, implications_system, factor_of, factors_of, addends_of, term_of, terms_of, index_of, core_of, closed_of, operands_of, chains_of, implications_of, last_of, formula_of}
-use Rattle.formula_parse.specs.Flaws.{Flaw, Product, product_start, product_of, noted_factor, is_lone, is_numeral, factor_flaw, factors_flaw, addends_flaw, term_flaw, terms_flaw, index_flaw, none_came, came_of, is_implied, core_flaw, closed_flaw, operands_flaw, chains_flaw, implications_flaw, last_flaw, formula_flaw, Came}
-use Rattle.formula_parse.specs.Machine.{Front, Body, Frame, Outer, Aim, Side, Where, Position, State, after_index, after_letter, first, second, left_side, right_of, place_in, argument, at_operand, at_variable, behind_operand, at_factor, behind_factor, behind_index, at_word, behind_letter, at_argument, done, paren, scope, fresh, close, place, start}
+use Rattle.formula_parse.specs.Derivations.{Factor, variable, numeral, in_parens, Factors, no_factors, factors, Addends, no_addends, addends, Term, term, Terms, no_terms, terms, index, Core, compare, words, word_letter, letter_word, call_none, call, not_closed, grouped, marked, Operands, no_operands, operands, Chains, no_chains, chains, Implications, no_implications, implications, Last, ends, quantified, Formula, formula, factor_then, factors_then, addends_then, term_then, arguments_then, places_then, letter_then, marks_then, variables_then, tildes_then, core_then, operands_then, chains_then, implications_then, last_then, formula_then, spelled}
+use Rattle.formula_parse.specs.Systems.{marks_system, tildes_system, core_system, operands_system, chains_system, implications_system, factor_of, factors_of, addends_of, terms_of, core_of, operands_of, chains_of, implications_of, last_of, formula_of}
+use Rattle.formula_parse.specs.Flaws.{Flaw, Product, product_start, product_of, noted_factor, is_lone, is_numeral, factor_flaw, factors_flaw, addends_flaw, term_flaw, terms_flaw, none_came, came_of, is_implied, core_flaw, operands_flaw, chains_flaw, implications_flaw, last_flaw, formula_flaw, Came}
+use Rattle.formula_parse.specs.Machine.{Front, Body, Frame, Outer, Side, Where, Position, State, left_index, left_letter, first, second, left_side, right_of, place_in, argument, at_operand, at_variable, after_operand, at_factor, after_factor, after_index, at_word, after_letter, at_argument, done, paren, fresh, close, place, start}
 use Rattle.formula_parse.specs.Runs.{after, run}
 
--- a token behind a factor of a term that began where an operand may
+-- a token after a factor of a term that began where an operand may
 data Next : Type 0 where
   next_times : ℕ → Next
   next_sign : Sign → Next
@@ -22,7 +22,7 @@ next_token (next_sign s) = sign s
 next_token (next_relation e) = relation e
 next_token next_closing = closing
 
--- a token behind an operand
+-- a token after an operand
 data Stop : Type 0 where
   stop_connective : Connective → ℕ → Stop
   stop_implies : ℕ → Stop
@@ -37,7 +37,7 @@ stop_token stop_iff = iff
 stop_token stop_closing = closing
 stop_token stop_end = end
 
--- a token behind a formula
+-- a token after a formula
 data Ending : Type 0 where
   by_closing : Ending
   by_end : Ending
@@ -76,9 +76,9 @@ module _ {K : Kinds} (A : Making K) where
   abbrev group : ℕ → Front K → List Names → Names → Bool → Body K
   group b r ts ms e = record { base = b; front = r; tildes = ts; marks = ms; touched = e }
 
-  -- a term inside of brackets, parentheses or behind a relation
+  -- a term inside of brackets, parentheses or after a relation
   mutual
-    factor_read : (f : Factor) (d : ℕ) (r : List Placed) (gs : List (Frame K)) (g : Body K) (y : Name) (w : Option Flaw) (h : Where K) (o : List (Outer K)) (ss : K.Addends) (ps : K.Factors) (p : Product) → run A (factor_then f d r) (st gs g y w (at_factor h o ss ps p)) ≡ run A r (st gs g y (noted_factor p (is_numeral f) (factor_flaw w f)) (behind_factor h o ss ps p (factor_of A f) (is_numeral f)))
+    factor_read : (f : Factor) (d : ℕ) (r : List Placed) (gs : List (Frame K)) (g : Body K) (y : Name) (w : Option Flaw) (h : Where K) (o : List (Outer K)) (ss : K.Addends) (ps : K.Factors) (p : Product) → run A (factor_then f d r) (st gs g y w (at_factor h o ss ps p)) ≡ run A r (st gs g y (noted_factor p (is_numeral f) (factor_flaw w f)) (after_factor h o ss ps p (factor_of A f) (is_numeral f)))
     factor_read (variable n) d r gs g y w h o ss ps p = refl
     factor_read (numeral n) d r gs g y w h o ss ps p = refl
     factor_read (in_parens (term ts qs f)) d r gs g y w h o ss ps p =
@@ -95,7 +95,7 @@ module _ {K : Kinds} (A : Making K) where
 
   -- A term that begins where an operand may: a `(` is first taken for a formula's.
   abbrev FactorLeads : Factor → Type 0
-  FactorLeads f = (x : Next) (d e : ℕ) (r : List Placed) (gs : List (Frame K)) (g : Body K) (y : Name) (w : Option Flaw) → run A (factor_then f d (here (next_token x) e ∷ r)) (st gs g y w at_operand) ≡ run A (here (next_token x) e ∷ r) (st gs g y (factor_flaw w f) (behind_factor left_side [] A.no_addends A.no_factors (product_start true) (factor_of A f) (is_numeral f)))
+  FactorLeads f = (x : Next) (d e : ℕ) (r : List Placed) (gs : List (Frame K)) (g : Body K) (y : Name) (w : Option Flaw) → run A (factor_then f d (here (next_token x) e ∷ r)) (st gs g y w at_operand) ≡ run A (here (next_token x) e ∷ r) (st gs g y (factor_flaw w f) (after_factor left_side [] A.no_addends A.no_factors (product_start true) (factor_of A f) (is_numeral f)))
 
   abbrev FactorsLead : Factors → Type 0
   FactorsLead no_factors = Unit {0}
@@ -106,7 +106,7 @@ module _ {K : Kinds} (A : Making K) where
   AddendsLead (addends ss ps f s) = (d : ℕ) (r : List Placed) (gs : List (Frame K)) (g : Body K) (y : Name) (w : Option Flaw) → run A (addends_then (addends ss ps f s) d r) (st gs g y w at_operand) ≡ run A r (st gs g y (addends_flaw w (addends ss ps f s)) (at_factor left_side [] (addends_of A (addends ss ps f s)) A.no_factors (product_start false)))
 
   abbrev TermLeads : Term → Type 0
-  TermLeads (term ss ps f) = (x : Next) (d e : ℕ) (r : List Placed) (gs : List (Frame K)) (g : Body K) (y : Name) (w : Option Flaw) → run A (term_then (term ss ps f) d (here (next_token x) e ∷ r)) (st gs g y w at_operand) ≡ run A (here (next_token x) e ∷ r) (st gs g y (term_flaw w (term ss ps f)) (behind_factor left_side [] (addends_of A ss) (factors_of A ps) (product_of (is_lone ss) ps) (factor_of A f) (is_numeral f)))
+  TermLeads (term ss ps f) = (x : Next) (d e : ℕ) (r : List Placed) (gs : List (Frame K)) (g : Body K) (y : Name) (w : Option Flaw) → run A (term_then (term ss ps f) d (here (next_token x) e ∷ r)) (st gs g y w at_operand) ≡ run A (here (next_token x) e ∷ r) (st gs g y (term_flaw w (term ss ps f)) (after_factor left_side [] (addends_of A ss) (factors_of A ps) (product_of (is_lone ss) ps) (factor_of A f) (is_numeral f)))
 
   name_leads : (n : Name) → FactorLeads (variable n)
   name_leads n (next_times b) d e r gs g y w = refl
@@ -162,7 +162,7 @@ module _ {K : Kinds} (A : Making K) where
       arguments_read ts _ _ gs g y w n
       ∙ (addends_read ss _ _ gs g y _ _ [] ∙ (factors_read ps _ _ gs g y _ _ [] _ _ ∙ factor_read f _ _ gs g y _ _ [] _ _ _))
 
-  -- behind a call's parenthesis a term is read as elsewhere
+  -- after a call's parenthesis a term is read as elsewhere
   module _ (gs : List (Frame K)) (g : Body K) (y : Name) (w : Option Flaw) (n : Name) where
     abbrev early : State K
     early = st gs g y w (at_argument n)
@@ -187,11 +187,11 @@ module _ {K : Kinds} (A : Making K) where
     arguments_start no_terms (term ss ps f) d r = addends_start ss ps f d r
     arguments_start (terms ts u) t d r = arguments_start ts u d _
 
-  letter_left : (a : ℕ) (b : Bool) (v : ℕ) (d : ℕ) (r : List Placed) (gs : List (Frame K)) (g : Body K) (y : Name) (w : Option Flaw) → run A (letter_then (record { at = a; negative = b; value = v }) d r) (st gs g y w at_operand) ≡ run A r (st gs g y w (behind_letter (A.letter (record { at = a; negative = b; value = v }))))
+  letter_left : (a : ℕ) (b : Bool) (v : ℕ) (d : ℕ) (r : List Placed) (gs : List (Frame K)) (g : Body K) (y : Name) (w : Option Flaw) → run A (letter_then (record { at = a; negative = b; value = v }) d r) (st gs g y w at_operand) ≡ run A r (st gs g y w (after_letter (A.letter (record { at = a; negative = b; value = v }))))
   letter_left a true v d r gs g y w = refl
   letter_left a false v d r gs g y w = refl
 
-  letter_right : (a : ℕ) (b : Bool) (v : ℕ) (d : ℕ) (r : List Placed) (gs : List (Frame K)) (g : Body K) (y : Name) (w : Option Flaw) (x : K.Index) (k : Relation) → run A (letter_then (record { at = a; negative = b; value = v }) d r) (st gs g y w (at_word (after_index x k))) ≡ run A r (st gs g y w (behind_operand (A.word_letter y x k (A.letter (record { at = a; negative = b; value = v })))))
+  letter_right : (a : ℕ) (b : Bool) (v : ℕ) (d : ℕ) (r : List Placed) (gs : List (Frame K)) (g : Body K) (y : Name) (w : Option Flaw) (x : K.Index) (k : Relation) → run A (letter_then (record { at = a; negative = b; value = v }) d r) (st gs g y w (at_word (left_index x k))) ≡ run A r (st gs g y w (after_operand (A.word_letter y x k (A.letter (record { at = a; negative = b; value = v })))))
   letter_right a true v d r gs g y w x k = refl
   letter_right a false v d r gs g y w x k = refl
 
@@ -207,30 +207,30 @@ module _ {K : Kinds} (A : Making K) where
   variables_read no_names d r gs g y w q = refl
   variables_read (names ns n) d r gs g y w q = variables_read ns _ _ gs g y w q
 
-  -- the states behind an operand agree
+  -- the states after an operand agree
   module _ (e : ℕ) (r : List Placed) (gs : List (Frame K)) (g : Body K) (y : Name) (w : Option Flaw) where
-    compare_stops : (x : Stop) (l : K.Term) (k : Relation) (ss : K.Addends) (ps : K.Factors) (p : Product) (f : K.Factor) (q : Bool) → run A (here (stop_token x) e ∷ r) (st gs g y w (behind_factor (right_of l k) [] ss ps p f q)) ≡ run A (here (stop_token x) e ∷ r) (st gs g y w (behind_operand (A.compare y l k (A.term ss ps f))))
+    compare_stops : (x : Stop) (l : K.Term) (k : Relation) (ss : K.Addends) (ps : K.Factors) (p : Product) (f : K.Factor) (q : Bool) → run A (here (stop_token x) e ∷ r) (st gs g y w (after_factor (right_of l k) [] ss ps p f q)) ≡ run A (here (stop_token x) e ∷ r) (st gs g y w (after_operand (A.compare y l k (A.term ss ps f))))
     compare_stops (stop_connective k b) l k' ss ps p f q = refl
     compare_stops (stop_implies b) l k ss ps p f q = refl
     compare_stops stop_iff l k ss ps p f q = refl
     compare_stops stop_closing l k ss ps p f q = refl
     compare_stops stop_end l k ss ps p f q = refl
 
-    words_stops : (x : Stop) (z : K.Index) (k : Relation) (n : Name) (ts : K.Terms) (t : K.Term) → run A (here (stop_token x) e ∷ r) (st gs g y w (behind_index (second (after_index z k)) n ts t)) ≡ run A (here (stop_token x) e ∷ r) (st gs g y w (behind_operand (A.words y z k (A.index n ts t))))
+    words_stops : (x : Stop) (z : K.Index) (k : Relation) (n : Name) (ts : K.Terms) (t : K.Term) → run A (here (stop_token x) e ∷ r) (st gs g y w (after_index (second (left_index z k)) n ts t)) ≡ run A (here (stop_token x) e ∷ r) (st gs g y w (after_operand (A.words y z k (A.index n ts t))))
     words_stops (stop_connective k b) z k' n ts t = refl
     words_stops (stop_implies b) z k n ts t = refl
     words_stops stop_iff z k n ts t = refl
     words_stops stop_closing z k n ts t = refl
     words_stops stop_end z k n ts t = refl
 
-    letter_stops : (x : Stop) (l : K.Letter) (k : Relation) (n : Name) (ts : K.Terms) (t : K.Term) → run A (here (stop_token x) e ∷ r) (st gs g y w (behind_index (second (after_letter l k)) n ts t)) ≡ run A (here (stop_token x) e ∷ r) (st gs g y w (behind_operand (A.letter_word y l k (A.index n ts t))))
+    letter_stops : (x : Stop) (l : K.Letter) (k : Relation) (n : Name) (ts : K.Terms) (t : K.Term) → run A (here (stop_token x) e ∷ r) (st gs g y w (after_index (second (left_letter l k)) n ts t)) ≡ run A (here (stop_token x) e ∷ r) (st gs g y w (after_operand (A.letter_word y l k (A.index n ts t))))
     letter_stops (stop_connective k b) l k' n ts t = refl
     letter_stops (stop_implies b) l k n ts t = refl
     letter_stops stop_iff l k n ts t = refl
     letter_stops stop_closing l k n ts t = refl
     letter_stops stop_end l k n ts t = refl
 
-    tilde_stops : (x : Stop) (b : Bool) (ms : Names) (c : K.Core) → run A (here (stop_token x) e ∷ r) (st gs (group g.base g.front (g.marks ∷ g.tildes) ms b) y w (behind_operand c)) ≡ run A (here (stop_token x) e ∷ r) (st gs g y w (behind_operand (A.not_closed (A.marked ms c))))
+    tilde_stops : (x : Stop) (b : Bool) (ms : Names) (c : K.Core) → run A (here (stop_token x) e ∷ r) (st gs (group g.base g.front (g.marks ∷ g.tildes) ms b) y w (after_operand c)) ≡ run A (here (stop_token x) e ∷ r) (st gs g y w (after_operand (A.not_closed (A.marked ms c))))
     tilde_stops (stop_connective k c) b ms d = refl
     tilde_stops (stop_implies c) b ms d = refl
     tilde_stops stop_iff b ms d = refl
@@ -238,7 +238,7 @@ module _ {K : Kinds} (A : Making K) where
     tilde_stops stop_end b ms d = refl
 
   mutual
-    core_reads : (c : Core) (x : Stop) (d e : ℕ) (r : List Placed) (gs : List (Frame K)) (g : Body K) (y : Name) (w : Option Flaw) → run A (core_then c d (here (stop_token x) e ∷ r)) (st gs g y w at_operand) ≡ run A (here (stop_token x) e ∷ r) (st gs g (core_system y c) (core_flaw w c) (behind_operand (core_of A y c)))
+    core_reads : (c : Core) (x : Stop) (d e : ℕ) (r : List Placed) (gs : List (Frame K)) (g : Body K) (y : Name) (w : Option Flaw) → run A (core_then c d (here (stop_token x) e ∷ r)) (st gs g y w at_operand) ≡ run A (here (stop_token x) e ∷ r) (st gs g (core_system y c) (core_flaw w c) (after_operand (core_of A y c)))
     core_reads (compare (term ss ps f) k (term us qs v)) x d e r gs g y w =
         term_leads (term ss ps f) (next_relation k) _ _ _ gs g y w
         ∙ (addends_read us _ _ gs g y _ _ []

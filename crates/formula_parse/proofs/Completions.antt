@@ -1,11 +1,11 @@
 -- Every state can be completed: tokens can follow that end a text.
-use Rattle.std.proofs.Common.{◌≡◌, refl, sym, ◌∙◌, ap, ℕ, suc, true, false, List, [], ◌∷◌}
-use Rattle.formula_parse.specs.Tokens.{Name, Relation, equal, Quantifier, Letter, Placed, here, value_of, name, system, called, opening, closing, bracket, unbracket, letter_sign, number, relation, end}
-use Rattle.formula_parse.specs.Trees.{Names, no_names, names}
-use Rattle.formula_parse.specs.Derivations.{Factor, variable, in_parens, Factors, no_factors, Addends, no_addends, Term, term, Terms, no_terms, Index, index, Core, compare, words, word_letter, letter_word, call_none, call, grouped, marked, Formula, ends, quantified, within, formula_then, spelled, parts, derivations}
+use Rattle.std.proofs.Common.{◌≡◌, refl, ◌∙◌, ap, ℕ, suc, true, false, List, [], ◌∷◌}
+use Rattle.formula_parse.specs.Tokens.{Name, equal, Letter, Placed, here, value_of, name, system, called, opening, closing, bracket, unbracket, letter_sign, relation, end}
+use Rattle.formula_parse.specs.Trees.{names}
+use Rattle.formula_parse.specs.Derivations.{Factor, variable, in_parens, Factors, no_factors, Addends, no_addends, Term, term, Terms, no_terms, index, Core, compare, words, word_letter, letter_word, call_none, call, grouped, marked, Formula, ends, quantified, within, formula_then, spelled, parts, derivations}
 use Rattle.formula_parse.specs.Flaws.{Product, product_start}
-use Rattle.formula_parse.specs.Machine.{Body, Frame, Outer, Aim, Side, Where, Spelling, Position, State, after_index, after_letter, first, second, left_side, right_of, place_in, argument, on_left, on_right, at_operand, at_system, at_variable, behind_operand, behind_first, at_factor, behind_factor, behind_index, at_word, at_bracket, at_letter, at_value, behind_letter, at_called, at_call, at_argument, done, paren, scope, fresh, whole, closed, within_where, within_outer}
-use Rattle.formula_parse.proofs.Sound.{nesting, front_then, body_then, frames_then, where_then, outer_then, state_then, at, wrapped_then}
+use Rattle.formula_parse.specs.Machine.{Body, Frame, Outer, Aim, Side, Where, Spelling, Position, State, left_index, left_letter, first, second, left_side, right_of, place_in, argument, on_left, on_right, at_operand, at_system, at_variable, after_operand, after_first, at_factor, after_factor, after_index, at_word, at_bracket, at_letter, at_value, after_letter, at_called, at_call, at_argument, done, paren, scope, fresh, whole, closed, within_where, within_outer}
+use Rattle.formula_parse.proofs.Sound.{nesting, front_then, body_then, frames_then, state_then, at, wrapped_then}
 
 -- tokens that may follow, and the text that is then whole
 pub record Completed (s : State parts) : Type 0 where
@@ -33,7 +33,7 @@ closes (scope k ns n h ∷ hs) f =
     record { more = c.more; text = c.text; spells = c.spells }
 
 -- an operand ends the text
-operand : (s : State parts) (c : Core) → Completed (at s (behind_operand c))
+operand : (s : State parts) (c : Core) → Completed (at s (after_operand c))
 operand s c =
     let f = closes s.around (whole derivations s.body.front (ends (closed derivations s.body c))) in
     record {
@@ -72,7 +72,7 @@ operand_begins s =
       spells = c.spells;
     }
 
-letter_ends : (s : State parts) (c : Spelling parts) (l : Letter) → Completed (at s (behind_letter l))
+letter_ends : (s : State parts) (c : Spelling parts) (l : Letter) → Completed (at s (after_letter l))
 letter_ends s c l =
     let c = operand s (letter_word l equal (index x_name no_terms x_term)) in
     let d = level s in
@@ -93,7 +93,7 @@ value_begins : (s : State parts) (c : Spelling parts) (b : ℕ) → Completed (a
 value_begins s on_left b = then_token (value_of (minus_letter b) (level s)) (λ q. refl) (letter_ends s on_left (minus_letter b))
 value_begins s (on_right x k) b = then_token (value_of (minus_letter b) (level s)) (λ q. refl) (operand s (word_letter x k (minus_letter b)))
 
-index_ends : (s : State parts) (a : Side parts) (n : Name) (ts : Terms) (t : Term) → Completed (at s (behind_index a n ts t))
+index_ends : (s : State parts) (a : Side parts) (n : Name) (ts : Terms) (t : Term) → Completed (at s (after_index a n ts t))
 index_ends s first n ts t =
     let c = operand s (word_letter (index n ts t) equal (zero_letter 0)) in
     record {
@@ -101,15 +101,15 @@ index_ends s first n ts t =
       text = c.text;
       spells = c.spells;
     }
-index_ends s (second (after_index z k)) n ts t =
+index_ends s (second (left_index z k)) n ts t =
     let c = operand s (words z k (index n ts t)) in
     record { more = c.more; text = c.text; spells = c.spells }
-index_ends s (second (after_letter l k)) n ts t =
+index_ends s (second (left_letter l k)) n ts t =
     let c = operand s (letter_word l k (index n ts t)) in
     record { more = c.more; text = c.text; spells = c.spells }
 
 -- a whole term, by where it stands
-whole_ends : (s : State parts) (h : Where parts) (ss : Addends) (ps : Factors) (p : Product) (f : Factor) (q : _) → Completed (at s (behind_factor h [] ss ps p f q))
+whole_ends : (s : State parts) (h : Where parts) (ss : Addends) (ps : Factors) (p : Product) (f : Factor) (q : _) → Completed (at s (after_factor h [] ss ps p f q))
 whole_ends s left_side ss ps p f q =
     let c = operand s (compare (term ss ps f) equal x_term) in
     record { more = here (relation equal) (level s) ∷ here (name x_name) (level s) ∷ c.more; text = c.text; spells = c.spells }
@@ -119,7 +119,7 @@ whole_ends s (right_of l k) ss ps p f q =
 whole_ends s (place_in a n ts) ss ps p f q = then_token (here unbracket (level s)) (λ r. refl) (index_ends s a n ts (term ss ps f))
 whole_ends s (argument n ts) ss ps p f q = then_token (here closing (level s)) (λ r. refl) (operand s (call n ts (term ss ps f)))
 
-factor_ends : (s : State parts) (h : Where parts) (o : List (Outer parts)) (ss : Addends) (ps : Factors) (p : Product) (f : Factor) (q : _) → Completed (at s (behind_factor h o ss ps p f q))
+factor_ends : (s : State parts) (h : Where parts) (o : List (Outer parts)) (ss : Addends) (ps : Factors) (p : Product) (f : Factor) (q : _) → Completed (at s (after_factor h o ss ps p f q))
 factor_ends s h [] ss ps p f q = whole_ends s h ss ps p f q
 factor_ends s h (x ∷ o) ss ps p f q =
     then_token
@@ -160,18 +160,18 @@ position_completed s (at_variable q ns) =
     (here (name x_name) (suc (level s)))
     (λ q. refl)
     (operand_begins (record s { around = scope q ns x_name s.body ∷ s.around; body = fresh derivations 0 }))
-position_completed s (behind_operand c) = operand s c
-position_completed s (behind_first n) =
+position_completed s (after_operand c) = operand s c
+position_completed s (after_first n) =
     let c = operand s (compare (term no_addends no_factors (variable n)) equal x_term) in
     record { more = here (relation equal) (level s) ∷ here (name x_name) (level s) ∷ c.more; text = c.text; spells = c.spells }
 position_completed s (at_factor h o ss ps p) = factor_begins s h o ss ps p
-position_completed s (behind_factor h o ss ps p f q) = factor_ends s h o ss ps p f q
-position_completed s (behind_index a n ts t) = index_ends s a n ts t
+position_completed s (after_factor h o ss ps p f q) = factor_ends s h o ss ps p f q
+position_completed s (after_index a n ts t) = index_ends s a n ts t
 position_completed s (at_word a) = word_begins s a
 position_completed s (at_bracket a n) = bracket_begins s a n
 position_completed s (at_letter c b) = letter_begins s c b
 position_completed s (at_value c b) = value_begins s c b
-position_completed s (behind_letter l) = letter_ends s on_left l
+position_completed s (after_letter l) = letter_ends s on_left l
 position_completed s at_called = then_token (here (called x_name) (level s)) (λ q. refl) (call_begins s x_name)
 position_completed s (at_call n) = call_begins s n
 position_completed s (at_argument n) =

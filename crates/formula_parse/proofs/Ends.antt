@@ -1,11 +1,11 @@
--- Behind the end of the text a state is done.
-use Rattle.std.proofs.Common.{Bool, true, false, List, [], ◌∷◌, Option, None, Some}
+-- After the end of the text a state is done.
+use Rattle.std.proofs.Common.{Bool, List, [], ◌∷◌, Option, None, Some}
 use Rattle.std.specs.Prelude.{⊤}
-use Rattle.formula_parse.specs.Tokens.{Name, Token, end}
+use Rattle.formula_parse.specs.Tokens.{end}
 use Rattle.formula_parse.specs.Making.{Kinds, Making}
 use Rattle.formula_parse.specs.Advances.{IsDone}
-use Rattle.formula_parse.specs.Flaws.{Flaw, Product}
-use Rattle.formula_parse.specs.Machine.{Body, Frame, Outer, Aim, Side, Where, Position, State, after_index, after_letter, first, second, left_side, right_of, place_in, argument, at_operand, at_system, at_variable, behind_operand, behind_first, at_factor, behind_factor, behind_index, at_word, at_bracket, at_letter, at_value, behind_letter, at_called, at_call, at_argument, done, paren, scope, close, whole, closed, step_at, step, leave_product, leave_whole}
+use Rattle.formula_parse.specs.Flaws.{Flaw}
+use Rattle.formula_parse.specs.Machine.{Frame, Outer, Where, Position, State, left_index, left_letter, first, second, left_side, right_of, place_in, argument, at_operand, at_system, at_variable, after_operand, after_first, at_factor, after_factor, after_index, at_word, at_bracket, at_letter, at_value, after_letter, at_called, at_call, at_argument, done, paren, scope, close, step_at, step, leave_product, leave_whole}
 
 abbrev pub EndsDone : {K : Kinds} → Option (State K) → Type 0
 EndsDone None = ⊤
@@ -31,19 +31,19 @@ module _ {K : Kinds} (A : Making K) where
   position_done s at_operand = tt
   position_done s at_system = tt
   position_done s (at_variable q ns) = tt
-  position_done s (behind_operand c) = close_done s.flaw s.around _
-  position_done s (behind_first n) = tt
+  position_done s (after_operand c) = close_done s.flaw s.around _
+  position_done s (after_first n) = tt
   position_done s (at_factor h o ss ps p) = tt
-  position_done s (behind_factor h o ss ps p f q) = product_done s h o (A.term ss ps f) _
-  position_done s (behind_index first n ts t) = tt
-  position_done s (behind_index (second (after_index z k)) n ts t) = close_done s.flaw s.around _
-  position_done s (behind_index (second (after_letter l k)) n ts t) = close_done s.flaw s.around _
-  position_done s (at_word (after_index x k)) = tt
-  position_done s (at_word (after_letter l k)) = tt
+  position_done s (after_factor h o ss ps p f q) = product_done s h o (A.term ss ps f) _
+  position_done s (after_index first n ts t) = tt
+  position_done s (after_index (second (left_index z k)) n ts t) = close_done s.flaw s.around _
+  position_done s (after_index (second (left_letter l k)) n ts t) = close_done s.flaw s.around _
+  position_done s (at_word (left_index x k)) = tt
+  position_done s (at_word (left_letter l k)) = tt
   position_done s (at_bracket a n) = tt
   position_done s (at_letter c b) = tt
   position_done s (at_value c b) = tt
-  position_done s (behind_letter l) = tt
+  position_done s (after_letter l) = tt
   position_done s at_called = tt
   position_done s (at_call n) = tt
   position_done s (at_argument n) = tt

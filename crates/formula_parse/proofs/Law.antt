@@ -1,18 +1,17 @@
 -- What a run of the machine over trees says of the grammar.
-use Rattle.std.proofs.Common.{◌≡◌, refl, sym, ◌∙◌, ap, subst, ℕ, suc, ◌<◌, ◌≤◌, List, [], ◌∷◌, ◌++◌, append_assoc, map, Option, None, Some}
+use Rattle.std.proofs.Common.{◌≡◌, refl, sym, ◌∙◌, ap, subst, ℕ, List, [], ◌∷◌, ◌++◌, append_assoc, map, Option, None, Some}
 use Rattle.std.proofs.lemmas.List.{append-nil}
 use Rattle.std.specs.List.{AllByRecursion}
-use Rattle.formula_parse.specs.Tokens.{Name, Token, number, end, Placed, token_of, nesting_of}
+use Rattle.formula_parse.specs.Tokens.{Token, number, Placed, token_of}
 use Rattle.formula_parse.specs.Trees as trees
 use Rattle.formula_parse.specs.Making.{Kinds, Making}
 use Rattle.formula_parse.specs.Derivations.{Formula, spelled, parts, derivations, within}
-use Rattle.formula_parse.specs.Systems.{formula_of}
 use Rattle.formula_parse.specs.Flaws.{Flaw, formula_flaw}
-use Rattle.formula_parse.specs.Machine.{Position, at_letter, at_value, State, at_operand, at_system, at_variable, behind_operand, behind_first, at_factor, behind_factor, behind_index, at_word, at_bracket, behind_letter, at_called, at_call, at_argument, done, step, start, depth, place, within_position}
+use Rattle.formula_parse.specs.Machine.{Position, at_letter, at_value, State, at_operand, at_system, at_variable, after_operand, after_first, at_factor, after_factor, after_index, at_word, at_bracket, after_letter, at_called, at_call, at_argument, done, step, start, depth, within_position}
 use Rattle.formula_parse.specs.Runs.{after, run_tokens, run, placed}
-use Rattle.formula_parse.specs.Grammar.{made, trees, default_system, tree_of, IsInRange, IsAllowed, Derives, Reads, IsFlawed, GoesOn, Begins, Breaks, Reaches, IsNumber, told_at, IsDepth}
+use Rattle.formula_parse.specs.Grammar.{made, trees, default_system, tree_of, IsAllowed, Derives, Reads, Begins, Breaks, Reaches}
 use Rattle.formula_parse.proofs.Complete.{complete, final}
-use Rattle.formula_parse.proofs.Sound.{Sane, ReadsOn, GoesOn as ReadsFrom, at_then, state_then, deep, step_goes}
+use Rattle.formula_parse.proofs.Sound.{Sane, GoesOn as ReadsFrom, at_then, state_then, deep, step_goes}
 use Rattle.formula_parse.proofs.Completions.{completed}
 use Rattle.formula_parse.proofs.Same.{nothing, none, bare, bare_position, bared, step_same, depth_same, placed_same}
 
@@ -195,16 +194,16 @@ done_of (done g) e = (g, refl)
 done_of at_operand e = absurd cc
 done_of at_system e = absurd cc
 done_of (at_variable q ns) e = absurd cc
-done_of (behind_operand c) e = absurd cc
-done_of (behind_first n) e = absurd cc
+done_of (after_operand c) e = absurd cc
+done_of (after_first n) e = absurd cc
 done_of (at_factor h o ss ps p) e = absurd cc
-done_of (behind_factor h o ss ps p f q) e = absurd cc
-done_of (behind_index a n ts t) e = absurd cc
+done_of (after_factor h o ss ps p f q) e = absurd cc
+done_of (after_index a n ts t) e = absurd cc
 done_of (at_word a) e = absurd cc
 done_of (at_bracket a n) e = absurd cc
 done_of (at_letter c b) e = absurd cc
 done_of (at_value c b) e = absurd cc
-done_of (behind_letter l) e = absurd cc
+done_of (after_letter l) e = absurd cc
 done_of at_called e = absurd cc
 done_of (at_call n) e = absurd cc
 done_of (at_argument n) e = absurd cc

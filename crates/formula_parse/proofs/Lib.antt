@@ -8,6 +8,7 @@ pub mod ViewSteps
 pub mod MakingSteps
 pub mod Words
 pub mod SpotSteps
+pub mod Ascii
 pub mod NextSteps
 pub mod Numbers
 pub mod Depths

@@ -1,19 +1,22 @@
 -- A list of one is its item, and a longer one is kept.
-use Rattle.std.proofs.Common.{◌≡◌, refl, sym, ◌∙◌, ap, ℕ, List, [], ◌∷◌, ◌++◌, length, map}
+use Rattle.std.proofs.Common.{◌≡◌, refl, sym, ◌∙◌, ap, List, [], ◌∷◌, ◌++◌, length, map}
 use Rattle.std.specs.Prelude.{Vec, Box}
 use Rattle.std.specs.List.{fold}
 use Rattle.std.specs.declared.alloc.Global.{Global}
+use Rattle.formula_parse.specs.Tokens.{Name}
 use Rattle.formula_parse.specs.Trees as trees
 use Rattle.formula_parse.specs.Grammar.{multiplied, summed, chained, under_marks}
-use Rattle.formula_parse.specs.Views.{term_view, terms_view, addend_view, addends_view, with_addend, formula_view, operand_view, operands_view, with_operand, names_view, quantifier_view}
+use Rattle.formula_parse.specs.Views.{term_view, factor_view, factors_view, addend_view, addends_view, with_addend, formula_view, operand_view, operands_view, with_operand, names_view, quantifier_view}
 use Rattle.formula_parse.specs.declared.tree.Term.{Term}
 use Rattle.formula_parse.specs.declared.tree.Term.TheVariants as term
+use Rattle.formula_parse.specs.declared.tree.Factor.{Factor}
+use Rattle.formula_parse.specs.declared.tree.Factor.TheVariants as factor
 use Rattle.formula_parse.specs.declared.tree.Addend.{Addend}
 use Rattle.formula_parse.specs.declared.tree.Formula.{Formula}
 use Rattle.formula_parse.specs.declared.tree.Formula.TheVariants as formula
 use Rattle.formula_parse.specs.declared.tree.Operand.{Operand}
 use Rattle.formula_parse.specs.declared.tree.Quantifier.{Quantifier}
-use Rattle.formula_parse.proofs.ViewSteps.{view_product, view_sum, view_chain, view_marked, view_quantified}
+use Rattle.formula_parse.proofs.ViewSteps.{view_product, view_times, view_sum, view_chain, view_marked, view_quantified}
 
 -- the front of a list with an item more at its end, and that item
 record Snoc {X : Type 0} (xs : List X) : Type 0 where
@@ -35,8 +38,14 @@ map_snoc : {X Y : Type 0} (f : X → Y) (xs : List X) (x : X) → map f (xs ++ x
 map_snoc f [] x = refl
 map_snoc f (y ∷ ys) x = ap (λ zs. f y ∷ zs) (map_snoc f ys x)
 
-terms_snoc : (ts : List Term) (t : Term) → terms_view (ts ++ t ∷ []) ≡ trees.terms (terms_view ts) (term_view t)
-terms_snoc ts t = ap (fold trees.terms trees.no_terms) (map_snoc term_view ts t) ∙ fold_snoc trees.terms trees.no_terms (map term_view ts) (term_view t)
+factors_snoc : (ps : List Factor) (p : Factor) → factors_view (ps ++ p ∷ []) ≡ trees.factors (factors_view ps) (factor_view p)
+factors_snoc ps p = ap (fold trees.factors trees.no_factors) (map_snoc factor_view ps p) ∙ fold_snoc trees.factors trees.no_factors (map factor_view ps) (factor_view p)
+
+pub times_snoc : (ps : List Factor) (t : Term) → factors_view (ps ++ factor.Times t ∷ []) ≡ trees.factors (factors_view ps) (trees.times (term_view t))
+times_snoc ps t = factors_snoc ps (factor.Times t) ∙ ap (trees.factors (factors_view ps)) (view_times t)
+
+pub times_more : (all : List Factor) (ps : List Factor) (t : Term) → all ≡ ps ++ factor.Times t ∷ [] → factors_view all ≡ trees.factors (factors_view ps) (trees.times (term_view t))
+times_more all ps t e = ap factors_view e ∙ times_snoc ps t
 
 addends_snoc : (ss : List Addend) (a : Addend) → addends_view (ss ++ a ∷ []) ≡ with_addend (addends_view ss) (addend_view a)
 addends_snoc ss a = ap (fold with_addend trees.no_addends) (map_snoc addend_view ss a) ∙ fold_snoc with_addend trees.no_addends (map addend_view ss) (addend_view a)
@@ -44,22 +53,22 @@ addends_snoc ss a = ap (fold with_addend trees.no_addends) (map_snoc addend_view
 operands_snoc : (os : List Operand) (o : Operand) → operands_view (os ++ o ∷ []) ≡ with_operand (operands_view os) (operand_view o)
 operands_snoc os o = ap (fold with_operand trees.no_operands) (map_snoc operand_view os o) ∙ fold_snoc with_operand trees.no_operands (map operand_view os) (operand_view o)
 
-names_snoc : (ns : List (Vec ℕ Global)) (n : Vec ℕ Global) → names_view (ns ++ n ∷ []) ≡ trees.names (names_view ns) n.items
-names_snoc ns n = fold_snoc (λ (ms : trees.Names) (m : Vec ℕ Global). trees.names ms m.items) trees.no_names ns n
+names_snoc : (ns : List Name) (n : Name) → names_view (ns ++ n ∷ []) ≡ trees.names (names_view ns) n
+names_snoc ns n = fold_snoc trees.names trees.no_names ns n
 
-pub multiplied_none : (ts : List Term) (t : trees.Term) → length ts ≡ 0 → t ≡ multiplied (terms_view ts) t
+pub multiplied_none : (ps : List Factor) (t : trees.Term) → length ps ≡ 0 → t ≡ multiplied (factors_view ps) t
 multiplied_none [] t e = refl
 multiplied_none (x ∷ xs) t e = absurd cc
 
-pub multiplied_more : (all : Vec Term Global) (ts : List Term) (t : Term) → (length ts ≡ 0 → ⊥) → all.items ≡ ts ++ t ∷ [] → term_view (term.Product all) ≡ multiplied (terms_view ts) (term_view t)
+pub multiplied_more : (all : Vec Factor Global) (ps : List Factor) (t : Term) → (length ps ≡ 0 → ⊥) → all.items ≡ ps ++ factor.Times t ∷ [] → term_view (term.Product all) ≡ multiplied (factors_view ps) (term_view t)
 multiplied_more all [] t h e = absurd (h refl)
 multiplied_more all (x ∷ xs) t h e =
     let s = snoc x xs in
-    let front = ap terms_view s.is ∙ terms_snoc s.front s.last in
+    let front = ap factors_view s.is ∙ factors_snoc s.front s.last in
     view_product all
-    ∙ (ap (λ z. trees.product (terms_view z)) e
-    ∙ (ap trees.product (terms_snoc (x ∷ xs) t)
-    ∙ (ap (λ z. trees.product (trees.terms z (term_view t))) front ∙ ap (λ z. multiplied z (term_view t)) (sym front))))
+    ∙ (ap (λ z. trees.product (factors_view z)) e
+    ∙ (ap trees.product (times_snoc (x ∷ xs) t)
+    ∙ (ap (λ z. trees.product (trees.factors z (trees.times (term_view t)))) front ∙ ap (λ z. multiplied z (term_view t)) (sym front))))
 
 pub summed_none : (ss : List Addend) (t : trees.Term) → length ss ≡ 0 → t ≡ summed (addends_view ss) t
 summed_none [] t e = refl
@@ -89,20 +98,20 @@ chained_more all b h = view_chain all b ∙ chained_list all.items (formula_view
         let front = ap operands_view s.is ∙ operands_snoc s.front s.last in
         ap (λ z. trees.chain z f) front ∙ ap (λ z. chained z f) (sym front)
 
-pub marks_none : (ms : List (Vec ℕ Global)) (f : trees.Formula) → length ms ≡ 0 → f ≡ under_marks (names_view ms) f
+pub marks_none : (ms : List Name) (f : trees.Formula) → length ms ≡ 0 → f ≡ under_marks (names_view ms) f
 marks_none [] f e = refl
 marks_none (x ∷ xs) f e = absurd cc
 
-pub marks_more : (all : Vec (Vec ℕ Global) Global) (b : Box Formula Global) → (length all.items ≡ 0 → ⊥) → formula_view (formula.Marked all b) ≡ under_marks (names_view all.items) (formula_view b.value)
+pub marks_more : (all : Vec Name Global) (b : Box Formula Global) → (length all.items ≡ 0 → ⊥) → formula_view (formula.Marked all b) ≡ under_marks (names_view all.items) (formula_view b.value)
 marks_more all b h = view_marked all b ∙ marks_list all.items (formula_view b.value) h
   where
-    marks_list : (ms : List (Vec ℕ Global)) (f : trees.Formula) → (length ms ≡ 0 → ⊥) → trees.marked (names_view ms) f ≡ under_marks (names_view ms) f
+    marks_list : (ms : List Name) (f : trees.Formula) → (length ms ≡ 0 → ⊥) → trees.marked (names_view ms) f ≡ under_marks (names_view ms) f
     marks_list [] f h = absurd (h refl)
     marks_list (x ∷ xs) f h =
         let s = snoc x xs in
         let front = ap names_view s.is ∙ names_snoc s.front s.last in
         ap (λ z. trees.marked z f) front ∙ ap (λ z. under_marks z f) (sym front)
 
-pub scope_made : (q : Quantifier) (all : Vec (Vec ℕ Global) Global) (b : Box Formula Global) (ns : List (Vec ℕ Global)) (n : Vec ℕ Global) → all.items ≡ ns ++ n ∷ [] → formula_view (formula.Quantified q all b) ≡ trees.quantified (quantifier_view q) (trees.names (names_view ns) n.items) (formula_view b.value)
+pub scope_made : (q : Quantifier) (all : Vec Name Global) (b : Box Formula Global) (ns : List Name) (n : Name) → all.items ≡ ns ++ n ∷ [] → formula_view (formula.Quantified q all b) ≡ trees.quantified (quantifier_view q) (trees.names (names_view ns) n) (formula_view b.value)
 scope_made q all b ns n e =
     view_quantified q all b ∙ ap (λ z. trees.quantified (quantifier_view q) z (formula_view b.value)) (ap names_view e ∙ names_snoc ns n)

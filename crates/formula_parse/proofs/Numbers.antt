@@ -1,9 +1,9 @@
 -- Where a numeral may stand, and where not.
-use Rattle.std.proofs.Common.{◌≡◌, refl, ℕ, Bool, true, false, List, [], ◌∷◌, Option, None, Some, ◌^◌}
-use Rattle.formula_parse.specs.Tokens.{Name, Token, number}
+use Rattle.std.proofs.Common.{◌≡◌, refl, ℕ, Bool, true, false, List, [], ◌∷◌, Option, None}
+use Rattle.formula_parse.specs.Tokens.{number}
 use Rattle.formula_parse.specs.Making.{Kinds, Making}
-use Rattle.formula_parse.specs.Flaws.{Flaw, Product}
-use Rattle.formula_parse.specs.Machine.{Body, Frame, Outer, Aim, Side, Where, Position, State, after_index, after_letter, first, second, left_side, right_of, place_in, argument, at_operand, at_system, at_variable, behind_operand, behind_first, at_factor, behind_factor, behind_index, at_word, at_bracket, at_letter, at_value, behind_letter, at_called, at_call, at_argument, done, paren, scope, close, step_at, step, leave_product, leave_whole}
+use Rattle.formula_parse.specs.Flaws.{Flaw}
+use Rattle.formula_parse.specs.Machine.{Frame, Outer, Where, Position, State, left_index, left_letter, first, second, left_side, right_of, place_in, argument, at_operand, at_system, at_variable, after_operand, after_first, at_factor, after_factor, after_index, at_word, at_bracket, at_letter, at_value, after_letter, at_called, at_call, at_argument, done, paren, scope, close, step_at, leave_product, leave_whole}
 
 -- positions at which no numeral goes on
 abbrev pub refuses : {K : Kinds} → Position K → Bool
@@ -34,19 +34,19 @@ module _ {K : Kinds} (A : Making K) (v : ℕ) where
   position_number s at_operand e = absurd cc
   position_number s at_system e = refl
   position_number s (at_variable q ns) e = refl
-  position_number s (behind_operand c) e = close_number s.flaw s.around _
-  position_number s (behind_first n) e = refl
+  position_number s (after_operand c) e = close_number s.flaw s.around _
+  position_number s (after_first n) e = refl
   position_number s (at_factor h o ss ps p) e = absurd cc
-  position_number s (behind_factor h o ss ps p f q) e = product_number s h o (A.term ss ps f) _
-  position_number s (behind_index first n ts t) e = refl
-  position_number s (behind_index (second (after_index z k)) n ts t) e = close_number s.flaw s.around _
-  position_number s (behind_index (second (after_letter l k)) n ts t) e = close_number s.flaw s.around _
-  position_number s (at_word (after_index x k)) e = refl
-  position_number s (at_word (after_letter l k)) e = refl
+  position_number s (after_factor h o ss ps p f q) e = product_number s h o (A.term ss ps f) _
+  position_number s (after_index first n ts t) e = refl
+  position_number s (after_index (second (left_index z k)) n ts t) e = close_number s.flaw s.around _
+  position_number s (after_index (second (left_letter l k)) n ts t) e = close_number s.flaw s.around _
+  position_number s (at_word (left_index x k)) e = refl
+  position_number s (at_word (left_letter l k)) e = refl
   position_number s (at_bracket a n) e = refl
   position_number s (at_letter c b) e = absurd cc
   position_number s (at_value c b) e = absurd cc
-  position_number s (behind_letter l) e = refl
+  position_number s (after_letter l) e = refl
   position_number s at_called e = refl
   position_number s (at_call n) e = refl
   position_number s (at_argument n) e = absurd cc

@@ -1,20 +1,18 @@
 -- The parser at a byte of the text.
-use Rattle.std.proofs.Common.{◌≡◌, refl, sym, ◌∙◌, ap, subst, ℕ, ◌+◌, ◌<◌, ◌≤◌, List, [], ◌∷◌, ◌++◌, append_assoc, drop, length, map, Option, None, Some, Result, Ok, Err, arith}
+use Rattle.std.proofs.Common.{◌≡◌, refl, sym, ◌∙◌, ap, subst, ℕ, ◌<◌, ◌≤◌, List, [], ◌∷◌, ◌++◌, append_assoc, drop, length, Option, None, Some, Result, Ok, Err, arith}
 use Rattle.std.specs.Prelude.{IsSomeAnd}
 use Rattle.std.proofs.lemmas.List.{map-append}
 use Rattle.formula_parse.specs.Tokens as tokens
-use Rattle.formula_parse.specs.Trees as trees
-use Rattle.formula_parse.specs.Flaws as flaws
 use Rattle.formula_parse.specs.Machine as machine
 use Rattle.formula_parse.specs.Machine.{done, step, start, depth}
 use Rattle.formula_parse.specs.Runs.{placed}
-use Rattle.formula_parse.specs.Grammar.{made, trees as making, default_system, IsInRange, IsAllowed, Reads, IsFlawed, IsNumber, IsDepth, told_at}
-use Rattle.formula_parse.specs.Spots.{Mode, plain, mode_behind, Spot, spots_from, spots, tokens as tokens_of}
+use Rattle.formula_parse.specs.Grammar.{trees as making, default_system, IsInRange, IsAllowed, told_at}
+use Rattle.formula_parse.specs.Spots.{Mode, plain, mode_after, Spot, spots_from, spots, tokens as tokens_of}
 use Rattle.formula_parse.specs.Views.{formula_view}
 use Rattle.formula_parse.specs.StateViews.{Machine, position_view, state_view, noted_view}
 use Rattle.formula_parse.specs.LexemeViews.{lexed_view, unless_end, IsNext}
 use Rattle.formula_parse.specs.Advances.{Advances, IsDone, Flawed, FinishesAt, Finishes}
-use Rattle.formula_parse.specs.Parsing.{Cut, IsSyntaxAt, IsNumberAt, IsDepthAt, Parses}
+use Rattle.formula_parse.specs.Parsing.{Cut, IsNumberAt, IsDepthAt, Parses}
 use Rattle.formula_parse.specs.declared.flaw.Flaw.{Flaw}
 use Rattle.formula_parse.specs.declared.flaw.Flaw.TheVariants as flaw
 use Rattle.formula_parse.specs.declared.lexing.Spot.{Spot as Read}
@@ -51,9 +49,9 @@ walks_more front r s n w e a =
     (sym (map-append (λ (x : Spot). x.token) front (spot_of r ∷ [])))
     (walks_step (tokens_of front) s (lexed_view r.lexed) n w e a)
 
-pub place_next : (text : List ℕ) (m k : Mode) (at : ℕ) (s : Machine) (r : Read) (n : State) → AtPlace text m at s → IsNext m text at r → Advances s (lexed_view r.lexed) r.at (Ok n) → k ≡ mode_behind (lexed_view r.lexed) → (lexed_view r.lexed ≡ tokens.end → ⊥) → AtPlace text k r.end (state_view n)
+pub place_next : (text : List ℕ) (m k : Mode) (at : ℕ) (s : Machine) (r : Read) (n : State) → AtPlace text m at s → IsNext m text at r → Advances s (lexed_view r.lexed) r.at (Ok n) → k ≡ mode_after (lexed_view r.lexed) → (lexed_view r.lexed ≡ tokens.end → ⊥) → AtPlace text k r.end (state_view n)
 place_next text m k at s r n p x a e not_end =
-    let rest = spots_from (mode_behind (lexed_view r.lexed)) r.end 0 (drop r.end text) in
+    let rest = spots_from (mode_after (lexed_view r.lexed)) r.end 0 (drop r.end text) in
     subst
     (λ j. AtPlace text j r.end (state_view n))
     (sym e)
@@ -112,7 +110,7 @@ place_fault text m at s r (faults.MixedChain b) p x a = absurd a
 place_fault text m at s r (faults.NotLinear b) p x a = absurd a
 place_fault text m at s r faults.Memory p x a = tt
 
--- behind the end the machine is done
+-- after the end the machine is done
 pub place_done : (s : Machine) (t : tokens.Token) (b : ℕ) (n : State) → t ≡ tokens.end → Advances s t b (Ok n) → IsDone (position_view n.position)
 place_done s t b n e a =
     subst (λ (o : Option Machine). EndsDone o) a.0 (subst (λ (u : tokens.Token). EndsDone (step making s u)) (sym e) (step_done making s))
@@ -125,22 +123,22 @@ flawed_parses text f (Some (flaw.MixedChain b)) result e h =
 flawed_parses text f (Some (flaw.NotLinear b)) result e h =
     subst (λ (x : Result Formula ParseFault). Parses text x) (sym h) (record { text = e.text; derives = e.derives; flaw_is = e.flaw_is })
 
-finished : (text : List ℕ) (n : State) (p : Position) (result : Result Formula ParseFault) → n.position ≡ p → Walks (tokens_of (spots text)) (state_view n) → IsDone (position_view p) → FinishesAt p n.context.flaw result → Parses text result
+finished : (text : List ℕ) (n : State) (p : Position) (result : Result Formula ParseFault) → n.position ≡ p → Walks (tokens_of (spots text)) (state_view n) → IsDone (position_view p) → FinishesAt p n.context.around.flaw result → Parses text result
 finished text n (positions.Done f) result e w d h =
-    flawed_parses text f n.context.flaw result (walks_end (tokens_of (spots text)) (state_view n) (formula_view f) w (ap position_view e)) h
+    flawed_parses text f n.context.around.flaw result (walks_end (tokens_of (spots text)) (state_view n) (formula_view f) w (ap position_view e)) h
 finished text n positions.AtOperand result e w d h = absurd d
 finished text n positions.AtSystem result e w d h = absurd d
 finished text n (positions.AtVariable q ns) result e w d h = absurd d
-finished text n (positions.BehindOperand f) result e w d h = absurd d
-finished text n (positions.BehindFirst m) result e w d h = absurd d
+finished text n (positions.AfterOperand f) result e w d h = absurd d
+finished text n (positions.AfterFirst m) result e w d h = absurd d
 finished text n (positions.AtFactor r) result e w d h = absurd d
-finished text n (positions.BehindFactor r t q) result e w d h = absurd d
-finished text n (positions.BehindIndex s m ts t) result e w d h = absurd d
+finished text n (positions.AfterFactor r p') result e w d h = absurd d
+finished text n (positions.AfterIndex p' t) result e w d h = absurd d
 finished text n (positions.AtWord a) result e w d h = absurd d
 finished text n (positions.AtBracket a m) result e w d h = absurd d
 finished text n (positions.AtLetter c b) result e w d h = absurd d
 finished text n (positions.AtValue c b) result e w d h = absurd d
-finished text n (positions.BehindLetter l) result e w d h = absurd d
+finished text n (positions.AfterLetter l) result e w d h = absurd d
 finished text n positions.AtCalled result e w d h = absurd d
 finished text n (positions.AtCall m) result e w d h = absurd d
 finished text n (positions.AtArgument m) result e w d h = absurd d
@@ -148,7 +146,7 @@ finished text n (positions.AtArgument m) result e w d h = absurd d
 -- a text that was read to its end
 pub place_finish : (text : List ℕ) (m : Mode) (at : ℕ) (s : Machine) (r : Read) (n : State) (result : Result Formula ParseFault) → AtPlace text m at s → IsNext m text at r → lexed_view r.lexed ≡ tokens.end → Advances s (lexed_view r.lexed) r.at (Ok n) → Finishes n result → Parses text result
 place_finish text m at s r n result p x e a h =
-    let rest = spots_from (mode_behind (lexed_view r.lexed)) r.end 0 (drop r.end text) in
+    let rest = spots_from (mode_after (lexed_view r.lexed)) r.end 0 (drop r.end text) in
     let last : unless_end (lexed_view r.lexed) rest ≡ [] = ap (λ t. unless_end t rest) e in
     let all : spots text ≡ p.front ++ spot_of r ∷ [] = p.split ∙ ap (λ ss. p.front ++ ss) (x.spots_are ∙ ap (λ ss. spot_of r ∷ ss) last) in
     finished

@@ -1,12 +1,11 @@
 -- The machine goes on at the same tokens, whatever trees it makes: seen without its trees, it is one machine.
-use Rattle.std.proofs.Common.{◌≡◌, refl, sym, ◌∙◌, ap, ℕ, suc, Bool, true, false, List, [], ◌∷◌, Option, None, Some}
-use Rattle.formula_parse.specs.Tokens.{Name, Relation, Quantifier, Connective, Sign, Letter, Token, Placed, name, number, system, called, mark, call_sign, negation, quantifier, comma, opening, closing, bracket, unbracket, letter_sign, sign, minus, times, relation, connective, implies, iff, other, end}
+use Rattle.std.proofs.Common.{◌≡◌, refl, ◌∙◌, ap, ℕ, suc, Bool, true, false, List, [], ◌∷◌, Option, None, Some}
+use Rattle.formula_parse.specs.Tokens.{Name, Quantifier, Token, name, number, system, called, mark, call_sign, negation, quantifier, comma, opening, closing, bracket, unbracket, letter_sign, sign, minus, times, relation, connective, implies, iff, end}
 use Rattle.formula_parse.specs.Trees.{Names}
 use Rattle.formula_parse.specs.Making.{Kinds, Making}
-use Rattle.formula_parse.specs.Derivations.{within}
 use Rattle.formula_parse.specs.Flaws.{Flaw, Product, product_start}
-use Rattle.formula_parse.specs.Machine.{Front, Body, Frame, Outer, Aim, Side, Where, Spelling, Position, State, after_index, after_letter, first, second, left_side, right_of, place_in, argument, on_left, on_right, at_operand, at_system, at_variable, behind_operand, behind_first, at_factor, behind_factor, behind_index, at_word, at_bracket, at_letter, at_value, behind_letter, at_called, at_call, at_argument, done, paren, scope, close, whole, closed, leave_closed, leave, close_term, leave_whole, leave_product, leave_factor, leave_first, leave_side, leave_index, enter_word, enter_bracket, with_letter, enter_letter, enter_value, leave_letter, enter_called, enter_call, enter_factor, enter_argument, next_variable, enter, enter_system, enter_variable, step, step_at, start, place, within_where, within_outer, within_position, depth}
-use Rattle.formula_parse.specs.Runs.{after, run_tokens, placed}
+use Rattle.formula_parse.specs.Machine.{Front, Body, Frame, Outer, Aim, Side, Where, Spelling, Position, State, left_index, left_letter, first, second, left_side, right_of, place_in, argument, on_left, on_right, at_operand, at_system, at_variable, after_operand, after_first, at_factor, after_factor, after_index, at_word, at_bracket, at_letter, at_value, after_letter, at_called, at_call, at_argument, done, paren, scope, close, whole, closed, leave_closed, leave, close_term, leave_whole, leave_product, leave_factor, leave_first, leave_side, leave_index, enter_word, enter_bracket, enter_letter, enter_value, leave_letter, enter_called, enter_call, enter_factor, enter_argument, next_variable, enter, enter_system, enter_variable, step, step_at, place, within_where, within_outer, within_position, depth}
+use Rattle.formula_parse.specs.Runs.{placed}
 
 -- nothing is made
 abbrev pub nothing : Kinds
@@ -78,8 +77,8 @@ module _ {K : Kinds} where
   bare_outer (x ∷ o) = record { addends = tt; factors = tt; product = x.product } ∷ bare_outer o
 
   abbrev pub bare_aim : Aim K → Aim nothing
-  bare_aim (after_index x e) = after_index tt e
-  bare_aim (after_letter l e) = after_letter tt e
+  bare_aim (left_index x e) = left_index tt e
+  bare_aim (left_letter l e) = left_letter tt e
 
   abbrev pub bare_side : Side K → Side nothing
   bare_side first = first
@@ -99,16 +98,16 @@ module _ {K : Kinds} where
   bare_position at_operand = at_operand
   bare_position at_system = at_system
   bare_position (at_variable q ns) = at_variable q ns
-  bare_position (behind_operand c) = behind_operand tt
-  bare_position (behind_first n) = behind_first n
+  bare_position (after_operand c) = after_operand tt
+  bare_position (after_first n) = after_first n
   bare_position (at_factor h o ss ps p) = at_factor (bare_where h) (bare_outer o) tt tt p
-  bare_position (behind_factor h o ss ps p f q) = behind_factor (bare_where h) (bare_outer o) tt tt p tt q
-  bare_position (behind_index a n ts t) = behind_index (bare_side a) n tt tt
+  bare_position (after_factor h o ss ps p f q) = after_factor (bare_where h) (bare_outer o) tt tt p tt q
+  bare_position (after_index a n ts t) = after_index (bare_side a) n tt tt
   bare_position (at_word a) = at_word (bare_aim a)
   bare_position (at_bracket a n) = at_bracket (bare_aim a) n
   bare_position (at_letter c b) = at_letter (bare_spelling c) b
   bare_position (at_value c b) = at_value (bare_spelling c) b
-  bare_position (behind_letter l) = behind_letter tt
+  bare_position (after_letter l) = after_letter tt
   bare_position at_called = at_called
   bare_position (at_call n) = at_call n
   bare_position (at_argument n) = at_argument n
@@ -172,8 +171,8 @@ module _ {K : Kinds} (A : Making K) where
   side_same : (s : State K) (a : Side K) (x : K.Index) (u : Token) → leave_side none (bare s) (bare_side a) tt u ≡ bared (leave_side A s a x u)
   side_same s first x (relation k) = refl
   side_same s first x _ = refl
-  side_same s (second (after_index z k)) x u = leave_same s (A.words s.system z k x) u
-  side_same s (second (after_letter l k)) x u = leave_same s (A.letter_word s.system l k x) u
+  side_same s (second (left_index z k)) x u = leave_same s (A.words s.system z k x) u
+  side_same s (second (left_letter l k)) x u = leave_same s (A.letter_word s.system l k x) u
 
   index_same : (s : State K) (a : Side K) (n : Name) (ts : K.Terms) (t : K.Term) (u : Token) → leave_index none (bare s) (bare_side a) n tt tt u ≡ bared (leave_index A s a n ts t u)
   index_same s a n ts t bracket = refl
@@ -181,8 +180,8 @@ module _ {K : Kinds} (A : Making K) where
 
   word_same : (s : State K) (a : Aim K) (u : Token) → enter_word none (bare s) (bare_aim a) u ≡ bared (enter_word A s a u)
   word_same s a (name n) = refl
-  word_same s (after_index x k) (letter_sign b) = refl
-  word_same s (after_letter l k) (letter_sign b) = refl
+  word_same s (left_index x k) (letter_sign b) = refl
+  word_same s (left_letter l k) (letter_sign b) = refl
   word_same s a _ = refl
 
   bracket_same : (s : State K) (a : Aim K) (n : Name) (u : Token) → enter_bracket none (bare s) (bare_aim a) n u ≡ bared (enter_bracket A s a n u)
@@ -252,16 +251,16 @@ module _ {K : Kinds} (A : Making K) where
   position_same s at_operand u = enter_same s u
   position_same s at_system u = system_same s u
   position_same s (at_variable q ns) u = variable_same s q ns u
-  position_same s (behind_operand c) u = leave_same s c u
-  position_same s (behind_first n) u = first_same s n u
+  position_same s (after_operand c) u = leave_same s c u
+  position_same s (after_first n) u = first_same s n u
   position_same s (at_factor h o ss ps p) u = factor_same s h o ss ps p u
-  position_same s (behind_factor h o ss ps p f q) u = leave_factor_same s h o ss ps p f q u
-  position_same s (behind_index a n ts t) u = index_same s a n ts t u
+  position_same s (after_factor h o ss ps p f q) u = leave_factor_same s h o ss ps p f q u
+  position_same s (after_index a n ts t) u = index_same s a n ts t u
   position_same s (at_word a) u = word_same s a u
   position_same s (at_bracket a n) u = bracket_same s a n u
   position_same s (at_letter c b) u = letter_same s c b u
   position_same s (at_value c b) u = value_same s c b u
-  position_same s (behind_letter l) u = leave_letter_same s l u
+  position_same s (after_letter l) u = leave_letter_same s l u
   position_same s at_called u = called_same s u
   position_same s (at_call n) u = call_same s n u
   position_same s (at_argument n) u = argument_same s n u
@@ -283,18 +282,18 @@ module _ {K : Kinds} (A : Making K) where
 
   within_same : (p : Position K) (d : ℕ) → within_position (bare_position p) d ≡ within_position p d
   within_same (at_factor h o ss ps p) d = ap (within_outer (bare_outer o)) (where_same h d) ∙ outer_same o _
-  within_same (behind_factor h o ss ps p f q) d = ap (within_outer (bare_outer o)) (where_same h d) ∙ outer_same o _
+  within_same (after_factor h o ss ps p f q) d = ap (within_outer (bare_outer o)) (where_same h d) ∙ outer_same o _
   within_same at_operand d = refl
   within_same at_system d = refl
   within_same (at_variable q ns) d = refl
-  within_same (behind_operand c) d = refl
-  within_same (behind_first n) d = refl
-  within_same (behind_index a n ts t) d = refl
+  within_same (after_operand c) d = refl
+  within_same (after_first n) d = refl
+  within_same (after_index a n ts t) d = refl
   within_same (at_word a) d = refl
   within_same (at_bracket a n) d = refl
   within_same (at_letter c b) d = refl
   within_same (at_value c b) d = refl
-  within_same (behind_letter l) d = refl
+  within_same (after_letter l) d = refl
   within_same at_called d = refl
   within_same (at_call n) d = refl
   within_same (at_argument n) d = refl
@@ -311,14 +310,14 @@ module _ {K : Kinds} (A : Making K) where
   placed_same at_operand t d = refl
   placed_same at_system t d = refl
   placed_same (at_variable q ns) t d = refl
-  placed_same (behind_operand c) t d = refl
-  placed_same (behind_first n) t d = refl
+  placed_same (after_operand c) t d = refl
+  placed_same (after_first n) t d = refl
   placed_same (at_factor h o ss ps p) t d = refl
-  placed_same (behind_factor h o ss ps p f q) t d = refl
-  placed_same (behind_index a n ts u) t d = refl
+  placed_same (after_factor h o ss ps p f q) t d = refl
+  placed_same (after_index a n ts u) t d = refl
   placed_same (at_word a) t d = refl
   placed_same (at_bracket a n) t d = refl
-  placed_same (behind_letter l) t d = refl
+  placed_same (after_letter l) t d = refl
   placed_same at_called t d = refl
   placed_same (at_call n) t d = refl
   placed_same (at_argument n) t d = refl

@@ -1,10 +1,10 @@
 -- A state of derivations spells what it has read.
 use Rattle.std.proofs.Common.{◌≡◌, refl, sym, ◌∙◌, ap, ℕ, suc, Bool, true, false, List, [], ◌∷◌, Option, None, Some}
-use Rattle.formula_parse.specs.Tokens.{Name, Relation, Quantifier, Connective, Sign, Letter, Token, Placed, here, value_of, name, number, system, called, mark, call_sign, negation, quantifier, comma, opening, closing, bracket, unbracket, letter_sign, sign, minus, times, relation, connective, implies, iff, other, end}
-use Rattle.formula_parse.specs.Trees.{Names, no_names, names}
-use Rattle.formula_parse.specs.Derivations.{Factor, variable, numeral, in_parens, Factors, no_factors, factors, Addends, no_addends, addends, Term, term, Terms, no_terms, terms, Index, index, Core, compare, words, word_letter, letter_word, call_none, call, not_closed, grouped, Closed, marked, Operands, Chains, Implications, Last, ends, quantified, Formula, formula, factor_then, factors_then, addends_then, term_then, arguments_then, places_then, index_then, letter_then, marks_then, variables_then, within, tildes_then, core_then, closed_then, operands_then, chains_then, implications_then, formula_then, parts, derivations}
+use Rattle.formula_parse.specs.Tokens.{Name, Quantifier, Letter, Token, Placed, here, name, number, system, called, mark, call_sign, negation, quantifier, comma, opening, closing, bracket, unbracket, letter_sign, sign, minus, times, relation, connective, implies, iff, end}
+use Rattle.formula_parse.specs.Trees.{Names}
+use Rattle.formula_parse.specs.Derivations.{Factor, variable, Factors, no_factors, Addends, no_addends, Term, term, Terms, no_terms, index, Core, compare, words, letter_word, not_closed, Closed, marked, ends, quantified, Formula, factor_then, factors_then, addends_then, term_then, arguments_then, places_then, index_then, letter_then, marks_then, variables_then, within, tildes_then, core_then, closed_then, operands_then, chains_then, implications_then, formula_then, parts, derivations}
 use Rattle.formula_parse.specs.Flaws.{Flaw, Product, product_start}
-use Rattle.formula_parse.specs.Machine.{Front, Body, Frame, Outer, Aim, Side, Where, Spelling, Position, State, after_index, after_letter, first, second, left_side, right_of, place_in, argument, on_left, on_right, at_operand, at_system, at_variable, behind_operand, behind_first, at_factor, behind_factor, behind_index, at_word, at_bracket, at_letter, at_value, behind_letter, at_called, at_call, at_argument, done, paren, scope, fresh, close, whole, wrapped, closed, leave_closed, leave, close_term, leave_whole, leave_product, leave_factor, leave_first, leave_side, leave_index, enter_word, enter_bracket, with_letter, enter_letter, enter_value, leave_letter, enter_called, enter_call, enter_factor, enter_argument, next_variable, enter, enter_system, enter_variable, step, step_at, within_where, within_outer, within_position}
+use Rattle.formula_parse.specs.Machine.{Front, Body, Frame, Outer, Aim, Side, Where, Spelling, Position, State, left_index, left_letter, first, second, left_side, right_of, place_in, argument, on_left, on_right, at_operand, at_system, at_variable, after_operand, after_first, at_factor, after_factor, after_index, at_word, at_bracket, at_letter, at_value, after_letter, at_called, at_call, at_argument, done, paren, scope, fresh, close, whole, wrapped, closed, leave_closed, leave, close_term, leave_whole, leave_product, leave_factor, leave_first, leave_side, leave_index, enter_word, enter_bracket, enter_letter, enter_value, leave_letter, enter_called, enter_call, enter_factor, enter_argument, next_variable, enter, enter_system, enter_variable, step, step_at, within_where, within_outer, within_position}
 use Rattle.formula_parse.specs.Runs.{placed}
 
 -- the nesting of the formula inside of some frames
@@ -27,8 +27,8 @@ frames_then (scope k ns n h ∷ hs) q =
     frames_then hs (body_then h (nesting hs) (here (quantifier k) d ∷ variables_then ns d (here (name n) d ∷ q)))
 
 abbrev pub aim_then : Aim parts → ℕ → List Placed → List Placed
-aim_then (after_index x k) d q = index_then x d (here (relation k) d ∷ q)
-aim_then (after_letter l k) d q = letter_then l d (here (relation k) d ∷ q)
+aim_then (left_index x k) d q = index_then x d (here (relation k) d ∷ q)
+aim_then (left_letter l k) d q = letter_then l d (here (relation k) d ∷ q)
 
 abbrev pub side_then : Side parts → ℕ → List Placed → List Placed
 side_then first d q = q
@@ -53,20 +53,20 @@ abbrev pub position_then : Position parts → ℕ → List Placed → List Place
 position_then at_operand d q = q
 position_then at_system d q = here mark d ∷ q
 position_then (at_variable k ns) d q = here (quantifier k) (suc d) ∷ variables_then ns (suc d) q
-position_then (behind_operand c) d q = core_then c d q
-position_then (behind_first n) d q = here (name n) d ∷ q
+position_then (after_operand c) d q = core_then c d q
+position_then (after_first n) d q = here (name n) d ∷ q
 position_then (at_factor h o ss ps p) d q =
     let e = within_where h d in
     where_then h d (outer_then o e (addends_then ss (within_outer o e) (factors_then ps (within_outer o e) q)))
-position_then (behind_factor h o ss ps p f b) d q =
+position_then (after_factor h o ss ps p f b) d q =
     let e = within_where h d in
     where_then h d (outer_then o e (addends_then ss (within_outer o e) (factors_then ps (within_outer o e) (factor_then f (within_outer o e) q))))
-position_then (behind_index s n ts t) d q = where_then (place_in s n ts) d (term_then t (suc d) (here unbracket d ∷ q))
+position_then (after_index s n ts t) d q = where_then (place_in s n ts) d (term_then t (suc d) (here unbracket d ∷ q))
 position_then (at_word a) d q = aim_then a d q
 position_then (at_bracket a n) d q = aim_then a d (here (name n) d ∷ q)
 position_then (at_letter c b) d q = spelling_then c d (here (letter_sign b) d ∷ q)
 position_then (at_value c b) d q = spelling_then c d (here (letter_sign b) d ∷ here (sign minus) d ∷ q)
-position_then (behind_letter l) d q = letter_then l d q
+position_then (after_letter l) d q = letter_then l d q
 position_then at_called d q = here call_sign d ∷ q
 position_then (at_call n) d q = here call_sign d ∷ here (called n) d ∷ q
 position_then (at_argument n) d q = here call_sign d ∷ here (called n) d ∷ here opening (suc d) ∷ q
@@ -140,12 +140,12 @@ respelled : (o : Option (State parts)) (k j : List Placed → List Placed) (c : 
 respelled None k j c e h = tt
 respelled (Some n) k j c e h = goes h.sane (λ q. h.spells q ∙ e _)
 
-leave_goes : (s : State parts) (c : Core) (t : Token) → Sane s → GoesOn (leave derivations s c t) (state_then (at s (behind_operand c))) (here t)
+leave_goes : (s : State parts) (c : Core) (t : Token) → Sane s → GoesOn (leave derivations s c t) (state_then (at s (after_operand c))) (here t)
 leave_goes s c t a =
     respelled
     (leave derivations s c t)
     _
-    (state_then (at s (behind_operand c)))
+    (state_then (at s (after_operand c)))
     (here t)
     (λ q. ap (λ z. frames_then s.around (front_then s.body.front (nesting s.around) z)) (wrapped_then s.body.tildes (marked s.body.marks c) (nesting s.around) q))
     (closed_goes s (closed derivations s.body c) t a)
@@ -180,33 +180,33 @@ whole_goes s (argument n ts) t q comma a = goes (stays _ a) (λ r. refl)
 whole_goes s (argument n ts) t q closing a = goes (stays _ a) (λ r. refl)
 whole_goes s (argument n ts) t q _ a = tt
 
-product_goes : (s : State parts) (h : Where parts) (o : List (Outer parts)) (ss : Addends) (ps : Factors) (f : Factor) (q : Bool) (u : Token) → Sane s → GoesOn (leave_product derivations s h o (term ss ps f) q u) (state_then (at s (behind_factor h o ss ps (product_start true) f q))) (here u)
+product_goes : (s : State parts) (h : Where parts) (o : List (Outer parts)) (ss : Addends) (ps : Factors) (f : Factor) (q : Bool) (u : Token) → Sane s → GoesOn (leave_product derivations s h o (term ss ps f) q u) (state_then (at s (after_factor h o ss ps (product_start true) f q))) (here u)
 product_goes s h [] ss ps f q u a = whole_goes s h (term ss ps f) q u a
 product_goes s h (x ∷ o) ss ps f q closing a = goes (record { body = a.body; frames = a.frames }) (λ r. refl)
 product_goes s h (x ∷ o) ss ps f q _ a = tt
 
-leave_factor_goes : (s : State parts) (h : Where parts) (o : List (Outer parts)) (ss : Addends) (ps : Factors) (p : Product) (f : Factor) (q : Bool) (u : Token) → Sane s → GoesOn (leave_factor derivations s h o ss ps p f q u) (state_then (at s (behind_factor h o ss ps p f q))) (here u)
+leave_factor_goes : (s : State parts) (h : Where parts) (o : List (Outer parts)) (ss : Addends) (ps : Factors) (p : Product) (f : Factor) (q : Bool) (u : Token) → Sane s → GoesOn (leave_factor derivations s h o ss ps p f q u) (state_then (at s (after_factor h o ss ps p f q))) (here u)
 leave_factor_goes s h o ss ps p f q (times b) a = goes (stays _ a) (λ r. refl)
 leave_factor_goes s h o ss ps p f q (sign k) a = goes (stays _ a) (λ r. refl)
 leave_factor_goes s h o ss ps p f q t a = product_goes s h o ss ps f _ t a
 
-first_goes : (s : State parts) (n : Name) (u : Token) → Sane s → GoesOn (leave_first derivations s n u) (state_then (at s (behind_first n))) (here u)
+first_goes : (s : State parts) (n : Name) (u : Token) → Sane s → GoesOn (leave_first derivations s n u) (state_then (at s (after_first n))) (here u)
 first_goes s n bracket a = goes (stays _ a) (λ r. refl)
 first_goes s n t a = leave_factor_goes s left_side [] no_addends no_factors (product_start true) (variable n) false t a
 
-side_goes : (s : State parts) (d : Side parts) (n : Name) (ts : Terms) (t : Term) (u : Token) → Sane s → GoesOn (leave_side derivations s d (index n ts t) u) (state_then (at s (behind_index d n ts t))) (here u)
+side_goes : (s : State parts) (d : Side parts) (n : Name) (ts : Terms) (t : Term) (u : Token) → Sane s → GoesOn (leave_side derivations s d (index n ts t) u) (state_then (at s (after_index d n ts t))) (here u)
 side_goes s first n ts t (relation k) a = goes (stays _ a) (λ r. refl)
 side_goes s first n ts t _ a = tt
-side_goes s (second (after_index z k)) n ts t u a = leave_goes s (words z k (index n ts t)) u a
-side_goes s (second (after_letter l k)) n ts t u a = leave_goes s (letter_word l k (index n ts t)) u a
+side_goes s (second (left_index z k)) n ts t u a = leave_goes s (words z k (index n ts t)) u a
+side_goes s (second (left_letter l k)) n ts t u a = leave_goes s (letter_word l k (index n ts t)) u a
 
-index_goes : (s : State parts) (d : Side parts) (n : Name) (ts : Terms) (t : Term) (u : Token) → Sane s → GoesOn (leave_index derivations s d n ts t u) (state_then (at s (behind_index d n ts t))) (here u)
+index_goes : (s : State parts) (d : Side parts) (n : Name) (ts : Terms) (t : Term) (u : Token) → Sane s → GoesOn (leave_index derivations s d n ts t u) (state_then (at s (after_index d n ts t))) (here u)
 index_goes s d n ts t bracket a = goes (stays _ a) (λ r. refl)
 index_goes s d n ts t u a = side_goes s d n ts t u a
 
 word_goes : (s : State parts) (m : Aim parts) (u : Token) → Sane s → GoesOn (enter_word derivations s m u) (state_then (at s (at_word m))) (here u)
 word_goes s m (name n) a = goes (stays _ a) (λ r. refl)
-word_goes s (after_index x k) (letter_sign b) a = goes (stays _ a) (λ r. refl)
+word_goes s (left_index x k) (letter_sign b) a = goes (stays _ a) (λ r. refl)
 word_goes s m _ a = tt
 
 bracket_goes : (s : State parts) (m : Aim parts) (n : Name) (u : Token) → Sane s → GoesOn (enter_bracket derivations s m n u) (state_then (at s (at_bracket m n))) (here u)
@@ -224,7 +224,7 @@ value_goes s on_left b (number v) a = goes (stays _ a) (λ r. refl)
 value_goes s (on_right x k) b (number v) a = goes (stays _ a) (λ r. refl)
 value_goes s c b _ a = tt
 
-leave_letter_goes : (s : State parts) (l : Letter) (u : Token) → Sane s → GoesOn (leave_letter derivations s l u) (state_then (at s (behind_letter l))) (here u)
+leave_letter_goes : (s : State parts) (l : Letter) (u : Token) → Sane s → GoesOn (leave_letter derivations s l u) (state_then (at s (after_letter l))) (here u)
 leave_letter_goes s l (relation k) a = goes (stays _ a) (λ r. refl)
 leave_letter_goes s l _ a = tt
 
@@ -289,16 +289,16 @@ position_goes : (s : State parts) (p : Position parts) (u : Token) → Sane s �
 position_goes s at_operand u a = enter_goes s u a
 position_goes s at_system u a = system_goes s u a
 position_goes s (at_variable q ns) u a = variable_goes s q ns u a
-position_goes s (behind_operand c) u a = leave_goes s c u a
-position_goes s (behind_first n) u a = first_goes s n u a
+position_goes s (after_operand c) u a = leave_goes s c u a
+position_goes s (after_first n) u a = first_goes s n u a
 position_goes s (at_factor h o ss ps p) u a = factor_goes s h o ss ps p u a
-position_goes s (behind_factor h o ss ps p f q) u a = leave_factor_goes s h o ss ps p f q u a
-position_goes s (behind_index d n ts t) u a = index_goes s d n ts t u a
+position_goes s (after_factor h o ss ps p f q) u a = leave_factor_goes s h o ss ps p f q u a
+position_goes s (after_index d n ts t) u a = index_goes s d n ts t u a
 position_goes s (at_word m) u a = word_goes s m u a
 position_goes s (at_bracket m n) u a = bracket_goes s m n u a
 position_goes s (at_letter c b) u a = letter_goes s c b u a
 position_goes s (at_value c b) u a = value_goes s c b u a
-position_goes s (behind_letter l) u a = leave_letter_goes s l u a
+position_goes s (after_letter l) u a = leave_letter_goes s l u a
 position_goes s at_called u a = called_goes s u a
 position_goes s (at_call n) u a = call_goes s n u a
 position_goes s (at_argument n) u a = argument_goes s n u a

@@ -3,14 +3,16 @@ use Rattle.std.proofs.Common.{◌≡◌, refl, sym, ◌∙◌, ap, ℕ, List, []
 use Rattle.std.specs.Prelude.{Vec, Box}
 use Rattle.std.specs.List.{fold}
 use Rattle.std.specs.declared.alloc.Global.{Global}
+use Rattle.formula_parse.specs.Tokens.{Name}
 use Rattle.formula_parse.specs.Trees as trees
-use Rattle.formula_parse.specs.Views.{Signed, term_step, addend_step, term_view, addend_view, terms_view, addends_view, with_addend, sign_view, Joined, formula_step, operand_step, formula_view, operand_view, operands_view, with_operand, names_view, quantifier_view, connective_view, atom_view}
+use Rattle.formula_parse.specs.Views.{Signed, term_step, factor_step, addend_step, term_view, factor_view, factors_view, addend_view, addends_view, with_addend, Joined, formula_step, operand_step, formula_view, operand_view, operands_view, with_operand, names_view, quantifier_view, atom_view}
 use Rattle.formula_parse.specs.declared.tree.Term.{Term}
 use Rattle.formula_parse.specs.declared.tree.Term.TheVariants as term
-use Rattle.formula_parse.specs.declared.tree.Term.TheOpen as open_term
-use Rattle.formula_parse.specs.declared.tree.Term.TheFolds.{fold-Term, fold-roll-Term, fold-Addend, fold_out-Addend}
+use Rattle.formula_parse.specs.declared.tree.Factor.TheOpen as open_term
+use Rattle.formula_parse.specs.declared.tree.Factor.TheFolds.{fold-Term, fold-roll-Term, fold-Factor, fold-roll-Factor, fold-Addend, fold_out-Addend}
+use Rattle.formula_parse.specs.declared.tree.Factor.{Factor}
+use Rattle.formula_parse.specs.declared.tree.Factor.TheVariants as factor
 use Rattle.formula_parse.specs.declared.tree.Addend.{Addend}
-use Rattle.formula_parse.specs.declared.tree.Sign.{Sign}
 use Rattle.formula_parse.specs.declared.tree.Formula.{Formula}
 use Rattle.formula_parse.specs.declared.tree.Formula.TheVariants as formula
 use Rattle.formula_parse.specs.declared.tree.Formula.TheOpen as open_formula
@@ -23,27 +25,35 @@ map_same : {X Y : Type 0} (f g : X → Y) → ((x : X) → f x ≡ g x) → (xs 
 map_same f g h [] = refl
 map_same {X} {Y} f g h (x ∷ xs) = ap (λ (y : Y). y ∷ map f xs) (h x) ∙ ap (λ ys. g x ∷ ys) (map_same f g h xs)
 
-pub view_variable : (n : Vec ℕ Global) → term_view (term.Variable n) ≡ trees.variable n.items
+pub view_variable : (n : Name) → term_view (term.Variable n) ≡ trees.variable n
 unfolding term_view
-view_variable n = ap (fold-Term trees.Term Signed term_step addend_step) (sym (term.rolls-Variable n)) ∙ fold-roll-Term trees.Term Signed term_step addend_step (open_term.Variable n)
+view_variable n = ap (fold-Term trees.Factor trees.Term Signed factor_step term_step addend_step) (sym (term.rolls-Variable n)) ∙ fold-roll-Term trees.Factor trees.Term Signed factor_step term_step addend_step (open_term.Variable n)
 
 pub view_numeral : (n : ℕ) → term_view (term.Numeral n) ≡ trees.numeral n
 unfolding term_view
-view_numeral n = ap (fold-Term trees.Term Signed term_step addend_step) (sym (term.rolls-Numeral n)) ∙ fold-roll-Term trees.Term Signed term_step addend_step (open_term.Numeral n)
+view_numeral n = ap (fold-Term trees.Factor trees.Term Signed factor_step term_step addend_step) (sym (term.rolls-Numeral n)) ∙ fold-roll-Term trees.Factor trees.Term Signed factor_step term_step addend_step (open_term.Numeral n)
 
-pub view_product : (ts : Vec Term Global) → term_view (term.Product ts) ≡ trees.product (terms_view ts.items)
-unfolding term_view
-view_product ts = ap (fold-Term trees.Term Signed term_step addend_step) (sym (term.rolls-Product ts)) ∙ fold-roll-Term trees.Term Signed term_step addend_step (open_term.Product ts)
+pub view_product : (ps : Vec Factor Global) → term_view (term.Product ps) ≡ trees.product (factors_view ps.items)
+unfolding term_view factor_view
+view_product ps =
+    ap (fold-Term trees.Factor trees.Term Signed factor_step term_step addend_step) (sym (term.rolls-Product ps))
+    ∙ fold-roll-Term trees.Factor trees.Term Signed factor_step term_step addend_step (open_term.Product ps)
 
-fold_addend : (a : Addend) → fold-Addend trees.Term Signed term_step addend_step a ≡ addend_view a
+pub view_times : (t : Term) → factor_view (factor.Times t) ≡ trees.times (term_view t)
+unfolding term_view factor_view
+view_times t =
+    ap (fold-Factor trees.Factor trees.Term Signed factor_step term_step addend_step) (sym (factor.rolls-Times t))
+    ∙ fold-roll-Factor trees.Factor trees.Term Signed factor_step term_step addend_step (open_term.Times t)
+
+fold_addend : (a : Addend) → fold-Addend trees.Factor trees.Term Signed factor_step term_step addend_step a ≡ addend_view a
 unfolding term_view
-fold_addend a = fold_out-Addend trees.Term Signed term_step addend_step a
+fold_addend a = fold_out-Addend trees.Factor trees.Term Signed factor_step term_step addend_step a
 
 pub view_sum : (ss : Vec Addend Global) (t : Box Term Global) → term_view (term.Sum ss t) ≡ trees.sum (addends_view ss.items) (term_view t.value)
 unfolding term_view
 view_sum ss t =
-    ap (fold-Term trees.Term Signed term_step addend_step) (sym (term.rolls-Sum ss t))
-    ∙ (fold-roll-Term trees.Term Signed term_step addend_step (open_term.Sum ss t)
+    ap (fold-Term trees.Factor trees.Term Signed factor_step term_step addend_step) (sym (term.rolls-Sum ss t))
+    ∙ (fold-roll-Term trees.Factor trees.Term Signed factor_step term_step addend_step (open_term.Sum ss t)
     ∙ ap (λ xs. trees.sum (fold with_addend trees.no_addends xs) (term_view t.value)) (map_same _ _ fold_addend ss.items))
 
 pub view_atom : (a : Atom) → formula_view (formula.Atom a) ≡ trees.atom (atom_view a)
@@ -54,11 +64,11 @@ pub view_negated : (f : Box Formula Global) → formula_view (formula.Negated f)
 unfolding formula_view
 view_negated f = ap (fold-Formula trees.Formula Joined formula_step operand_step) (sym (formula.rolls-Negated f)) ∙ fold-roll-Formula trees.Formula Joined formula_step operand_step (open_formula.Negated f)
 
-pub view_quantified : (q : Quantifier) (ns : Vec (Vec ℕ Global) Global) (f : Box Formula Global) → formula_view (formula.Quantified q ns f) ≡ trees.quantified (quantifier_view q) (names_view ns.items) (formula_view f.value)
+pub view_quantified : (q : Quantifier) (ns : Vec Name Global) (f : Box Formula Global) → formula_view (formula.Quantified q ns f) ≡ trees.quantified (quantifier_view q) (names_view ns.items) (formula_view f.value)
 unfolding formula_view
 view_quantified q ns f = ap (fold-Formula trees.Formula Joined formula_step operand_step) (sym (formula.rolls-Quantified q ns f)) ∙ fold-roll-Formula trees.Formula Joined formula_step operand_step (open_formula.Quantified q ns f)
 
-pub view_marked : (ms : Vec (Vec ℕ Global) Global) (f : Box Formula Global) → formula_view (formula.Marked ms f) ≡ trees.marked (names_view ms.items) (formula_view f.value)
+pub view_marked : (ms : Vec Name Global) (f : Box Formula Global) → formula_view (formula.Marked ms f) ≡ trees.marked (names_view ms.items) (formula_view f.value)
 unfolding formula_view
 view_marked ms f = ap (fold-Formula trees.Formula Joined formula_step operand_step) (sym (formula.rolls-Marked ms f)) ∙ fold-roll-Formula trees.Formula Joined formula_step operand_step (open_formula.Marked ms f)
 

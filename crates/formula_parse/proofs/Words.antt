@@ -1,12 +1,12 @@
 -- The machine's words over trees and the grammar's are the same.
-use Rattle.std.proofs.Common.{◌≡◌, refl, sym, ◌∙◌, ap, ℕ, zero, suc, ◌+◌, List, [], ◌∷◌, length, arith, add-one}
+use Rattle.std.proofs.Common.{◌≡◌, refl, ◌∙◌, ap, ℕ, suc, ◌+◌, List, [], ◌∷◌, length, arith}
 use Rattle.std.specs.Prelude.{Vec}
 use Rattle.std.specs.List.{fold}
 use Rattle.std.specs.declared.alloc.Global.{Global}
 use Rattle.formula_parse.specs.Trees as trees
 use Rattle.formula_parse.specs.Trees.{Names}
 use Rattle.formula_parse.specs.Derivations.{within}
-use Rattle.formula_parse.specs.Tokens.{Token, connective, implies, iff}
+use Rattle.formula_parse.specs.Tokens.{Name, Token, connective, implies, iff}
 use Rattle.formula_parse.specs.Making.{Kinds, Making}
 use Rattle.formula_parse.specs.Machine.{Front, State, place, fresh, wrapped, leave_closed}
 use Rattle.formula_parse.specs.Grammar.{trees as making, under_marks, under_tildes}
@@ -25,19 +25,19 @@ leave_based A s r c (implies b) = refl
 leave_based A s r c iff = refl
 leave_based A s r c t = refl
 
--- the nesting behind some `~`
+-- the nesting after some `~`
 pub within-length : (st : List Names) (d : ℕ) → within st d ≡ d + length st
 within-length [] d = omega arith
 within-length (ms ∷ st) d = ap suc (within-length st d) ∙ omega arith
 
-stack_length : (ts : List (Vec (Vec ℕ Global) Global)) (st : List Names) → length (fold (λ (st : List Names) (ms : Vec (Vec ℕ Global) Global). names_view ms.items ∷ st) st ts) ≡ length ts + length st
+stack_length : (ts : List (Vec Name Global)) (st : List Names) → length (fold (λ (st : List Names) (ms : Vec Name Global). names_view ms.items ∷ st) st ts) ≡ length ts + length st
 stack_length [] st = omega arith
 stack_length (t ∷ ts) st = stack_length ts (names_view t.items ∷ st) ∙ omega arith
 
-pub length-tildes_view : (ts : List (Vec (Vec ℕ Global) Global)) → length (tildes_view ts) ≡ length ts
+pub length-tildes_view : (ts : List (Vec Name Global)) → length (tildes_view ts) ≡ length ts
 length-tildes_view ts = stack_length ts [] ∙ omega arith
 
 -- the nesting of the operand that comes
-pub inside : (b : Body') → place (body_view b) ≡ b.base + length b.before.tildes.items
+pub inside : (b : Body') → place (body_view b) ≡ b.front.base + length b.before.tildes.items
 inside b =
-    within-length (tildes_view b.before.tildes.items) b.base ∙ ap (λ n. b.base + n) (length-tildes_view b.before.tildes.items)
+    within-length (tildes_view b.before.tildes.items) b.front.base ∙ ap (λ n. b.front.base + n) (length-tildes_view b.before.tildes.items)

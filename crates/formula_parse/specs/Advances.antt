@@ -5,7 +5,7 @@ use Rattle.formula_parse.specs.Making.{Kinds}
 use Rattle.formula_parse.specs.Machine.{Position, done, step, depth}
 use Rattle.formula_parse.specs.Runs.{placed}
 use Rattle.formula_parse.specs.Grammar.{trees, IsInRange, IsAllowed, told_at}
-use Rattle.formula_parse.specs.StateViews.{Machine, state_view, flaw_view}
+use Rattle.formula_parse.specs.StateViews.{Machine, state_view}
 use Rattle.formula_parse.specs.declared.flaw.Flaw.{Flaw}
 use Rattle.formula_parse.specs.declared.state.State.{State}
 use Rattle.formula_parse.specs.declared.state.Position.{Position as Rust'}
@@ -24,7 +24,7 @@ Advances s t at (Err (faults.MixedChain b)) = ⊥
 Advances s t at (Err (faults.NotLinear b)) = ⊥
 Advances s t at (Err faults.Memory) = ⊤
 
--- a position behind the end of a text
+-- a position after the end of a text
 abbrev pub IsDone : {K : Kinds} → Position K → Type 0
 IsDone (done f) = ⊤
 IsDone _ = ⊥
@@ -39,6 +39,6 @@ abbrev pub FinishesAt : Rust' → Option Flaw → Result Formula ParseFault → 
 FinishesAt (positions.Done f) w r = Flawed f w r
 FinishesAt _ w r = ⊤
 
--- the tree of a state behind the end of a text, or its least flaw
+-- the tree of a state after the end of a text, or its least flaw
 abbrev pub Finishes : State → Result Formula ParseFault → Type 0
-Finishes s r = FinishesAt s.position s.context.flaw r
+Finishes s r = FinishesAt s.position s.context.around.flaw r

@@ -31,7 +31,7 @@ pub data Terms : Type 0 where
 pub data Index : Type 0 where
   index : Name → Terms → Term → Index
 
--- An operand that a connective stands behind has no quantifier at its right end: it is closed. The last of a formula may have one.
+-- An operand that a connective follows has no quantifier at its right end: it is closed. The last of a formula may have one.
 -- closed := { "?" SYS } core; core := "~" closed | "(" formula ")" | atom
 -- atom := term REL term | index REL index | index REL letter | letter REL index | "$" NAME "(" [ { term "," } term ] ")"
 -- last := closed | { { "?" SYS } "~" } { "?" SYS } ("E" | "A") { VAR "," } VAR formula
@@ -70,7 +70,7 @@ mutual
   pub data Formula : Type 0 where
     formula : Implications → Chains → Operands → Last → Formula
 
--- The tokens that a derivation spells at a nesting, and the rest behind them.
+-- The tokens that a derivation spells at a nesting, and the rest after them.
 abbrev mutual
   pub factor_then : Factor → ℕ → List Placed → List Placed
   factor_then (variable n) d r = here (name n) d ∷ r
@@ -92,7 +92,7 @@ abbrev pub arguments_then : Terms → ℕ → List Placed → List Placed
 arguments_then no_terms d r = r
 arguments_then (terms ts t) d r = arguments_then ts d (term_then t d (here comma d ∷ r))
 
--- each behind its bracket, with the bracket of the next
+-- each after its bracket, with the bracket of the next
 abbrev pub places_then : Terms → ℕ → List Placed → List Placed
 places_then no_terms d r = r
 places_then (terms ts t) d r = places_then ts d (term_then t (suc d) (here unbracket d ∷ here bracket (suc d) ∷ r))
@@ -115,7 +115,7 @@ abbrev pub variables_then : Names → ℕ → List Placed → List Placed
 variables_then no_names d r = r
 variables_then (names ns n) d r = variables_then ns d (here (name n) d ∷ here comma d ∷ r)
 
--- the nesting behind some `~`
+-- the nesting after some `~`
 abbrev pub within : List Names → ℕ → ℕ
 within [] d = d
 within (ms ∷ st) d = suc (within st d)

@@ -1,5 +1,5 @@
 -- The faults of the second pass: chains that mix connectives, and products of two unknowns. The one at the least byte is kept.
-use Rattle.std.specs.Prelude.{ℕ, Bool, true, false, not, ◌&&◌, ◌||◌, nat_lt, List, [], ◌∷◌, Option, None, Some}
+use Rattle.std.specs.Prelude.{ℕ, Bool, true, false, not, ◌&&◌, ◌||◌, nat_lt, Option, None, Some}
 use Rattle.formula_parse.specs.Tokens.{Connective, and, or, xor}
 use Rattle.formula_parse.specs.Derivations.{Factor, variable, numeral, in_parens, Factors, no_factors, factors, Addends, no_addends, addends, Term, term, Terms, no_terms, terms, Index, index, Core, compare, words, word_letter, letter_word, call_none, call, not_closed, grouped, Closed, marked, Operands, no_operands, operands, Chains, no_chains, chains, Implications, no_implications, implications, Last, ends, quantified, Formula, formula}
 
@@ -36,7 +36,7 @@ pub record Product : Type 0 where
 abbrev pub product_start : Bool → Product
 product_start l = record { lone = l; unknown = false; star = 0 }
 
--- behind a factor, which is a numeral or is not, and a `*`
+-- after a factor, which is a numeral or is not, and a `*`
 abbrev pub product_next : Product → Bool → ℕ → Product
 product_next p q b = record { lone = false; unknown = p.unknown || not q; star = b }
 
@@ -62,14 +62,14 @@ abbrev mutual
   product_of l no_factors = product_start l
   product_of l (factors ps f b) = product_next (product_of l ps) (is_numeral f) b
 
--- The least flaw so far, behind a derivation.
+-- The least flaw so far, after a derivation.
 abbrev mutual
   pub factor_flaw : Option Flaw → Factor → Option Flaw
   factor_flaw w (variable n) = w
   factor_flaw w (numeral n) = w
   factor_flaw w (in_parens t) = term_flaw w t
 
-  -- behind a factor, and what stands before it in its product
+  -- after a factor, and what stands before it in its product
   pub factors_flaw : Option Flaw → Bool → Factors → Option Flaw
   factors_flaw w l no_factors = w
   factors_flaw w l (factors ps f b) = noted_factor (product_of l ps) (is_numeral f) (factor_flaw (factors_flaw w l ps) f)

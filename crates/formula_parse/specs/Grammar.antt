@@ -1,9 +1,9 @@
 -- The grammar: which tokens have which tree, and where tokens first break it.
-use Rattle.std.specs.Prelude.{◌≡◌, ℕ, ◌+◌, ◌^◌, ◌<◌, ◌≤◌, ℤ, pos, neg_ℤ, Bool, true, false, List, [], ◌∷◌, ◌++◌, map, Option, None, Some, ⊤}
+use Rattle.std.specs.Prelude.{◌≡◌, ℕ, ◌+◌, ◌^◌, ◌<◌, ◌≤◌, ℤ, pos, neg_ℤ, Bool, true, false, List, [], ◌∷◌, ◌++◌, map, None, Some, ⊤}
 use Rattle.std.specs.List.{AllByRecursion}
 use Rattle.formula_parse.specs.Tokens.{Name, Connective, Letter, Token, number, Placed, here, value_of, token_of, nesting_of}
 use Rattle.formula_parse.specs.Tokens as tokens
-use Rattle.formula_parse.specs.Trees.{Names, no_names, names, Term, variable, numeral, product, sum, Terms, no_terms, terms, Addends, no_addends, addends, Index, Atom, Fact, compare, words, word_letter, letter_word, call, Joint, and, or, xor, implies, iff, Formula, atom, negated, chain, quantified, marked, Operands, no_operands, operands}
+use Rattle.formula_parse.specs.Trees.{Names, no_names, names, Term, variable, numeral, product, sum, Factors, no_factors, factors, times, Terms, no_terms, terms, Addends, no_addends, addends, Index, Fact, compare, words, word_letter, letter_word, call, Joint, and, or, xor, implies, iff, Formula, atom, negated, chain, quantified, marked, Operands, no_operands, operands}
 use Rattle.formula_parse.specs.Making.{Kinds, Making}
 use Rattle.formula_parse.specs.Derivations as derivations
 use Rattle.formula_parse.specs.Derivations.{spelled}
@@ -11,9 +11,9 @@ use Rattle.formula_parse.specs.Systems.{formula_of}
 use Rattle.formula_parse.specs.Flaws.{Flaw, formula_flaw}
 
 -- Trees: parentheses leave no mark, and a list of one is its item.
-abbrev pub multiplied : Terms → Term → Term
-multiplied no_terms t = t
-multiplied (terms ts s) t = product (terms (terms ts s) t)
+abbrev pub multiplied : Factors → Term → Term
+multiplied no_factors t = t
+multiplied (factors ps p) t = product (factors (factors ps p) (times t))
 
 abbrev pub summed : Addends → Term → Term
 summed no_addends t = t
@@ -50,7 +50,7 @@ in_system y f = atom (record { system = y; fact = f })
 abbrev pub made : Kinds
 made = record {
   Factor = Term;
-  Factors = Terms;
+  Factors = Factors;
   Addends = Addends;
   Term = Term;
   Terms = Terms;
@@ -70,8 +70,8 @@ trees = record {
   variable = variable;
   numeral = numeral;
   in_parens = λ t. t;
-  no_factors = no_terms;
-  factors = λ ps f b. terms ps f;
+  no_factors = no_factors;
+  factors = λ ps f b. factors ps (times f);
   no_addends = no_addends;
   addends = λ ss ps f s. addends ss (multiplied ps f) s;
   term = λ ss ps f. summed ss (multiplied ps f);
@@ -137,7 +137,7 @@ pub record IsFlawed (ts : List Token) (flaw : Flaw) : Type 0 where
   pub derives : Derives ts text
   pub flaw_is : formula_flaw None text ≡ Some flaw
 
--- a derivation goes on behind what was read of it
+-- a derivation goes on after what was read of it
 pub record GoesOn (text : derivations.Formula) (read more : List Placed) : Type 0 where
   pub spells : spelled text ≡ read ++ more
 

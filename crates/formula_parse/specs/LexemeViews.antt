@@ -1,11 +1,8 @@
 -- The tokens of a text that values stand for.
 use Rattle.std.specs.Prelude.{◌≡◌, ℕ, ◌<◌, ◌≤◌, ◌^◌, Bool, true, false, List, [], ◌∷◌, drop, length}
 use Rattle.formula_parse.specs.Tokens as tokens
-use Rattle.formula_parse.specs.Bytes.{is_digit, is_system_byte, is_name_byte}
 use Rattle.formula_parse.specs.Spots as spots
 use Rattle.formula_parse.specs.StateViews.{token_view}
-use Rattle.formula_parse.specs.declared.lexing.ByteClass.{ByteClass}
-use Rattle.formula_parse.specs.declared.lexing.ByteClass.TheVariants as classes
 use Rattle.formula_parse.specs.declared.lexing.Mode.{Mode}
 use Rattle.formula_parse.specs.declared.lexing.Mode.TheVariants as modes
 use Rattle.formula_parse.specs.declared.lexing.Lexed.{Lexed}
@@ -13,28 +10,23 @@ use Rattle.formula_parse.specs.declared.lexing.Lexed.TheVariants as lexeds
 use Rattle.formula_parse.specs.declared.lexing.Lexeme.{Lexeme}
 use Rattle.formula_parse.specs.declared.lexing.Spot.{Spot}
 
-abbrev pub is_in : ByteClass → ℕ → Bool
-is_in classes.Digit b = is_digit b
-is_in classes.System b = is_system_byte b
-is_in classes.Name b = is_name_byte b
-
 abbrev pub mode_view : Mode → spots.Mode
 mode_view modes.Plain = spots.plain
-mode_view modes.BehindMark = spots.behind_mark
-mode_view modes.BehindCall = spots.behind_call
+mode_view modes.AfterMark = spots.after_mark
+mode_view modes.AfterCall = spots.after_call
 
 abbrev pub lexed_view : Lexed → tokens.Token
 lexed_view (lexeds.Token t) = token_view t
 lexed_view lexeds.Big = tokens.number (2 ^ 64)
 
 abbrev pub lexeme_view : Lexeme → spots.Lexeme
-lexeme_view l = record { token = lexed_view l.lexed; more = l.more }
+lexeme_view l = record { token = lexed_view l.lexed; len = l.len }
 
 abbrev pub name_maker : Bool → tokens.Name → tokens.Token
 name_maker true n = tokens.called n
 name_maker false n = tokens.name n
 
--- nothing stands behind the end
+-- nothing follows the end
 abbrev pub unless_end : tokens.Token → List spots.Spot → List spots.Spot
 unless_end tokens.end ss = []
 unless_end _ ss = ss
@@ -42,5 +34,5 @@ unless_end _ ss = ss
 -- the next token of a text from a byte on
 pub record IsNext (m : spots.Mode) (text : List ℕ) (start : ℕ) (s : Spot) : Type 0 where
   pub within : s.end ≤ length text
-  pub spots_are : spots.spots_from m start 0 (drop start text) ≡ record { token = lexed_view s.lexed; at = s.at } ∷ unless_end (lexed_view s.lexed) (spots.spots_from (spots.mode_behind (lexed_view s.lexed)) s.end 0 (drop s.end text))
+  pub spots_are : spots.spots_from m start 0 (drop start text) ≡ record { token = lexed_view s.lexed; at = s.at } ∷ unless_end (lexed_view s.lexed) (spots.spots_from (spots.mode_after (lexed_view s.lexed)) s.end 0 (drop s.end text))
   pub moves : (lexed_view s.lexed ≡ tokens.end → ⊥) → start < s.end

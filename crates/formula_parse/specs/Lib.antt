@@ -7,7 +7,6 @@ pub mod Flaws
 pub mod Machine
 pub mod Grammar
 pub mod Runs
-pub mod Bytes
 pub mod Spots
 pub mod Views
 pub mod StateViews

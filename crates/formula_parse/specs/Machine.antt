@@ -1,6 +1,6 @@
 -- A machine that reads tokens, over any way of making trees.
 use Rattle.std.specs.Prelude.{ℕ, suc, Bool, true, false, ◌&&◌, List, [], ◌∷◌, Option, None, Some}
-use Rattle.formula_parse.specs.Tokens.{Name, Relation, Quantifier, Connective, Letter, Token, name, number, system, called, mark, call_sign, negation, quantifier, comma, opening, closing, bracket, unbracket, letter_sign, sign, minus, times, relation, connective, implies, iff, end}
+use Rattle.formula_parse.specs.Tokens.{Name, Relation, Quantifier, Letter, Token, name, number, system, called, mark, call_sign, negation, quantifier, comma, opening, closing, bracket, unbracket, letter_sign, sign, minus, times, relation, connective, implies, iff, end}
 use Rattle.formula_parse.specs.Trees.{Names, no_names, names}
 use Rattle.formula_parse.specs.Making.{Kinds, Making}
 use Rattle.formula_parse.specs.Derivations.{within}
@@ -36,8 +36,8 @@ pub record Outer (K : Kinds) : Type 0 where
 
 -- what stands before the index on the right
 pub data Aim (K : Kinds) : Type 0 where
-  after_index : K.Index → Relation → Aim K
-  after_letter : K.Letter → Relation → Aim K
+  left_index : K.Index → Relation → Aim K
+  left_letter : K.Letter → Relation → Aim K
 
 -- which of the two indices of an atom
 pub data Side (K : Kinds) : Type 0 where
@@ -60,19 +60,19 @@ pub data Position (K : Kinds) : Type 0 where
   at_operand : Position K
   at_system : Position K
   at_variable : Quantifier → Names → Position K
-  behind_operand : K.Core → Position K
+  after_operand : K.Core → Position K
   -- a name that begins an operand: a variable or a word
-  behind_first : Name → Position K
+  after_first : Name → Position K
   -- where the term stands, the terms around, the products and the factors before, what they are
   at_factor : Where K → List (Outer K) → K.Addends → K.Factors → Product → Position K
   -- and a factor, and whether it is a numeral
-  behind_factor : Where K → List (Outer K) → K.Addends → K.Factors → Product → K.Factor → Bool → Position K
-  behind_index : Side K → Name → K.Terms → K.Term → Position K
+  after_factor : Where K → List (Outer K) → K.Addends → K.Factors → Product → K.Factor → Bool → Position K
+  after_index : Side K → Name → K.Terms → K.Term → Position K
   at_word : Aim K → Position K
   at_bracket : Aim K → Name → Position K
   at_letter : Spelling K → ℕ → Position K
   at_value : Spelling K → ℕ → Position K
-  behind_letter : K.Letter → Position K
+  after_letter : K.Letter → Position K
   at_called : Position K
   at_call : Name → Position K
   at_argument : Name → Position K
@@ -102,18 +102,18 @@ within_outer (x ∷ o) d = suc (within_outer o d)
 abbrev pub within_position : {K : Kinds} → Position K → ℕ → ℕ
 within_position (at_variable q ns) d = suc d
 within_position (at_factor h o ss ps p) d = within_outer o (within_where h d)
-within_position (behind_factor h o ss ps p f q) d = within_outer o (within_where h d)
+within_position (after_factor h o ss ps p f q) d = within_outer o (within_where h d)
 within_position (at_argument n) d = suc d
 within_position at_operand d = d
 within_position at_system d = d
-within_position (behind_operand c) d = d
-within_position (behind_first n) d = d
-within_position (behind_index s n ts t) d = d
+within_position (after_operand c) d = d
+within_position (after_first n) d = d
+within_position (after_index s n ts t) d = d
 within_position (at_word a) d = d
 within_position (at_bracket a n) d = d
 within_position (at_letter c b) d = d
 within_position (at_value c b) d = d
-within_position (behind_letter l) d = d
+within_position (after_letter l) d = d
 within_position at_called d = d
 within_position (at_call n) d = d
 within_position (done f) d = d
@@ -131,9 +131,9 @@ module _ {K : Kinds} (A : Making K) where
   abbrev pub fresh : ℕ → Body K
   fresh d = record { base = d; front = empty_front; tildes = []; marks = no_names; touched = false }
 
-  -- a front behind which an operand comes
-  abbrev pub behind : Body K → Front K → Body K
-  behind g r = record { base = g.base; front = r; tildes = []; marks = no_names; touched = true }
+  -- a formula with a front, before the operand that comes
+  abbrev pub with_front : Body K → Front K → Body K
+  with_front g r = record { base = g.base; front = r; tildes = []; marks = no_names; touched = true }
 
   abbrev pub wrapped : List Names → K.Closed → K.Closed
   wrapped [] c = c
@@ -149,19 +149,19 @@ module _ {K : Kinds} (A : Making K) where
   abbrev pub moved : State K → Position K → Option (State K)
   moved s p = Some (record s { position = p })
 
-  -- a `)` or the end of the text behind a formula
+  -- a `)` or the end of the text after a formula
   abbrev pub close : Option Flaw → List (Frame K) → K.Formula → Token → Option (State K)
   close w [] f end = Some (record { around = []; body = fresh 0; system = []; flaw = w; position = done f })
   close w [] f t = None
   close w (paren h y ∷ hs) f closing =
-      Some (record { around = hs; body = h; system = y; flaw = w; position = behind_operand (A.grouped f) })
+      Some (record { around = hs; body = h; system = y; flaw = w; position = after_operand (A.grouped f) })
   close w (paren h y ∷ hs) f t = None
   close w (scope q ns n h ∷ hs) f t = close w hs (whole h.front (A.quantified h.tildes h.marks q ns n f)) t
 
   abbrev pub joined : State K → Front K → Option Flaw → Option (State K)
-  joined s r w = Some (record { around = s.around; body = behind s.body r; system = s.system; flaw = w; position = at_operand })
+  joined s r w = Some (record { around = s.around; body = with_front s.body r; system = s.system; flaw = w; position = at_operand })
 
-  -- a token behind a closed operand
+  -- a token after a closed operand
   abbrev pub leave_closed : State K → Front K → K.Closed → Token → Option (State K)
   leave_closed s r c (connective k b) =
       joined s (record r { operands = A.operands r.operands c k b; came = came_next k r.came }) (noted_if (mixes k r.came) (mixed_chain b) s.flaw)
@@ -188,9 +188,9 @@ module _ {K : Kinds} (A : Making K) where
 
   -- a factor was read
   abbrev pub with_factor : State K → Where K → List (Outer K) → K.Addends → K.Factors → Product → K.Factor → Bool → State K
-  with_factor s h o ss ps p f q = record s { flaw = noted_factor p q s.flaw; position = behind_factor h o ss ps p f q }
+  with_factor s h o ss ps p f q = record s { flaw = noted_factor p q s.flaw; position = after_factor h o ss ps p f q }
 
-  -- a `)` behind a term that is no side of a relation: its parenthesis was a term's
+  -- a `)` after a term that is no side of a relation: its parenthesis was a term's
   abbrev pub close_term : State K → List (Frame K) → Bool → K.Term → Bool → Option (State K)
   close_term s (paren h y ∷ hs) false t q =
       Some (
@@ -199,7 +199,7 @@ module _ {K : Kinds} (A : Making K) where
         body = h;
         system = y;
         flaw = s.flaw;
-        position = behind_factor left_side [] A.no_addends A.no_factors (product_start true) (A.in_parens t) q;
+        position = after_factor left_side [] A.no_addends A.no_factors (product_start true) (A.in_parens t) q;
       }
       )
   close_term s (paren h y ∷ hs) true t q = None
@@ -210,25 +210,25 @@ module _ {K : Kinds} (A : Making K) where
   abbrev pub at_term : State K → Where K → Option (State K)
   at_term s h = moved s (at_factor h [] A.no_addends A.no_factors (product_start true))
 
-  -- a token behind a whole term
+  -- a token after a whole term
   abbrev pub leave_whole : State K → Where K → K.Term → Bool → Token → Option (State K)
   leave_whole s left_side t q (relation e) = at_term s (right_of t e)
   leave_whole s left_side t q closing = close_term s s.around s.body.touched t q
   leave_whole s left_side t q _ = None
   leave_whole s (right_of l e) t q u = leave s (A.compare s.system l e t) u
-  leave_whole s (place_in d n ts) t q unbracket = moved s (behind_index d n ts t)
+  leave_whole s (place_in d n ts) t q unbracket = moved s (after_index d n ts t)
   leave_whole s (place_in d n ts) t q _ = None
   leave_whole s (argument n ts) t q comma = at_term s (argument n (A.terms ts t))
-  leave_whole s (argument n ts) t q closing = moved s (behind_operand (A.call s.system n ts t))
+  leave_whole s (argument n ts) t q closing = moved s (after_operand (A.call s.system n ts t))
   leave_whole s (argument n ts) t q _ = None
 
-  -- a token behind a product
+  -- a token after a product
   abbrev pub leave_product : State K → Where K → List (Outer K) → K.Term → Bool → Token → Option (State K)
   leave_product s h [] t q u = leave_whole s h t q u
   leave_product s h (x ∷ o) t q closing = Some (with_factor s h o x.addends x.factors x.product (A.in_parens t) q)
   leave_product s h (x ∷ o) t q _ = None
 
-  -- a token behind a factor
+  -- a token after a factor
   abbrev pub leave_factor : State K → Where K → List (Outer K) → K.Addends → K.Factors → Product → K.Factor → Bool → Token → Option (State K)
   leave_factor s h o ss ps p f q (times b) = moved s (at_factor h o ss (A.factors ps f b) (product_next p q b))
   leave_factor s h o ss ps p f q (sign e) = moved s (at_factor h o (A.addends ss ps f e) A.no_factors (product_start false))
@@ -239,10 +239,10 @@ module _ {K : Kinds} (A : Making K) where
   leave_first s n t = leave_factor s left_side [] A.no_addends A.no_factors (product_start true) (A.variable n) false t
 
   abbrev pub leave_side : State K → Side K → K.Index → Token → Option (State K)
-  leave_side s first x (relation e) = moved s (at_word (after_index x e))
+  leave_side s first x (relation e) = moved s (at_word (left_index x e))
   leave_side s first x _ = None
-  leave_side s (second (after_index z e)) x t = leave s (A.words s.system z e x) t
-  leave_side s (second (after_letter l e)) x t = leave s (A.letter_word s.system l e x) t
+  leave_side s (second (left_index z e)) x t = leave s (A.words s.system z e x) t
+  leave_side s (second (left_letter l e)) x t = leave s (A.letter_word s.system l e x) t
 
   abbrev pub leave_index : State K → Side K → Name → K.Terms → K.Term → Token → Option (State K)
   leave_index s d n ts t bracket = at_term s (place_in d n (A.terms ts t))
@@ -250,7 +250,7 @@ module _ {K : Kinds} (A : Making K) where
 
   abbrev pub enter_word : State K → Aim K → Token → Option (State K)
   enter_word s a (name n) = moved s (at_bracket a n)
-  enter_word s (after_index x e) (letter_sign b) = moved s (at_letter (on_right x e) b)
+  enter_word s (left_index x e) (letter_sign b) = moved s (at_letter (on_right x e) b)
   enter_word s a _ = None
 
   abbrev pub enter_bracket : State K → Aim K → Name → Token → Option (State K)
@@ -258,8 +258,8 @@ module _ {K : Kinds} (A : Making K) where
   enter_bracket s a n _ = None
 
   abbrev pub with_letter : State K → Spelling K → Letter → Option (State K)
-  with_letter s on_left l = moved s (behind_letter (A.letter l))
-  with_letter s (on_right x e) l = moved s (behind_operand (A.word_letter s.system x e (A.letter l)))
+  with_letter s on_left l = moved s (after_letter (A.letter l))
+  with_letter s (on_right x e) l = moved s (after_operand (A.word_letter s.system x e (A.letter l)))
 
   abbrev pub enter_letter : State K → Spelling K → ℕ → Token → Option (State K)
   enter_letter s c b (number v) = with_letter s c (record { at = b; negative = false; value = v })
@@ -271,7 +271,7 @@ module _ {K : Kinds} (A : Making K) where
   enter_value s c b _ = None
 
   abbrev pub leave_letter : State K → K.Letter → Token → Option (State K)
-  leave_letter s l (relation e) = moved s (at_word (after_letter l e))
+  leave_letter s l (relation e) = moved s (at_word (left_letter l e))
   leave_letter s l _ = None
 
   abbrev pub enter_called : State K → Token → Option (State K)
@@ -290,10 +290,10 @@ module _ {K : Kinds} (A : Making K) where
   enter_factor s h o ss ps p _ = None
 
   abbrev pub enter_argument : State K → Name → Token → Option (State K)
-  enter_argument s n closing = moved s (behind_operand (A.call_none s.system n))
+  enter_argument s n closing = moved s (after_operand (A.call_none s.system n))
   enter_argument s n t = enter_factor s (argument n A.no_terms) [] A.no_addends A.no_factors (product_start true) t
 
-  -- a `,` directly behind a quantifier's variable
+  -- a `,` directly after a quantifier's variable
   abbrev pub next_variable : State K → List (Frame K) → Bool → Option (State K)
   next_variable s (scope q ns n h ∷ hs) false =
       Some (record { around = hs; body = h; system = s.system; flaw = s.flaw; position = at_variable q (names ns n) })
@@ -320,7 +320,7 @@ module _ {K : Kinds} (A : Making K) where
         position = at_operand;
       }
       )
-  enter s (name n) = moved s (behind_first n)
+  enter s (name n) = moved s (after_first n)
   enter s (number n) = Some (with_factor s left_side [] A.no_addends A.no_factors (product_start true) (A.numeral n) true)
   enter s (letter_sign b) = moved s (at_letter on_left b)
   enter s call_sign = moved s at_called
@@ -347,16 +347,16 @@ module _ {K : Kinds} (A : Making K) where
   step_at s at_operand t = enter s t
   step_at s at_system t = enter_system s t
   step_at s (at_variable q ns) t = enter_variable s q ns t
-  step_at s (behind_operand c) t = leave s c t
-  step_at s (behind_first n) t = leave_first s n t
+  step_at s (after_operand c) t = leave s c t
+  step_at s (after_first n) t = leave_first s n t
   step_at s (at_factor h o ss ps p) t = enter_factor s h o ss ps p t
-  step_at s (behind_factor h o ss ps p f q) t = leave_factor s h o ss ps p f q t
-  step_at s (behind_index d n ts u) t = leave_index s d n ts u t
+  step_at s (after_factor h o ss ps p f q) t = leave_factor s h o ss ps p f q t
+  step_at s (after_index d n ts u) t = leave_index s d n ts u t
   step_at s (at_word a) t = enter_word s a t
   step_at s (at_bracket a n) t = enter_bracket s a n t
   step_at s (at_letter c b) t = enter_letter s c b t
   step_at s (at_value c b) t = enter_value s c b t
-  step_at s (behind_letter l) t = leave_letter s l t
+  step_at s (after_letter l) t = leave_letter s l t
   step_at s at_called t = enter_called s t
   step_at s (at_call n) t = enter_call s n t
   step_at s (at_argument n) t = enter_argument s n t

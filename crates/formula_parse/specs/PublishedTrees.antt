@@ -12,9 +12,9 @@ abbrev mutual
   factor_tree (numeral n) = trees.numeral n
   factor_tree (in_parens t) = summed (before_prod t) (last_prod t)
 
-  pub before_factor : Prod → trees.Terms
-  before_factor (factor f) = trees.no_terms
-  before_factor (times p b f) = trees.terms (before_factor p) (last_factor p)
+  pub before_factor : Prod → trees.Factors
+  before_factor (factor f) = trees.no_factors
+  before_factor (times p b f) = trees.factors (before_factor p) (trees.times (last_factor p))
 
   pub last_factor : Prod → trees.Term
   last_factor (factor f) = factor_tree f

@@ -1,5 +1,5 @@
 -- The tokens, flaws and states that values stand for.
-use Rattle.std.specs.Prelude.{◌≡◌, ◌<◌, ◌≤◌, ℕ, List, [], ◌∷◌, Option, None, Some, Vec, Result, Ok, Err, ⊤}
+use Rattle.std.specs.Prelude.{List, [], ◌∷◌, Option, None, Some, Vec}
 use Rattle.std.specs.List.{fold}
 use Rattle.std.specs.declared.alloc.Global.{Global}
 use Rattle.formula_parse.specs.Tokens as tokens
@@ -7,7 +7,7 @@ use Rattle.formula_parse.specs.Trees as trees
 use Rattle.formula_parse.specs.Flaws as flaws
 use Rattle.formula_parse.specs.Machine as machine
 use Rattle.formula_parse.specs.Grammar.{made}
-use Rattle.formula_parse.specs.Views.{relation_view, quantifier_view, sign_view, names_view, term_view, terms_view, addends_view, index_view, formula_view, operands_view}
+use Rattle.formula_parse.specs.Views.{relation_view, quantifier_view, sign_view, names_view, term_view, terms_view, factors_view, addends_view, index_view, formula_view, operands_view}
 use Rattle.formula_parse.specs.declared.token.ChainSign.{ChainSign}
 use Rattle.formula_parse.specs.declared.token.ChainSign.TheVariants as chain_signs
 use Rattle.formula_parse.specs.declared.token.Token.{Token}
@@ -20,7 +20,7 @@ use Rattle.formula_parse.specs.declared.state.Front.{Front}
 use Rattle.formula_parse.specs.declared.state.Body.{Body}
 use Rattle.formula_parse.specs.declared.state.Frame.{Frame}
 use Rattle.formula_parse.specs.declared.state.Frame.TheVariants as frames
-use Rattle.formula_parse.specs.declared.state.Outer.{Outer}
+use Rattle.formula_parse.specs.declared.state.Sum.{Sum}
 use Rattle.formula_parse.specs.declared.state.Aim.{Aim}
 use Rattle.formula_parse.specs.declared.state.Aim.TheVariants as aims
 use Rattle.formula_parse.specs.declared.state.Side.{Side}
@@ -29,12 +29,10 @@ use Rattle.formula_parse.specs.declared.state.Place.{Place}
 use Rattle.formula_parse.specs.declared.state.Place.TheVariants as places
 use Rattle.formula_parse.specs.declared.state.Spelling.{Spelling}
 use Rattle.formula_parse.specs.declared.state.Spelling.TheVariants as spellings
-use Rattle.formula_parse.specs.declared.state.Reading.{Reading}
 use Rattle.formula_parse.specs.declared.state.Position.{Position}
 use Rattle.formula_parse.specs.declared.state.Position.TheVariants as positions
 use Rattle.formula_parse.specs.declared.state.Context.{Context}
 use Rattle.formula_parse.specs.declared.state.State.{State}
-use Rattle.formula_parse.specs.declared.tree.Term.{Term}
 
 abbrev pub chain_sign_view : ChainSign → tokens.Connective
 chain_sign_view chain_signs.And = tokens.and
@@ -42,10 +40,10 @@ chain_sign_view chain_signs.Or = tokens.or
 chain_sign_view chain_signs.Xor = tokens.xor
 
 abbrev pub token_view : Token → tokens.Token
-token_view (token.Name n) = tokens.name n.items
+token_view (token.Name n) = tokens.name n
 token_view (token.Number n) = tokens.number n
-token_view (token.System n) = tokens.system n.items
-token_view (token.Called n) = tokens.called n.items
+token_view (token.System n) = tokens.system n
+token_view (token.Called n) = tokens.called n
 token_view token.Mark = tokens.mark
 token_view token.CallSign = tokens.call_sign
 token_view token.Negation = tokens.negation
@@ -89,12 +87,12 @@ front_view f = record {
 }
 
 -- the marks before some `~`, the last first
-abbrev pub tildes_view : List (Vec (Vec ℕ Global) Global) → List trees.Names
-tildes_view ts = fold (λ (st : List trees.Names) (ms : Vec (Vec ℕ Global) Global). names_view ms.items ∷ st) [] ts
+abbrev pub tildes_view : List (Vec tokens.Name Global) → List trees.Names
+tildes_view ts = fold (λ (st : List trees.Names) (ms : Vec tokens.Name Global). names_view ms.items ∷ st) [] ts
 
 abbrev pub body_view : Body → machine.Body made
 body_view b = record {
-  base = b.base;
+  base = b.front.base;
   front = front_view b.front;
   tildes = tildes_view b.before.tildes.items;
   marks = names_view b.before.marks.items;
@@ -102,22 +100,22 @@ body_view b = record {
 }
 
 abbrev pub frame_view : Frame → machine.Frame made
-frame_view (frames.Paren b y) = machine.paren (body_view b) y.items
-frame_view (frames.Scope q ns n b) = machine.scope (quantifier_view q) (names_view ns.items) n.items (body_view b)
+frame_view (frames.Paren b y) = machine.paren (body_view b) y
+frame_view (frames.Quantified s b) = machine.scope (quantifier_view s.quantifier) (names_view s.names.items) s.last (body_view b)
 
 -- the innermost first
 abbrev pub frames_view : List Frame → List (machine.Frame made)
 frames_view fs = fold (λ gs f. frame_view f ∷ gs) [] fs
 
-abbrev pub outer_view : Outer → machine.Outer made
-outer_view o = record { addends = addends_view o.addends.items; factors = terms_view o.factors.items; product = product_view o.product }
+abbrev pub outer_view : Sum → machine.Outer made
+outer_view o = record { addends = addends_view o.addends.items; factors = factors_view o.factors.items; product = product_view o.product }
 
-abbrev pub outers_view : List Outer → List (machine.Outer made)
+abbrev pub outers_view : List Sum → List (machine.Outer made)
 outers_view os = fold (λ gs o. outer_view o ∷ gs) [] os
 
 abbrev pub aim_view : Aim → machine.Aim made
-aim_view (aims.AfterIndex x r) = machine.after_index (index_view x) (relation_view r)
-aim_view (aims.AfterLetter l r) = machine.after_letter l (relation_view r)
+aim_view (aims.LeftIndex x r) = machine.left_index (index_view x) (relation_view r)
+aim_view (aims.LeftLetter l r) = machine.left_letter l (relation_view r)
 
 abbrev pub side_view : Side → machine.Side made
 side_view sides.First = machine.first
@@ -126,8 +124,8 @@ side_view (sides.Second a) = machine.second (aim_view a)
 abbrev pub place_view : Place → machine.Where made
 place_view places.LeftSide = machine.left_side
 place_view (places.RightOf t r) = machine.right_of (term_view t) (relation_view r)
-place_view (places.PlaceIn s n ts) = machine.place_in (side_view s) n.items (terms_view ts.items)
-place_view (places.Argument n ts) = machine.argument n.items (terms_view ts.items)
+place_view (places.PlaceIn p) = machine.place_in (side_view p.side) p.word (terms_view p.places.items)
+place_view (places.Argument a) = machine.argument a.name (terms_view a.terms.items)
 
 abbrev pub spelling_view : Spelling → machine.Spelling made
 spelling_view spellings.OnLeft = machine.on_left
@@ -137,19 +135,19 @@ abbrev pub position_view : Position → machine.Position made
 position_view positions.AtOperand = machine.at_operand
 position_view positions.AtSystem = machine.at_system
 position_view (positions.AtVariable q ns) = machine.at_variable (quantifier_view q) (names_view ns.items)
-position_view (positions.BehindOperand f) = machine.behind_operand (formula_view f)
-position_view (positions.BehindFirst n) = machine.behind_first n.items
-position_view (positions.AtFactor r) = machine.at_factor (place_view r.place) (outers_view r.outer.items) (addends_view r.addends.items) (terms_view r.factors.items) (product_view r.product)
-position_view (positions.BehindFactor r t q) = machine.behind_factor (place_view r.place) (outers_view r.outer.items) (addends_view r.addends.items) (terms_view r.factors.items) (product_view r.product) (term_view t) q
-position_view (positions.BehindIndex s n ts t) = machine.behind_index (side_view s) n.items (terms_view ts.items) (term_view t)
+position_view (positions.AfterOperand f) = machine.after_operand (formula_view f)
+position_view (positions.AfterFirst n) = machine.after_first n
+position_view (positions.AtFactor r) = machine.at_factor (place_view r.nest.place) (outers_view r.nest.outer.items) (addends_view r.sum.addends.items) (factors_view r.sum.factors.items) (product_view r.sum.product)
+position_view (positions.AfterFactor r p) = machine.after_factor (place_view r.nest.place) (outers_view r.nest.outer.items) (addends_view r.sum.addends.items) (factors_view r.sum.factors.items) (product_view r.sum.product) (term_view p.term) p.numeral
+position_view (positions.AfterIndex p t) = machine.after_index (side_view p.side) p.word (terms_view p.places.items) (term_view t)
 position_view (positions.AtWord a) = machine.at_word (aim_view a)
-position_view (positions.AtBracket a n) = machine.at_bracket (aim_view a) n.items
+position_view (positions.AtBracket a n) = machine.at_bracket (aim_view a) n
 position_view (positions.AtLetter c b) = machine.at_letter (spelling_view c) b
 position_view (positions.AtValue c b) = machine.at_value (spelling_view c) b
-position_view (positions.BehindLetter l) = machine.behind_letter l
+position_view (positions.AfterLetter l) = machine.after_letter l
 position_view positions.AtCalled = machine.at_called
-position_view (positions.AtCall n) = machine.at_call n.items
-position_view (positions.AtArgument n) = machine.at_argument n.items
+position_view (positions.AtCall n) = machine.at_call n
+position_view (positions.AtArgument n) = machine.at_argument n
 position_view (positions.Done f) = machine.done (formula_view f)
 
 abbrev pub Machine : Type 0
@@ -158,18 +156,18 @@ Machine = machine.State made
 -- a state whose position does not matter
 abbrev pub context_view : Context → Machine
 context_view c = record {
-  around = frames_view c.around.items;
+  around = frames_view c.around.frames.items;
   body = body_view c.body;
-  system = c.system.items;
-  flaw = noted_view c.flaw;
+  system = c.around.system;
+  flaw = noted_view c.around.flaw;
   position = machine.at_operand;
 }
 
 abbrev pub state_view : State → Machine
 state_view s = record {
-  around = frames_view s.context.around.items;
+  around = frames_view s.context.around.frames.items;
   body = body_view s.context.body;
-  system = s.context.system.items;
-  flaw = noted_view s.context.flaw;
+  system = s.context.around.system;
+  flaw = noted_view s.context.around.flaw;
   position = position_view s.position;
 }

@@ -24,7 +24,7 @@ abbrev pub IsLetterPast : Bool → tokens.Token → Type 0
 IsLetterPast b (tokens.number v) = letter_bound b ≤ v
 IsLetterPast b _ = ⊥
 
--- the same where a letter is read, behind the `@` at a byte and a `-` or none
+-- the same where a letter is read, after the `@` at a byte and a `-` or none
 abbrev pub GivesLetter : ℕ → Bool → tokens.Token → Result State Stop → Option Machine → Type 0
 GivesLetter at b t (Ok s) o = (o ≡ Some (state_view s)) × IsLetterBelow b t
 GivesLetter at b t (Err stops.Syntax) o = o ≡ None

@@ -5,7 +5,7 @@ use Rattle.formula_parse.specs.Trees.{Names, no_names, names}
 use Rattle.formula_parse.specs.Making.{Kinds, Making}
 use Rattle.formula_parse.specs.Derivations.{Factor, variable, numeral, in_parens, Factors, no_factors, factors, Addends, no_addends, addends, Term, term, Terms, no_terms, terms, Index, index, Core, compare, words, word_letter, letter_word, call_none, call, not_closed, grouped, Closed, marked, Operands, no_operands, operands, Chains, no_chains, chains, Implications, no_implications, implications, Last, ends, quantified, Formula, formula}
 
--- the system in force behind some marks
+-- the system in force after some marks
 abbrev pub marks_system : Name → Names → Name
 marks_system y no_names = y
 marks_system y (names ms n) = n
@@ -14,7 +14,7 @@ abbrev pub tildes_system : Name → List Names → Name
 tildes_system y [] = y
 tildes_system y (ms ∷ st) = marks_system (tildes_system y st) ms
 
--- the system in force behind an operand: that of its last mark outside of parentheses
+-- the system in force after an operand: that of its last mark outside of parentheses
 abbrev mutual
   pub core_system : Name → Core → Name
   core_system y (not_closed c) = closed_system y c

@@ -32,7 +32,7 @@ pub data Token : Type 0 where
   name : Name → Token
   -- a numeral; 2 ^ 64 stands for each that is no less
   number : ℕ → Token
-  -- a system behind `?`, a name behind `$`
+  -- a system after `?`, a name after `$`
   system : Name → Token
   called : Name → Token
   mark : Token

@@ -1,5 +1,5 @@
 -- The trees of formulas.
-use Rattle.std.specs.Prelude.{ℕ, ℤ, List}
+use Rattle.std.specs.Prelude.{ℕ, ℤ}
 use Rattle.formula_parse.specs.Tokens.{Name, Relation, Quantifier, Sign}
 
 -- names in the order in which they stand; a list grows at its end
@@ -8,20 +8,29 @@ pub data Names : Type 0 where
   names : Names → Name → Names
 
 mutual
-  -- a sum is its addends, each with the sign behind it, and the last
+  -- a sum is its addends, each with the sign after it, and the last
   pub data Term : Type 0 where
     variable : Name → Term
     numeral : ℕ → Term
-    product : Terms → Term
+    product : Factors → Term
     sum : Addends → Term → Term
 
-  pub data Terms : Type 0 where
-    no_terms : Terms
-    terms : Terms → Term → Terms
+  pub data Factors : Type 0 where
+    no_factors : Factors
+    factors : Factors → Factor → Factors
+
+  -- what a product is multiplied by
+  pub data Factor : Type 0 where
+    times : Term → Factor
 
   pub data Addends : Type 0 where
     no_addends : Addends
     addends : Addends → Term → Sign → Addends
+
+-- the places of a word, and the arguments of a call
+pub data Terms : Type 0 where
+  no_terms : Terms
+  terms : Terms → Term → Terms
 
 -- a word at places
 pub record Index : Type 0 where
@@ -48,7 +57,7 @@ pub data Joint : Type 0 where
   iff : Joint
 
 mutual
-  -- a chain is its operands, each with the connective behind it, and the last; read from the left
+  -- a chain is its operands, each with the connective after it, and the last; read from the left
   pub data Formula : Type 0 where
     atom : Atom → Formula
     negated : Formula → Formula

@@ -1,7 +1,6 @@
 -- The trees that values stand for.
-use Rattle.std.specs.Prelude.{ℕ, List, map, Vec}
+use Rattle.std.specs.Prelude.{List, map}
 use Rattle.std.specs.List.{fold}
-use Rattle.std.specs.declared.alloc.Global.{Global}
 use Rattle.formula_parse.specs.Tokens as tokens
 use Rattle.formula_parse.specs.Trees as trees
 use Rattle.formula_parse.specs.declared.tree.Relation.{Relation}
@@ -13,8 +12,9 @@ use Rattle.formula_parse.specs.declared.tree.Sign.TheVariants as signs
 use Rattle.formula_parse.specs.declared.tree.Connective.{Connective}
 use Rattle.formula_parse.specs.declared.tree.Connective.TheVariants as connectives
 use Rattle.formula_parse.specs.declared.tree.Term.{Term}
-use Rattle.formula_parse.specs.declared.tree.Term.TheOpen as open_term
-use Rattle.formula_parse.specs.declared.tree.Term.TheFolds.{fold-Term}
+use Rattle.formula_parse.specs.declared.tree.Factor.TheOpen as open_term
+use Rattle.formula_parse.specs.declared.tree.Factor.TheFolds.{fold-Term, fold-Factor}
+use Rattle.formula_parse.specs.declared.tree.Factor.{Factor}
 use Rattle.formula_parse.specs.declared.tree.Addend.{Addend}
 use Rattle.formula_parse.specs.declared.tree.Index.{Index}
 use Rattle.formula_parse.specs.declared.tree.Fact.{Fact}
@@ -49,27 +49,36 @@ connective_view connectives.Implies = trees.implies
 connective_view connectives.Iff = trees.iff
 
 -- names in order
-abbrev pub names_view : List (Vec ℕ Global) → trees.Names
-names_view ns = fold (λ (ms : trees.Names) (n : Vec ℕ Global). trees.names ms n.items) trees.no_names ns
+abbrev pub names_view : List tokens.Name → trees.Names
+names_view ns = fold trees.names trees.no_names ns
 
--- an addend, and the sign behind it
+-- an addend, and the sign after it
 abbrev pub Signed : Type 0
 Signed = trees.Term × tokens.Sign
 
 abbrev pub with_addend : trees.Addends → Signed → trees.Addends
 with_addend ss a = trees.addends ss a.0 a.1
 
-abbrev pub term_step : open_term.Term-F trees.Term Signed → trees.Term
-term_step (open_term.Variable n) = trees.variable n.items
+abbrev pub term_step : open_term.Term-F trees.Factor trees.Term Signed → trees.Term
+term_step (open_term.Variable n) = trees.variable n
 term_step (open_term.Numeral n) = trees.numeral n
-term_step (open_term.Product all) = trees.product (fold trees.terms trees.no_terms all.items)
+term_step (open_term.Product all) = trees.product (fold trees.factors trees.no_factors all.items)
 term_step (open_term.Sum all last) = trees.sum (fold with_addend trees.no_addends all.items) last.value
 
-abbrev pub addend_step : open_term.Addend-F trees.Term Signed → Signed
+abbrev pub factor_step : open_term.Factor-F trees.Factor trees.Term Signed → trees.Factor
+factor_step (open_term.Times t) = trees.times t
+
+abbrev pub addend_step : open_term.Addend-F trees.Factor trees.Term Signed → Signed
 addend_step a = (a.term, sign_view a.sign)
 
 unfoldable pub term_view : Term → trees.Term
-term_view = fold-Term trees.Term Signed term_step addend_step
+term_view = fold-Term trees.Factor trees.Term Signed factor_step term_step addend_step
+
+unfoldable pub factor_view : Factor → trees.Factor
+factor_view = fold-Factor trees.Factor trees.Term Signed factor_step term_step addend_step
+
+abbrev pub factors_view : List Factor → trees.Factors
+factors_view ps = fold trees.factors trees.no_factors (map factor_view ps)
 
 abbrev pub terms_view : List Term → trees.Terms
 terms_view ts = fold trees.terms trees.no_terms (map term_view ts)
@@ -81,19 +90,19 @@ abbrev pub addends_view : List Addend → trees.Addends
 addends_view ss = fold with_addend trees.no_addends (map addend_view ss)
 
 abbrev pub index_view : Index → trees.Index
-index_view x = record { word = x.word.items; places = terms_view x.places.items }
+index_view x = record { word = x.word; places = terms_view x.places.items }
 
 abbrev pub fact_view : Fact → trees.Fact
 fact_view (facts.Compare t r u) = trees.compare (term_view t) (relation_view r) (term_view u)
 fact_view (facts.Words x r y) = trees.words (index_view x) (relation_view r) (index_view y)
 fact_view (facts.WordLetter x r l) = trees.word_letter (index_view x) (relation_view r) l
 fact_view (facts.LetterWord l r x) = trees.letter_word l (relation_view r) (index_view x)
-fact_view (facts.Call n ts) = trees.call n.items (terms_view ts.items)
+fact_view (facts.Call n ts) = trees.call n (terms_view ts.items)
 
 abbrev pub atom_view : Atom → trees.Atom
-atom_view a = record { system = a.system.items; fact = fact_view a.fact }
+atom_view a = record { system = a.system; fact = fact_view a.fact }
 
--- an operand, and the connective behind it
+-- an operand, and the connective after it
 abbrev pub Joined : Type 0
 Joined = trees.Formula × trees.Joint
 

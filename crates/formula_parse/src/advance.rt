@@ -3,49 +3,40 @@
 ghost use Rattle.std.specs.Prelude.{◌≡◌, ℕ, ◌^◌, min, Err};
 ghost use Rattle.formula_parse.specs.Tokens as tokens;
 ghost use Rattle.formula_parse.specs.Machine as machine;
-ghost use Rattle.formula_parse.specs.StateViews.{Machine, body_view, outers_view, place_view, position_view, state_view, token_view};
+ghost use Rattle.formula_parse.specs.StateViews.{Machine, outers_view, place_view, position_view, state_view, token_view};
 ghost use Rattle.formula_parse.specs.Grammar.{IsInRange};
 ghost use Rattle.formula_parse.specs.Advances.{Advances};
 
 use crate::fault::{ParseFault, Stop};
-use crate::state::{Body, Place, Position, Reading, State};
+use crate::state::{LIMIT, Nest, Place, Position, State};
 use crate::step::step;
 use crate::token::Token;
 use std::alloc::Global;
 
-/// The greatest nesting.
-const LIMIT: usize = 128;
-
-/// The nesting of the operand that comes, or `usize::MAX`.
-#[tactic(auto, using(crate::proofs::Words::inside))]
-fn place(body: &Body) -> usize
-    ensures { result ≡ min (machine.place (body_view body.now)) usize.MAX }
-{
-    usize::from(body.base).saturating_add(body.before.tildes.len())
-}
-
 /// The nesting of a term in one at a nesting, or `usize::MAX`.
 #[tactic(auto, using(crate::proofs::Depths::term_depth))]
-fn term_depth(reading: &Reading, place: usize) -> usize
+fn term_depth(nest: &Nest, place: usize) -> usize
     ensures { (d : ℕ) → place ≡ min d usize.MAX →
-        result ≡ min (machine.within_outer (outers_view reading.now.outer.items) (machine.within_where (place_view reading.now.place) d)) usize.MAX }
+        result ≡ min (machine.within_outer (outers_view nest.now.outer.items) (machine.within_where (place_view nest.now.place) d)) usize.MAX }
 {
-    let inner = match &reading.place {
+    let inner = match &nest.place {
         Place::LeftSide | Place::RightOf(_, _) => place,
-        Place::PlaceIn(_, _, _) | Place::Argument(_, _) => place.saturating_add(1),
+        Place::PlaceIn(_) | Place::Argument(_) => place.saturating_add(1),
     };
-    inner.saturating_add(reading.outer.len())
+    inner.saturating_add(nest.outer.len())
 }
 
 /// The nesting of a state, or `usize::MAX`.
 fn depth(state: &State) -> usize
     ensures { result ≡ min (machine.depth (state_view state.now)) usize.MAX }
 {
-    let place = place(&state.context.body);
+    let place = state.context.body.place();
     match &state.position {
         Position::AtVariable(_, _) | Position::AtArgument(_) => place.saturating_add(1),
-        Position::AtFactor(reading) => term_depth(reading, place),
-        Position::BehindFactor(reading, _, _) => term_depth(reading, place),
+        Position::AtFactor(reading) | Position::AfterFactor(reading, _) => term_depth(
+            &reading.nest,
+            place,
+        ),
         _ => place,
     }
 }
@@ -64,7 +55,7 @@ pub(crate) fn big_fault(position: &Position, at: usize) -> ParseFault
     }
 }
 
-/// The state behind a token in its range.
+/// The state after a token in its range.
 #[tactic(auto, using(crate::proofs::AdvanceSteps::advances_ok, crate::proofs::AdvanceSteps::advances_deep, crate::proofs::AdvanceSteps::advances_syntax, crate::proofs::AdvanceSteps::advances_letter, crate::proofs::AdvanceSteps::advances_depth))]
 fn advance_by(alloc: Global, state: State, token: Token, at: usize) -> Result<State, ParseFault>
     requires { IsInRange (tokens.here (token_view token) 0) }
@@ -84,14 +75,14 @@ fn advance_by(alloc: Global, state: State, token: Token, at: usize) -> Result<St
     }
 }
 
-/// The state behind a numeral below 2^64.
+/// The state after a numeral below 2^64.
 fn advance_number(alloc: Global, state: State, value: u64, at: usize) -> Result<State, ParseFault>
     ensures { Advances (state_view state) (tokens.number value) at result }
 {
     advance_by(alloc, state, Token::Number(value), at)
 }
 
-/// The state behind a token that begins at a byte, or the fault there.
+/// The state after a token that begins at a byte, or the fault there.
 pub(crate) fn advance(
     alloc: Global,
     state: State,

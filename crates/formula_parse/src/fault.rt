@@ -4,7 +4,8 @@ ghost use Rattle.std.specs.Prelude.{◌≡◌};
 ghost use Rattle.formula_parse.specs.declared.fault.ParseFault.TheVariants as faults;
 ghost use Rattle.formula_parse.specs.declared.fault.Stop.TheVariants as stops;
 
-use std::alloc::{AllocError, AllocFailed};
+use digit_tuple::faults::OutOfMemory;
+use std::alloc::AllocFailed;
 
 /// Why a text has no tree, with the byte of the fault.
 #[derive(Clone, Copy, Debug, PartialEq, Eq)]
@@ -23,18 +24,10 @@ pub enum ParseFault {
     Memory,
 }
 
-impl From<AllocError> for ParseFault {
+impl From<OutOfMemory> for ParseFault {
     ghost from_gives = { λ _ e. e ≡ faults.Memory };
 
-    fn from(_error: AllocError) -> ParseFault {
-        ParseFault::Memory
-    }
-}
-
-impl<T: Drop> From<AllocFailed<T>> for ParseFault {
-    ghost from_gives = { λ _ e. e ≡ faults.Memory };
-
-    fn from(_error: AllocFailed<T>) -> ParseFault {
+    fn from(_error: OutOfMemory) -> ParseFault {
         ParseFault::Memory
     }
 }
@@ -49,10 +42,10 @@ pub(crate) enum Stop {
     Memory,
 }
 
-impl From<AllocError> for Stop {
+impl From<OutOfMemory> for Stop {
     ghost from_gives = { λ _ e. e ≡ stops.Memory };
 
-    fn from(_error: AllocError) -> Stop {
+    fn from(_error: OutOfMemory) -> Stop {
         Stop::Memory
     }
 }

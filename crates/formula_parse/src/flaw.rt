@@ -66,7 +66,7 @@ impl Product {
         }
     }
 
-    /// Behind a factor, which is a numeral or is not, and a `*`.
+    /// After a factor, which is a numeral or is not, and a `*`.
     pub fn next(self, numeral: bool, star: usize) -> Product
         ensures { product_view result ≡ flaws.product_next (product_view self) numeral star }
     {
@@ -118,7 +118,7 @@ impl Came {
         }
     }
 
-    /// Whether a connective stands behind one that the chain does not mix it with.
+    /// Whether a connective follows one that the chain does not mix it with.
     pub fn mixes(self, sign: ChainSign) -> bool
         ensures { result ≡ flaws.mixes (chain_sign_view sign) (came_view self) }
     {

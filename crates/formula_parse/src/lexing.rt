@@ -1,29 +1,31 @@
 //! The tokens of a text, read one after the other.
 
-ghost use Rattle.std.specs.Prelude.{◌≡◌, ◌≤◌, ◌<◌, ◌^◌, false, ◌∷◌, drop, length, slice_index, IfOk, MatchOption};
-ghost use Rattle.formula_parse.specs.Bytes as bytes_of;
+ghost use Rattle.std.specs.Prelude.{◌≡◌, ◌≤◌, ◌<◌, ◌^◌, false, drop, length, slice_index, IsAscii, IfOk, MatchOption};
+ghost use Rattle.text_grammar.specs.Bytes.{is_blank};
 ghost use Rattle.formula_parse.specs.Spots as spots;
 ghost use Rattle.formula_parse.specs.StateViews.{token_view};
-ghost use Rattle.formula_parse.specs.LexemeViews.{is_in, mode_view, lexed_view, lexeme_view, name_maker, IsNext};
+ghost use Rattle.formula_parse.specs.LexemeViews.{mode_view, lexed_view, lexeme_view, name_maker, IsNext};
 
 use crate::token::{ChainSign, Token};
 use crate::tree::{Quantifier, Relation, Sign};
-use std::alloc::{AllocError, Global};
+use digit_tuple::faults::OutOfMemory;
+use digit_tuple::name::Name;
+use std::alloc::Global;
+use std::str;
+use text_grammar::{Class, front_len};
 
-/// Which bytes a front is made of.
-#[derive(Clone, Copy, Debug, PartialEq, Eq)]
-pub(crate) enum ByteClass {
-    Digit,
-    System,
-    Name,
-}
+/// The greatest length of a name.
+const LONGEST_NAME: usize = 64;
+
+/// The greatest length of a system.
+const LONGEST_SYSTEM: usize = 62;
 
 /// What stands before a token: a system may follow `?`, and a name `$`.
 #[derive(Clone, Copy, Debug, PartialEq, Eq)]
 pub(crate) enum Mode {
     Plain,
-    BehindMark,
-    BehindCall,
+    AfterMark,
+    AfterCall,
 }
 
 /// A token, or a numeral of 2^64 or more.
@@ -33,14 +35,14 @@ pub(crate) enum Lexed {
     Big,
 }
 
-/// A token that begins at a byte, and how many bytes beyond it has.
+/// A token that begins at a byte, and how many bytes it has.
 #[derive(Drop)]
 pub(crate) struct Lexeme {
     pub lexed: Lexed,
-    pub more: usize,
+    pub len: usize,
 }
 
-/// A token with the byte at which it begins, and the byte behind it.
+/// A token with the byte at which it begins, and the byte after it.
 #[derive(Drop)]
 pub(crate) struct Spot {
     pub lexed: Lexed,
@@ -48,41 +50,36 @@ pub(crate) struct Spot {
     pub end: usize,
 }
 
-fn is_blank(byte: u8) -> bool
-    ensures { result ≡ bytes_of.is_blank byte }
-{
-    byte == b' ' || byte == b'\t' || byte == b'\r' || byte == b'\n'
-}
-
-fn is_letter(byte: u8) -> bool
-    ensures { result ≡ bytes_of.is_letter byte }
-{
-    byte.is_ascii_alphabetic()
-}
-
-impl ByteClass {
-    fn contains(self, byte: u8) -> bool
-        ensures { result ≡ is_in self byte }
+impl Lexeme {
+    /// No token.
+    fn none() -> Lexeme
+        ensures { lexeme_view result ≡ spots.no_lexeme }
     {
-        match self {
-            ByteClass::Digit => byte.is_ascii_digit(),
-            ByteClass::System => byte.is_ascii_alphanumeric(),
-            ByteClass::Name => byte.is_ascii_alphanumeric() || byte == b'_',
+        Lexeme {
+            lexed: Lexed::Token(Token::Other),
+            len: 1,
         }
     }
-}
 
-/// How many bytes at the front are of a class.
-fn front_len(class: ByteClass, bytes: &[u8]) -> usize
-    ensures len { result ≡ bytes_of.front_len (is_in class) bytes.now }
-    ensures within { result ≤ length bytes.now }
-{
-    for (index, byte) in bytes.iter().enumerate() {
-        if !class.contains(*byte) {
-            return index;
+    /// A token of one byte.
+    fn short(token: Token) -> Lexeme
+        ensures { lexeme_view result ≡ spots.short (token_view token) }
+    {
+        Lexeme {
+            lexed: Lexed::Token(token),
+            len: 1,
         }
     }
-    bytes.len()
+
+    /// A token of two bytes.
+    fn long(token: Token) -> Lexeme
+        ensures { lexeme_view result ≡ spots.long (token_view token) }
+    {
+        Lexeme {
+            lexed: Lexed::Token(token),
+            len: 2,
+        }
+    }
 }
 
 /// The byte at a place, or 0.
@@ -92,20 +89,40 @@ fn byte_at(bytes: &[u8], place: usize) -> u8
     if place < bytes.len() { bytes[place] } else { 0 }
 }
 
-/// A byte and some that follow it.
-fn word(alloc: Global, first: u8, behind: &[u8]) -> Result<Vec<u8>, AllocError>
-    ensures { IfOk result (λ v. v.items ≡ first ∷ behind.now) }
+/// A name of ASCII bytes.
+fn name_of(alloc: Global, bytes: &[u8]) -> Result<Name, OutOfMemory>
+    requires { IsAscii bytes.now }
+    ensures { IfOk result (λ name. name ≡ bytes.now) }
 {
-    let mut word = Vec::new(alloc);
-    word.push(first)?;
-    word.extend_from_slice(behind)?;
-    Ok(word)
+    let text = str::from_utf8(bytes).unwrap();
+    Name::new(alloc, text)
+}
+
+/// A name of at most 64 bytes, after a `$` or elsewhere.
+#[tactic(auto, using(crate::proofs::Ascii::ascii_name))]
+fn name_lexeme(alloc: Global, called: bool, rest: &[u8]) -> Result<Lexeme, OutOfMemory>
+    ensures { IfOk result (λ l. lexeme_view l ≡ spots.name_lexeme (name_maker called) rest.now) }
+{
+    let len = front_len(Class::NameByte, rest);
+    if len > LONGEST_NAME {
+        return Ok(Lexeme::none());
+    }
+    let name = name_of(alloc, &rest[..len])?;
+    let token = if called {
+        Token::Called(name)
+    } else {
+        Token::Name(name)
+    };
+    Ok(Lexeme {
+        lexed: Lexed::Token(token),
+        len,
+    })
 }
 
 /// The number that some digits write, where it is below 2^64.
 #[tactic(auto, using(crate::proofs::SpotSteps::numeral_reaches))]
 fn numeral(digits: &[u8]) -> Option<u64>
-    ensures { MatchOption result (2 ^ 64 ≤ bytes_of.numeral 0 digits.now) (λ v. v ≡ bytes_of.numeral 0 digits.now) }
+    ensures { MatchOption result (2 ^ 64 ≤ spots.numeral 0 digits.now) (λ v. v ≡ spots.numeral 0 digits.now) }
 {
     let mut value: u64 = 0;
     for digit in digits {
@@ -120,71 +137,23 @@ fn numeral(digits: &[u8]) -> Option<u64>
     Some(value)
 }
 
-impl Lexeme {
-    fn none() -> Lexeme
-        ensures { lexeme_view result ≡ spots.no_lexeme }
-    {
-        Lexeme {
-            lexed: Lexed::Token(Token::Other),
-            more: 0,
-        }
-    }
-
-    fn short(token: Token) -> Lexeme
-        ensures { lexeme_view result ≡ spots.short (token_view token) }
-    {
-        Lexeme {
-            lexed: Lexed::Token(token),
-            more: 0,
-        }
-    }
-
-    fn long(token: Token) -> Lexeme
-        ensures { lexeme_view result ≡ spots.long (token_view token) }
-    {
-        Lexeme {
-            lexed: Lexed::Token(token),
-            more: 1,
-        }
-    }
-}
-
-/// A name of at most 64 bytes, behind a `$` or elsewhere.
-fn name_lexeme(alloc: Global, called: bool, first: u8, behind: &[u8]) -> Result<Lexeme, AllocError>
-    ensures { IfOk result (λ l. lexeme_view l ≡ spots.name_lexeme (name_maker called) first behind.now) }
+/// A numeral.
+fn number_lexeme(rest: &[u8]) -> Lexeme
+    ensures { lexeme_view result ≡ spots.number_lexeme rest.now }
 {
-    let more = front_len(ByteClass::Name, behind);
-    if more >= 64 {
-        return Ok(Lexeme::none());
-    }
-    let name = word(alloc, first, &behind[..more])?;
-    let token = if called {
-        Token::Called(name)
-    } else {
-        Token::Name(name)
-    };
-    Ok(Lexeme {
-        lexed: Lexed::Token(token),
-        more,
-    })
-}
-
-fn number_lexeme(alloc: Global, first: u8, behind: &[u8]) -> Result<Lexeme, AllocError>
-    ensures { IfOk result (λ l. lexeme_view l ≡ spots.number_lexeme first behind.now) }
-{
-    let more = front_len(ByteClass::Digit, behind);
-    let digits = word(alloc, first, &behind[..more])?;
-    let lexed = match numeral(&digits) {
+    let len = front_len(Class::Digit, rest);
+    let lexed = match numeral(&rest[..len]) {
         Some(value) => Lexed::Token(Token::Number(value)),
         None => Lexed::Big,
     };
-    Ok(Lexeme { lexed, more })
+    Lexeme { lexed, len }
 }
 
 /// `E`, `A`, or a variable or a word.
-fn letter_lexeme(alloc: Global, first: u8, behind: &[u8]) -> Result<Lexeme, AllocError>
-    ensures { IfOk result (λ l. lexeme_view l ≡ spots.letter_lexeme first behind.now) }
+fn letter_lexeme(alloc: Global, rest: &[u8]) -> Result<Lexeme, OutOfMemory>
+    ensures { IfOk result (λ l. lexeme_view l ≡ spots.letter_lexeme rest.now) }
 {
+    let first = byte_at(rest, 0);
     if first == b'E' {
         return Ok(Lexeme::short(Token::Quantifier(Quantifier::Exists)));
     }
@@ -194,7 +163,7 @@ fn letter_lexeme(alloc: Global, first: u8, behind: &[u8]) -> Result<Lexeme, Allo
     if first == b'I' {
         return Ok(Lexeme::none());
     }
-    name_lexeme(alloc, false, first, behind)
+    name_lexeme(alloc, false, rest)
 }
 
 /// The sign that a byte is, whatever follows.
@@ -230,7 +199,7 @@ fn sign_lexeme(at: usize, first: u8, second: u8, third: u8) -> Lexeme
             if third == b'>' {
                 Lexeme {
                     lexed: Lexed::Token(Token::Iff),
-                    more: 2,
+                    len: 3,
                 }
             } else {
                 Lexeme::long(Token::Relation(Relation::AtMost))
@@ -248,95 +217,105 @@ fn sign_lexeme(at: usize, first: u8, second: u8, third: u8) -> Lexeme
 }
 
 /// A token where neither a system nor a called name is looked for.
-fn plain_lexeme(alloc: Global, at: usize, first: u8, behind: &[u8]) -> Result<Lexeme, AllocError>
-    ensures { IfOk result (λ l. lexeme_view l ≡ spots.plain_lexeme at first behind.now) }
+fn plain_lexeme(alloc: Global, at: usize, rest: &[u8]) -> Result<Lexeme, OutOfMemory>
+    ensures { IfOk result (λ l. lexeme_view l ≡ spots.plain_lexeme at rest.now) }
 {
-    if ByteClass::Digit.contains(first) {
-        return number_lexeme(alloc, first, behind);
+    let first = byte_at(rest, 0);
+    if Class::Digit.contains(first) {
+        return Ok(number_lexeme(rest));
     }
-    if is_letter(first) {
-        return letter_lexeme(alloc, first, behind);
+    if Class::Letter.contains(first) {
+        return letter_lexeme(alloc, rest);
     }
-    Ok(sign_lexeme(at, first, byte_at(behind, 0), byte_at(behind, 1)))
+    Ok(sign_lexeme(at, first, byte_at(rest, 1), byte_at(rest, 2)))
 }
 
-/// How many bytes a system has beyond its first, or 0 where none begins.
-#[tactic(auto, using(crate::proofs::SpotSteps::system_short))]
-fn system_more(first: u8, behind: &[u8]) -> usize
-    ensures more { result ≡ spots.system_more first behind.now }
-    ensures within { result ≤ length behind.now }
+/// How many bytes at the front are letters and digits.
+fn alphanumeric_len(bytes: &[u8]) -> usize
+    ensures len { result ≡ spots.alphanumeric_len bytes.now }
+    ensures within { result ≤ length bytes.now }
 {
+    for (index, byte) in bytes.iter().enumerate() {
+        if !byte.is_ascii_alphanumeric() {
+            return index;
+        }
+    }
+    bytes.len()
+}
+
+/// How many bytes the system at the front has, or 0 where none stands there.
+#[tactic(auto, using(crate::proofs::SpotSteps::system_short))]
+fn system_len(rest: &[u8]) -> usize
+    ensures len { result ≡ spots.system_len rest.now }
+    ensures within { result ≤ length rest.now }
+{
+    let first = byte_at(rest, 0);
     let begins = (first == b'm' || first == b'l')
-        && byte_at(behind, 0) == b's'
-        && byte_at(behind, 1) == b'd'
-        && byte_at(behind, 2) == b'_';
-    if !begins || behind.len() < 3 {
+        && byte_at(rest, 1) == b's'
+        && byte_at(rest, 2) == b'd'
+        && byte_at(rest, 3) == b'_';
+    if !begins || rest.len() < 4 {
         return 0;
     }
-    let more = front_len(ByteClass::System, &behind[3..]);
-    if more == 0 { 0 } else { more + 3 }
+    let more = alphanumeric_len(&rest[4..]);
+    if more == 0 { 0 } else { more + 4 }
 }
 
-/// A token at a byte, given what stands before it.
-pub(crate) fn token_at(
-    alloc: Global,
-    mode: Mode,
-    at: usize,
-    first: u8,
-    behind: &[u8],
-) -> Result<Lexeme, AllocError>
-    ensures { IfOk result (λ l. lexeme_view l ≡ spots.lexeme (mode_view mode) at first behind.now) }
+/// A system of at most 62 bytes, or what stands there where none does.
+#[tactic(auto, using(crate::proofs::Ascii::ascii_system))]
+fn system_lexeme(alloc: Global, at: usize, rest: &[u8]) -> Result<Lexeme, OutOfMemory>
+    ensures { IfOk result (λ l. lexeme_view l ≡ spots.lexeme spots.after_mark at rest.now) }
+{
+    let len = system_len(rest);
+    if len == 0 {
+        return plain_lexeme(alloc, at, rest);
+    }
+    if len > LONGEST_SYSTEM {
+        return Ok(Lexeme::none());
+    }
+    let system = name_of(alloc, &rest[..len])?;
+    Ok(Lexeme {
+        lexed: Lexed::Token(Token::System(system)),
+        len,
+    })
+}
+
+/// The token that stands first in the rest of a text, which begins at the byte `at`.
+fn token_at(alloc: Global, mode: Mode, at: usize, rest: &[u8]) -> Result<Lexeme, OutOfMemory>
+    ensures { IfOk result (λ l. lexeme_view l ≡ spots.lexeme (mode_view mode) at rest.now) }
 {
     match mode {
-        Mode::Plain => plain_lexeme(alloc, at, first, behind),
-        Mode::BehindMark => {
-            let more = system_more(first, behind);
-            if more == 0 {
-                return plain_lexeme(alloc, at, first, behind);
-            }
-            if more >= 62 {
-                return Ok(Lexeme::none());
-            }
-            let system = word(alloc, first, &behind[..more])?;
-            Ok(Lexeme {
-                lexed: Lexed::Token(Token::System(system)),
-                more,
-            })
-        }
-        Mode::BehindCall => {
-            if is_letter(first) {
-                name_lexeme(alloc, true, first, behind)
+        Mode::Plain => plain_lexeme(alloc, at, rest),
+        Mode::AfterMark => system_lexeme(alloc, at, rest),
+        Mode::AfterCall => {
+            if Class::Letter.contains(byte_at(rest, 0)) {
+                name_lexeme(alloc, true, rest)
             } else {
-                plain_lexeme(alloc, at, first, behind)
+                plain_lexeme(alloc, at, rest)
             }
         }
     }
 }
 
 /// The first byte from `start` on that is no blank, or the text's length.
-#[tactic(auto, using(crate::proofs::SpotSteps::spots_blank))]
 fn blanks_end(text: &[u8], start: usize) -> usize
     requires { start ≤ length text.now }
     ensures within { result ≤ length text.now }
     ensures from { start ≤ result }
     ensures spots { (m : spots.Mode) → spots.spots_from m start 0 (drop start text.now) ≡ spots.spots_from m result 0 (drop result text.now) }
-    ensures stops { result < length text.now → bytes_of.is_blank (slice_index text.now result) ≡ false }
+    ensures stops { result < length text.now → is_blank (slice_index text.now result) ≡ false }
 {
-    let mut at = start;
-    while at < text.len() && is_blank(text[at]) {
-        at += 1;
-    }
-    at
+    start + front_len(Class::Blank, &text[start..])
 }
 
-/// The token at or behind `start`.
+/// The token at or after `start`.
 #[tactic(auto, using(crate::proofs::NextSteps::next_end, crate::proofs::NextSteps::next_token, crate::proofs::NextSteps::next_within))]
 pub(crate) fn next_spot(
     alloc: Global,
     text: &[u8],
     start: usize,
     mode: Mode,
-) -> Result<Spot, AllocError>
+) -> Result<Spot, OutOfMemory>
     requires { start ≤ length text.now }
     ensures { IfOk result (λ s. IsNext (mode_view mode) text.now start s) }
 {
@@ -348,10 +327,10 @@ pub(crate) fn next_spot(
             end: at,
         });
     }
-    let lexeme = token_at(alloc, mode, at, text[at], &text[at + 1..])?;
+    let lexeme = token_at(alloc, mode, at, &text[at..])?;
     Ok(Spot {
         lexed: lexeme.lexed,
         at,
-        end: at + 1 + lexeme.more,
+        end: at + lexeme.len,
     })
 }

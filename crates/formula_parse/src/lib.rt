@@ -1,19 +1,65 @@
-//! The formula language: its grammar, and one exact parser.
+//! The formula language: its grammar, and one exact parser. A text has a tree exactly where the grammar relates one to
+//! it, and never two; otherwise it has one fault, with its byte. The text is read once, token by token, by a machine
+//! whose states hold the trees made so far. Calls go no deeper than the nesting, which is at most 128, so long sums and
+//! chains cost no stack.
 #![tactic(auto)]
 
-mod advance;
-mod entering;
-mod fault;
-mod flaw;
-mod laws;
-mod leaving;
-mod lexing;
-mod making;
-mod parser;
-mod state;
-mod step;
-mod token;
+/// The trees of formulas.
 pub mod tree;
+
+/// Why a text has no tree.
+mod fault;
+
+/// The tokens of a formula.
+mod token;
+
+/// The tokens of a text, read one after the other.
+mod lexing;
+
+/// The faults of the second pass: mixed chains, and products of two unknowns.
+mod flaw;
+
+/// Trees made of their parts.
+mod making;
+
+/// The states of the machine that reads a formula.
+mod state;
+
+/// What stands before the next operand of a formula.
+mod front;
+
+/// The machine at a `)` or the end of the text, after a formula or a term.
+mod closings;
+
+/// The machine after an operand.
+mod operands;
+
+/// The machine where a factor begins, and after one.
+mod terms;
+
+/// The machine at words with places.
+mod indexes;
+
+/// The machine at letters.
+mod letters;
+
+/// The machine at calls.
+mod calls;
+
+/// The machine where an operand begins.
+mod beginnings;
+
+/// The machine at a token.
+mod step;
+
+/// The machine at a token, with its limits.
+mod advance;
+
+/// The parser, and its law.
+mod parser;
+
+/// Laws of the grammar.
+mod laws;
 
 pub use fault::ParseFault;
 pub use laws::{one_answer, published_grammar};

@@ -3,30 +3,39 @@
 ghost use Rattle.std.specs.Prelude.{◌≡◌, IfOk};
 ghost use Rattle.formula_parse.specs.Trees as trees;
 ghost use Rattle.formula_parse.specs.Grammar as grammar;
-ghost use Rattle.formula_parse.specs.Views.{term_view, terms_view, addends_view, formula_view, operands_view, names_view, sign_view, connective_view, quantifier_view, fact_view};
+ghost use Rattle.formula_parse.specs.Views.{term_view, terms_view, factors_view, addends_view, formula_view, operands_view, names_view, sign_view, connective_view, quantifier_view, fact_view};
 ghost use Rattle.formula_parse.specs.StateViews.{tildes_view};
 
-use crate::state::Before;
-use crate::tree::{
-    Addend, Atom, Connective, Fact, Formula, Index, Operand, Quantifier, Sign, Term,
-};
-use std::alloc::{AllocError, Global};
+use crate::state::{Before, Scope};
+use crate::tree::{Addend, Atom, Connective, Fact, Factor, Formula, Index, Operand, Sign, Term};
+use digit_tuple::faults::OutOfMemory;
+use digit_tuple::name::Name;
+use std::alloc::Global;
 
 /// The product of some factors and the last.
 #[tactic(auto, using(crate::proofs::MakingSteps::multiplied_none, crate::proofs::MakingSteps::multiplied_more))]
-pub fn multiplied(mut factors: Vec<Term>, last: Term) -> Result<Term, AllocError>
-    ensures { IfOk result (λ t. term_view t ≡ grammar.multiplied (terms_view factors.items) (term_view last)) }
+pub fn multiplied(mut factors: Vec<Factor>, last: Term) -> Result<Term, OutOfMemory>
+    ensures { IfOk result (λ t. term_view t ≡ grammar.multiplied (factors_view factors.items) (term_view last)) }
 {
     if factors.is_empty() {
         return Ok(last);
     }
-    factors.push(last)?;
+    factors.push(Factor::Times(last))?;
     Ok(Term::Product(factors))
+}
+
+/// The factors with one more.
+#[tactic(auto, using(crate::proofs::MakingSteps::times_more))]
+pub fn with_factor(mut factors: Vec<Factor>, term: Term) -> Result<Vec<Factor>, OutOfMemory>
+    ensures { IfOk result (λ v. factors_view v.items ≡ trees.factors (factors_view factors.items) (trees.times (term_view term))) }
+{
+    factors.push(Factor::Times(term))?;
+    Ok(factors)
 }
 
 /// The sum of some addends and the last.
 #[tactic(auto, using(crate::proofs::MakingSteps::summed_none, crate::proofs::MakingSteps::summed_more))]
-pub fn summed(alloc: Global, addends: Vec<Addend>, last: Term) -> Result<Term, AllocError>
+pub fn summed(alloc: Global, addends: Vec<Addend>, last: Term) -> Result<Term, OutOfMemory>
     ensures { IfOk result (λ t. term_view t ≡ grammar.summed (addends_view addends.items) (term_view last)) }
 {
     if addends.is_empty() {
@@ -40,7 +49,7 @@ pub fn with_addend(
     mut addends: Vec<Addend>,
     term: Term,
     sign: Sign,
-) -> Result<Vec<Addend>, AllocError>
+) -> Result<Vec<Addend>, OutOfMemory>
     ensures { IfOk result (λ v. addends_view v.items ≡ trees.addends (addends_view addends.items) (term_view term) (sign_view sign)) }
 {
     addends.push(Addend { term, sign })?;
@@ -49,7 +58,7 @@ pub fn with_addend(
 
 /// The chain of some operands and the last.
 #[tactic(auto, using(crate::proofs::MakingSteps::chained_none, crate::proofs::MakingSteps::chained_more))]
-pub fn chained(alloc: Global, operands: Vec<Operand>, last: Formula) -> Result<Formula, AllocError>
+pub fn chained(alloc: Global, operands: Vec<Operand>, last: Formula) -> Result<Formula, OutOfMemory>
     ensures { IfOk result (λ f. formula_view f ≡ grammar.chained (operands_view operands.items) (formula_view last)) }
 {
     if operands.is_empty() {
@@ -63,7 +72,7 @@ pub fn with_operand(
     mut operands: Vec<Operand>,
     formula: Formula,
     connective: Connective,
-) -> Result<Vec<Operand>, AllocError>
+) -> Result<Vec<Operand>, OutOfMemory>
     ensures { IfOk result (λ v. operands_view v.items ≡ trees.operands (operands_view operands.items) (formula_view formula) (connective_view connective)) }
 {
     operands.push(Operand {
@@ -73,13 +82,13 @@ pub fn with_operand(
     Ok(operands)
 }
 
-/// A formula behind some marks.
+/// A formula after some marks.
 #[tactic(auto, using(crate::proofs::MakingSteps::marks_none, crate::proofs::MakingSteps::marks_more))]
 pub fn under_marks(
     alloc: Global,
-    marks: Vec<Vec<u8>>,
+    marks: Vec<Name>,
     formula: Formula,
-) -> Result<Formula, AllocError>
+) -> Result<Formula, OutOfMemory>
     ensures { IfOk result (λ f. formula_view f ≡ grammar.under_marks (names_view marks.items) (formula_view formula)) }
 {
     if marks.is_empty() {
@@ -90,18 +99,18 @@ pub fn under_marks(
 
 /// The negation of a formula.
 #[tactic(auto, using(crate::proofs::ViewSteps::view_negated))]
-pub fn negated(alloc: Global, formula: Formula) -> Result<Formula, AllocError>
+pub fn negated(alloc: Global, formula: Formula) -> Result<Formula, OutOfMemory>
     ensures { IfOk result (λ f. formula_view f ≡ trees.negated (formula_view formula)) }
 {
     Ok(Formula::Negated(Box::new(alloc, formula)?))
 }
 
-/// A formula behind some `~`, the last first, each with the marks before it.
+/// A formula after some `~`, the last first, each with the marks before it.
 pub fn under_tildes(
     alloc: Global,
-    mut tildes: Vec<Vec<Vec<u8>>>,
+    mut tildes: Vec<Vec<Name>>,
     formula: Formula,
-) -> Result<Formula, AllocError>
+) -> Result<Formula, OutOfMemory>
     ensures { IfOk result (λ f. formula_view f ≡ grammar.under_tildes (tildes_view tildes.items) (formula_view formula)) }
 {
     match tildes.pop() {
@@ -116,27 +125,26 @@ pub fn under_tildes(
 
 /// A fact in a system.
 #[tactic(auto, using(crate::proofs::ViewSteps::view_atom))]
-pub fn atom(alloc: Global, system: &[u8], fact: Fact) -> Result<Formula, AllocError>
+pub fn atom(alloc: Global, system: &Name, fact: Fact) -> Result<Formula, OutOfMemory>
     ensures { IfOk result (λ f. formula_view f ≡ grammar.in_system system.now (fact_view fact)) }
 {
     Ok(Formula::Atom(Atom {
-        system: Vec::from_slice(alloc, system)?,
+        system: system.copy(alloc)?,
         fact,
     }))
 }
 
 /// A quantifier's formula.
 #[tactic(auto, using(crate::proofs::MakingSteps::scope_made))]
-fn scope(
-    alloc: Global,
-    quantifier: Quantifier,
-    mut names: Vec<Vec<u8>>,
-    last: Vec<u8>,
-    formula: Formula,
-) -> Result<Formula, AllocError>
-    ensures { IfOk result (λ f. formula_view f ≡ trees.quantified (quantifier_view quantifier)
-        (trees.names (names_view names.items) last.items) (formula_view formula)) }
+fn under_quantifier(alloc: Global, scope: Scope, formula: Formula) -> Result<Formula, OutOfMemory>
+    ensures { IfOk result (λ f. formula_view f ≡ trees.quantified (quantifier_view scope.quantifier)
+        (trees.names (names_view scope.names.items) scope.last) (formula_view formula)) }
 {
+    let Scope {
+        quantifier,
+        mut names,
+        last,
+    } = scope;
     names.push(last)?;
     Ok(Formula::Quantified(quantifier, names, Box::new(alloc, formula)?))
 }
@@ -145,24 +153,22 @@ fn scope(
 pub fn quantified(
     alloc: Global,
     before: Before,
-    quantifier: Quantifier,
-    names: Vec<Vec<u8>>,
-    last: Vec<u8>,
+    scope: Scope,
     formula: Formula,
-) -> Result<Formula, AllocError>
+) -> Result<Formula, OutOfMemory>
     ensures { IfOk result (λ f. formula_view f ≡ grammar.trees.quantified
         (tildes_view before.tildes.items) (names_view before.marks.items)
-        (quantifier_view quantifier) (names_view names.items) last.items (formula_view formula)) }
+        (quantifier_view scope.quantifier) (names_view scope.names.items) scope.last (formula_view formula)) }
 {
-    let scope = scope(alloc, quantifier, names, last, formula)?;
-    let marked = under_marks(alloc, before.marks, scope)?;
+    let quantified = under_quantifier(alloc, scope, formula)?;
+    let marked = under_marks(alloc, before.marks, quantified)?;
     let whole = under_tildes(alloc, before.tildes, marked)?;
     Ok(whole)
 }
 
 /// A word at some places and a last one.
-pub fn index(word: Vec<u8>, mut places: Vec<Term>, last: Term) -> Result<Index, AllocError>
-    ensures word { IfOk result (λ x. x.word.items ≡ word.items) }
+pub fn index(word: Name, mut places: Vec<Term>, last: Term) -> Result<Index, OutOfMemory>
+    ensures word { IfOk result (λ x. x.word ≡ word) }
     ensures places { IfOk result (λ x. terms_view x.places.items ≡ trees.terms (terms_view places.items) (term_view last)) }
 {
     places.push(last)?;

@@ -1,10 +1,10 @@
-//! The parser.
+//! The parser: one token after the other, until the text ends or a token is refused.
 
 ghost use Rattle.std.specs.Prelude.{◌≡◌, ◌↔◌, IsTrue, IfOk};
 ghost use Rattle.formula_parse.specs.Tokens as tokens;
 ghost use Rattle.formula_parse.specs.Machine as machine;
 ghost use Rattle.formula_parse.specs.Grammar.{trees, default_system};
-ghost use Rattle.formula_parse.specs.Spots.{mode_behind};
+ghost use Rattle.formula_parse.specs.Spots.{mode_after};
 ghost use Rattle.formula_parse.specs.StateViews.{position_view, state_view};
 ghost use Rattle.formula_parse.specs.LexemeViews.{lexed_view, mode_view};
 ghost use Rattle.formula_parse.specs.Advances.{IsDone, Finishes};
@@ -14,25 +14,29 @@ use crate::advance::{advance, big_fault};
 use crate::fault::ParseFault;
 use crate::flaw::Flaw;
 use crate::lexing::{Lexed, Mode, Spot, next_spot};
-use crate::state::{Body, Context, Position, State};
+use crate::state::{Around, Body, Context, Position, State};
 use crate::token::Token;
 use crate::tree::Formula;
-use std::alloc::{AllocError, Global};
+use digit_tuple::faults::OutOfMemory;
+use digit_tuple::name::Name;
+use std::alloc::Global;
 
 impl State {
     /// Nothing has come.
-    fn start(alloc: Global) -> Result<State, AllocError>
+    fn start(alloc: Global) -> Result<State, OutOfMemory>
         ensures { IfOk result (λ s. state_view s ≡ machine.start trees default_system) }
     {
-        let system = Vec::from_slice(alloc, b"msd_2")?;
-        let context = Context {
-            around: Vec::new(alloc),
-            body: Body::fresh(alloc, 0),
+        let system = Name::new(alloc, "msd_2")?;
+        let around = Around {
+            frames: Vec::new(alloc),
             system,
             flaw: None,
         };
         Ok(State {
-            context,
+            context: Context {
+                around,
+                body: Body::fresh(alloc, 0),
+            },
             position: Position::AtOperand,
         })
     }
@@ -40,12 +44,12 @@ impl State {
 
 impl Lexed {
     /// What stands before the next token.
-    fn mode_behind(&self) -> Mode
-        ensures { mode_view result ≡ mode_behind (lexed_view self.now) }
+    fn mode_after(&self) -> Mode
+        ensures { mode_view result ≡ mode_after (lexed_view self.now) }
     {
         match self {
-            Lexed::Token(Token::Mark) => Mode::BehindMark,
-            Lexed::Token(Token::CallSign) => Mode::BehindCall,
+            Lexed::Token(Token::Mark) => Mode::AfterMark,
+            Lexed::Token(Token::CallSign) => Mode::AfterCall,
             _ => Mode::Plain,
         }
     }
@@ -64,7 +68,7 @@ fn finish(state: State) -> Result<Formula, ParseFault>
 {
     let State { context, position } = state;
     match position {
-        Position::Done(formula) => match context.flaw {
+        Position::Done(formula) => match context.around.flaw {
             None => Ok(formula),
             Some(Flaw::MixedChain(at)) => Err(ParseFault::MixedChain(at)),
             Some(Flaw::NotLinear(at)) => Err(ParseFault::NotLinear(at)),
@@ -73,8 +77,13 @@ fn finish(state: State) -> Result<Formula, ParseFault>
     }
 }
 
-/// The tree of a text, where the grammar relates one to it. Otherwise `Syntax`, `Number` or `Depth` at the first token
-/// that decides, or, where none does, `MixedChain` or `NotLinear` at the least byte; or `Memory`.
+/// The tree of a text, where the grammar relates one to it. Any bytes are a text; a formula that names no system stands
+/// in `msd_2`.
+///
+/// Otherwise `Syntax`, `Number` or `Depth` at the first token that decides; where none does, `MixedChain` or `NotLinear`
+/// at the least byte. `Memory` where a growth was refused.
+///
+/// Time and memory grow with the length of the text.
 pub fn parse(alloc: Global, text: &[u8]) -> Result<Formula, ParseFault>
     ensures { Parses text.now result }
 {
@@ -87,7 +96,7 @@ pub fn parse(alloc: Global, text: &[u8]) -> Result<Formula, ParseFault>
             at: byte,
             end,
         } = next_spot(alloc, text, at, mode)?;
-        mode = lexed.mode_behind();
+        mode = lexed.mode_after();
         let ends = lexed.is_end();
         let token = match lexed {
             Lexed::Token(token) => token,
@@ -105,7 +114,7 @@ pub fn parse(alloc: Global, text: &[u8]) -> Result<Formula, ParseFault>
     }
 }
 
-/// No text has two trees.
+/// No text has two trees. The call does nothing.
 pub fn one_tree()
     ensures { OneTree }
 {}

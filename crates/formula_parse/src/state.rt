@@ -1,11 +1,16 @@
 //! The states of the machine that reads a formula: what is open, what was read, and where it stands.
 
 use crate::flaw::{Came, Flaw, Product};
-use crate::tree::{Addend, Formula, Index, Operand, Quantifier, Relation, Term};
+use crate::tree::{Addend, Factor, Formula, Index, Operand, Quantifier, Relation, Term};
+use digit_tuple::name::Name;
 
-/// What stands before the next operand of a formula.
+/// The greatest nesting.
+pub(crate) const LIMIT: usize = 128;
+
+/// What stands before the next operand of a formula, and the formula's nesting.
 #[derive(Drop)]
 pub(crate) struct Front {
+    pub base: u8,
     pub implications: Vec<Operand>,
     pub chains: Vec<Operand>,
     pub operands: Vec<Operand>,
@@ -13,44 +18,51 @@ pub(crate) struct Front {
     pub implied: bool,
 }
 
-/// What stands before the core of an operand: the marks before each of its `~`, and those behind them.
+/// What stands before the core of an operand: the marks before each of its `~`, and those after them.
 #[derive(Drop)]
 pub(crate) struct Before {
-    pub tildes: Vec<Vec<Vec<u8>>>,
-    pub marks: Vec<Vec<u8>>,
+    pub tildes: Vec<Vec<Name>>,
+    pub marks: Vec<Name>,
 }
 
-/// A formula that is being read: its nesting, what stands before the operand and the core that come, and whether
-/// anything has come.
+/// A formula that is being read: what stands before the operand and the core that come, and whether anything has come.
 #[derive(Drop)]
 pub(crate) struct Body {
-    pub base: u8,
     pub front: Front,
     pub before: Before,
     pub touched: bool,
+}
+
+/// A quantifier with its variables: those before the last, and the last.
+#[derive(Drop)]
+pub(crate) struct Scope {
+    pub quantifier: Quantifier,
+    pub names: Vec<Name>,
+    pub last: Name,
 }
 
 /// A formula inside of which another one was opened.
 #[derive(Drop)]
 pub(crate) enum Frame {
     /// By a parenthesis, with the system in force before it.
-    Paren(Body, Vec<u8>),
-    Scope(Quantifier, Vec<Vec<u8>>, Vec<u8>, Body),
+    Paren(Body, Name),
+    /// By a quantifier.
+    Quantified(Scope, Body),
 }
 
-/// A term inside of which a parenthesis was opened.
+/// What stands before the next factor of a term: the products before its own, and the factors before it.
 #[derive(Drop)]
-pub(crate) struct Outer {
+pub(crate) struct Sum {
     pub addends: Vec<Addend>,
-    pub factors: Vec<Term>,
+    pub factors: Vec<Factor>,
     pub product: Product,
 }
 
-/// What stands before the index on the right.
+/// What stands on the left of the index that comes.
 #[derive(Drop)]
 pub(crate) enum Aim {
-    AfterIndex(Index, Relation),
-    AfterLetter(i32, Relation),
+    LeftIndex(Index, Relation),
+    LeftLetter(i32, Relation),
 }
 
 /// Which of the two indices of an atom.
@@ -60,13 +72,49 @@ pub(crate) enum Side {
     Second(Aim),
 }
 
+/// A word, and its places before the one that comes.
+#[derive(Drop)]
+pub(crate) struct Places {
+    pub side: Side,
+    pub word: Name,
+    pub places: Vec<Term>,
+}
+
+/// A called name, and its arguments before the one that comes.
+#[derive(Drop)]
+pub(crate) struct Arguments {
+    pub name: Name,
+    pub terms: Vec<Term>,
+}
+
 /// Where a term stands.
 #[derive(Drop)]
 pub(crate) enum Place {
     LeftSide,
     RightOf(Term, Relation),
-    PlaceIn(Side, Vec<u8>, Vec<Term>),
-    Argument(Vec<u8>, Vec<Term>),
+    PlaceIn(Places),
+    Argument(Arguments),
+}
+
+/// Where a term stands, and the terms around it, each with a parenthesis open.
+#[derive(Drop)]
+pub(crate) struct Nest {
+    pub place: Place,
+    pub outer: Vec<Sum>,
+}
+
+/// A term that is being read: where it stands, and what of it stands before the factor that comes.
+#[derive(Drop)]
+pub(crate) struct Reading {
+    pub nest: Nest,
+    pub sum: Sum,
+}
+
+/// A factor or a term that was read, and whether it is a numeral, maybe in parentheses.
+#[derive(Drop)]
+pub(crate) struct Part {
+    pub term: Term,
+    pub numeral: bool,
 }
 
 /// Where a letter stands.
@@ -76,48 +124,53 @@ pub(crate) enum Spelling {
     OnRight(Index, Relation),
 }
 
-/// A term that is being read: where it stands, the terms around it, and its products and factors before the next.
-#[derive(Drop)]
-pub(crate) struct Reading {
-    pub place: Place,
-    pub outer: Vec<Outer>,
-    pub addends: Vec<Addend>,
-    pub factors: Vec<Term>,
-    pub product: Product,
+/// A letter as it is written: the byte of its `@`, whether a `-` follows, and the numeral.
+#[derive(Clone, Copy, Debug, PartialEq, Eq)]
+pub(crate) struct Letter {
+    pub at: usize,
+    pub negative: bool,
+    pub value: u64,
 }
 
+/// Where the machine stands, with what was read since the last operand.
 #[derive(Drop)]
 pub(crate) enum Position {
     AtOperand,
     AtSystem,
-    AtVariable(Quantifier, Vec<Vec<u8>>),
-    BehindOperand(Formula),
+    AtVariable(Quantifier, Vec<Name>),
+    AfterOperand(Formula),
     /// A name that begins an operand: a variable or a word.
-    BehindFirst(Vec<u8>),
+    AfterFirst(Name),
     AtFactor(Reading),
-    /// And the factor, and whether it is a numeral.
-    BehindFactor(Reading, Term, bool),
-    BehindIndex(Side, Vec<u8>, Vec<Term>, Term),
+    AfterFactor(Reading, Part),
+    AfterIndex(Places, Term),
     AtWord(Aim),
-    AtBracket(Aim, Vec<u8>),
+    AtBracket(Aim, Name),
     AtLetter(Spelling, usize),
     AtValue(Spelling, usize),
-    BehindLetter(i32),
+    AfterLetter(i32),
     AtCalled,
-    AtCall(Vec<u8>),
-    AtArgument(Vec<u8>),
+    AtCall(Name),
+    AtArgument(Name),
     Done(Formula),
 }
 
-/// What is open, the system in force and the least flaw so far.
+/// What is open around a formula, the system in force and the least flaw so far.
 #[derive(Drop)]
-pub(crate) struct Context {
-    pub around: Vec<Frame>,
-    pub body: Body,
-    pub system: Vec<u8>,
+pub(crate) struct Around {
+    pub frames: Vec<Frame>,
+    pub system: Name,
     pub flaw: Option<Flaw>,
 }
 
+/// A formula that is being read, and what is around it.
+#[derive(Drop)]
+pub(crate) struct Context {
+    pub around: Around,
+    pub body: Body,
+}
+
+/// A state of the machine.
 #[derive(Drop)]
 pub(crate) struct State {
     pub context: Context,

@@ -3,6 +3,7 @@
 ghost use Rattle.std.specs.Prelude.{◌≡◌};
 
 use crate::tree::{Connective, Quantifier, Relation, Sign};
+use digit_tuple::name::Name;
 
 /// The connectives of a chain.
 #[derive(Clone, Copy, Debug, PartialEq, Eq)]
@@ -16,13 +17,13 @@ pub(crate) enum ChainSign {
 #[derive(Drop)]
 pub(crate) enum Token {
     /// A variable or a word.
-    Name(Vec<u8>),
+    Name(Name),
     /// A numeral below 2^64.
     Number(u64),
-    /// The system behind a `?`.
-    System(Vec<u8>),
-    /// The name behind a `$`.
-    Called(Vec<u8>),
+    /// The system after a `?`.
+    System(Name),
+    /// The name after a `$`.
+    Called(Name),
     Mark,
     CallSign,
     Negation,

@@ -1,37 +1,54 @@
-//! The trees of formulas.
+//! The trees of formulas. Parentheses leave no mark, and a list of one item is that item.
+
+use digit_tuple::name::Name;
 
 /// How the two sides of an atom compare.
 #[derive(Clone, Copy, Debug, PartialEq, Eq)]
 pub enum Relation {
+    /// `=`
     Equal,
+    /// `!=`
     Unequal,
+    /// `<`
     Less,
+    /// `>`
     Greater,
+    /// `<=`
     AtMost,
+    /// `>=`
     AtLeast,
 }
 
-/// `E` or `A`.
+/// A quantifier.
 #[derive(Clone, Copy, Debug, PartialEq, Eq)]
 pub enum Quantifier {
+    /// `E`
     Exists,
+    /// `A`
     ForAll,
 }
 
 /// The sign between two addends.
 #[derive(Clone, Copy, Debug, PartialEq, Eq)]
 pub enum Sign {
+    /// `+`
     Plus,
+    /// `-`
     Minus,
 }
 
-/// `&`, `|`, `^`, `=>` and `<=>`.
+/// What stands between two operands.
 #[derive(Clone, Copy, Debug, PartialEq, Eq)]
 pub enum Connective {
+    /// `&`
     And,
+    /// `|`
     Or,
+    /// `^`
     Xor,
+    /// `=>`
     Implies,
+    /// `<=>`
     Iff,
 }
 
@@ -39,59 +56,89 @@ pub enum Connective {
 #[derive(Drop)]
 #[cycle(terms)]
 pub enum Term {
-    Variable(Vec<u8>),
+    /// A variable.
+    Variable(Name),
+    /// A numeral.
     Numeral(u64),
-    Product(Vec<Term>),
+    /// The product of its factors.
+    Product(Vec<Factor>),
+    /// The addends before the last, and the last; read from the left.
     Sum(Vec<Addend>, Box<Term>),
 }
 
-/// An addend, with the sign behind it.
+/// What a product is multiplied by.
+#[derive(Drop)]
+#[cycle(terms)]
+pub enum Factor {
+    /// A term.
+    Times(Term),
+}
+
+/// An addend, with the sign after it.
 #[derive(Drop)]
 #[cycle(terms)]
 pub struct Addend {
+    /// The addend.
     pub term: Term,
+    /// The sign between it and the next.
     pub sign: Sign,
 }
 
-/// A word at places.
+/// A word at places, one at least.
 #[derive(Drop)]
 pub struct Index {
-    pub word: Vec<u8>,
+    /// The word's name.
+    pub word: Name,
+    /// The places, each in brackets of its own.
     pub places: Vec<Term>,
 }
 
 /// What an atom says.
 #[derive(Drop)]
 pub enum Fact {
+    /// Two terms compare so.
     Compare(Term, Relation, Term),
+    /// The letters of two words at places compare so.
     Words(Index, Relation, Index),
+    /// The letter of a word at places compares so to a letter.
     WordLetter(Index, Relation, i32),
+    /// A letter compares so to the letter of a word at places.
     LetterWord(i32, Relation, Index),
-    Call(Vec<u8>, Vec<Term>),
+    /// What the automaton of this name says of the terms.
+    Call(Name, Vec<Term>),
 }
 
 /// A fact, in the system in force at its place.
 #[derive(Drop)]
 pub struct Atom {
-    pub system: Vec<u8>,
+    /// The system's name.
+    pub system: Name,
+    /// The fact.
     pub fact: Fact,
 }
 
-/// A formula. A chain is read from the left.
+/// A formula.
 #[derive(Drop)]
 #[cycle(formulas)]
 pub enum Formula {
+    /// An atom.
     Atom(Atom),
+    /// A negation.
     Negated(Box<Formula>),
+    /// The operands before the last, one at least, and the last; read from the left.
     Chain(Vec<Operand>, Box<Formula>),
-    Quantified(Quantifier, Vec<Vec<u8>>, Box<Formula>),
-    Marked(Vec<Vec<u8>>, Box<Formula>),
+    /// A quantifier with its variables, one at least, and what it takes.
+    Quantified(Quantifier, Vec<Name>, Box<Formula>),
+    /// The systems of some `?` marks, one at least, and the operand that they stand before.
+    Marked(Vec<Name>, Box<Formula>),
 }
 
-/// An operand of a chain, with the connective behind it.
+/// An operand of a chain, with the connective after it.
 #[derive(Drop)]
 #[cycle(formulas)]
 pub struct Operand {
+    /// The operand.
     pub formula: Formula,
+    /// The connective between it and the next.
     pub connective: Connective,
 }

@@ -1,24 +1,20 @@
 //! Texts and their trees. A tree is written with each part in parentheses, and each atom in braces after its system.
 
+use digit_tuple::name::Name;
 use formula_parse::parse;
-use formula_parse::tree::{Connective, Fact, Formula, Index, Quantifier, Relation, Sign, Term};
+use formula_parse::tree::{
+    Connective, Fact, Factor, Formula, Index, Quantifier, Relation, Sign, Term,
+};
 use std::alloc::{AllocError, Global};
 use std::test::Fail;
 
-fn write_name(name: &[u8], out: &mut String) -> Result<(), AllocError> {
-    for byte in name {
-        out.push(char::from(*byte))?;
-    }
-    Ok(())
-}
-
-fn write_names(names: &[Vec<u8>], between: char, out: &mut String) -> Result<(), AllocError> {
+fn write_names(names: &[Name], between: char, out: &mut String) -> Result<(), AllocError> {
     let mut first = true;
     for name in names {
         if !first {
             out.push(between)?;
         }
-        write_name(name, out)?;
+        out.push_str(name.as_str())?;
         first = false;
     }
     Ok(())
@@ -68,14 +64,14 @@ fn write_opening(times: usize, out: &mut String) -> Result<(), AllocError> {
 
 fn write_term(alloc: Global, term: &Term, out: &mut String) -> Result<(), AllocError> {
     match term {
-        Term::Variable(name) => write_name(name, out),
+        Term::Variable(name) => out.push_str(name.as_str()),
         Term::Numeral(value) => {
             let digits = value.to_string(alloc)?;
             out.push_str(&digits)
         }
         Term::Product(factors) => {
             let mut before = '(';
-            for factor in factors {
+            for Factor::Times(factor) in factors {
                 out.push(before)?;
                 write_term(alloc, factor, out)?;
                 before = '*';
@@ -100,7 +96,7 @@ fn write_term(alloc: Global, term: &Term, out: &mut String) -> Result<(), AllocE
 }
 
 fn write_index(alloc: Global, index: &Index, out: &mut String) -> Result<(), AllocError> {
-    write_name(&index.word, out)?;
+    out.push_str(index.word.as_str())?;
     for place in &index.places {
         out.push('[')?;
         write_term(alloc, place, out)?;
@@ -139,7 +135,7 @@ fn write_fact(alloc: Global, fact: &Fact, out: &mut String) -> Result<(), AllocE
         }
         Fact::Call(name, arguments) => {
             out.push('$')?;
-            write_name(name, out)?;
+            out.push_str(name.as_str())?;
             out.push('(')?;
             let mut first = true;
             for argument in arguments {
@@ -158,7 +154,7 @@ fn write_formula(alloc: Global, formula: &Formula, out: &mut String) -> Result<(
     match formula {
         Formula::Atom(atom) => {
             out.push('{')?;
-            write_name(&atom.system, out)?;
+            out.push_str(atom.system.as_str())?;
             out.push(' ')?;
             write_fact(alloc, &atom.fact, out)?;
             out.push('}')

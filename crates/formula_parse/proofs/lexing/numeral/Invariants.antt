@@ -1,5 +1,5 @@
 use Rattle.std.proofs.Common.{◌≡◌, drop}
-use Rattle.formula_parse.specs.Bytes.{numeral}
+use Rattle.formula_parse.specs.Spots.{numeral}
 use Rattle.formula_parse.proofs.lexing.numeral.Given as goal
 
 abbrev pub invariant-loop-digit : goal.invariant-loop-digit

@@ -80,7 +80,7 @@ loop-state-preserved c =
     place_next
     c.args.text.now
     (mode_view c.loop-state.mode)
-    (mode_view c.mode_behind-mode.result)
+    (mode_view c.mode_after-mode.result)
     c.loop-state.at
     s
     r
@@ -88,5 +88,5 @@ loop-state-preserved c =
     c.loop-state.invariant
     c.in_ok-lexed.ensures
     (subst (λ (t : tokens.Token). Advances s t r.at (Ok c.in-Ok.next)) (sym (ap lexed_view c.in-Token.is)) c.in-Ok.ensures)
-    c.mode_behind-mode.ensures
+    c.mode_after-mode.ensures
     (λ h. let yes = c.is_end-ends.ensures.1 h in absurd (cc c.if-ends.false))

@@ -1,11 +1,11 @@
-use Rattle.std.proofs.Common.{◌≡◌, ◌∙◌, ap, subst, Option}
+use Rattle.std.proofs.Common.{◌∙◌, ap, subst, Option}
 use Rattle.formula_parse.specs.Trees as trees
 use Rattle.formula_parse.specs.Grammar.{trees as making}
 use Rattle.formula_parse.specs.Machine as machine
 use Rattle.formula_parse.specs.StateViews.{Machine, token_view, front_view, context_view}
 use Rattle.formula_parse.specs.Stops.{Gives}
 use Rattle.formula_parse.proofs.Words.{leave_based}
-use Rattle.formula_parse.proofs.leaving.leave.Goals as goal
+use Rattle.formula_parse.proofs.operands.leave.Goals as goal
 
 pub returns : goal.returns
 returns c =
@@ -15,7 +15,7 @@ returns c =
     subst
     (λ (o : Option Machine). Gives c.leave_closed.result o)
     (ap
-    (λ (z : trees.Formula). machine.leave_closed making (record s { body = machine.fresh making c.args.context.body.base }) r z t)
+    (λ (z : trees.Formula). machine.leave_closed making (record s { body = machine.fresh making c.args.context.body.front.base }) r z t)
     c.in_ok-closed.ensures
     ∙ leave_based making s r _ t)
     c.leave_closed.ensures

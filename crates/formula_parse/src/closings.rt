@@ -1,0 +1,109 @@
+//! The machine at a `)` or the end of the text, after a formula or a term.
+
+ghost use Rattle.std.specs.Prelude.{◌≡◌};
+ghost use Rattle.formula_parse.specs.Grammar.{trees};
+ghost use Rattle.formula_parse.specs.Machine as machine;
+ghost use Rattle.formula_parse.specs.Views.{term_view, formula_view};
+ghost use Rattle.formula_parse.specs.StateViews.{token_view, noted_view, frames_view, context_view};
+ghost use Rattle.formula_parse.specs.Stops.{Gives};
+
+use crate::fault::Stop;
+use crate::making::quantified;
+use crate::state::{
+    Around, Body, Context, Frame, Nest, Part, Place, Position, Reading, State, Sum,
+};
+use crate::token::Token;
+use crate::tree::Formula;
+use digit_tuple::name::Name;
+use std::alloc::Global;
+
+/// A `)` or the end of the text after a formula. The quantifiers that it ends are closed one after the other.
+pub(crate) fn close(
+    alloc: Global,
+    around: Around,
+    formula: Formula,
+    token: Token,
+) -> Result<State, Stop>
+    ensures { Gives result (machine.close trees (noted_view around.flaw) (frames_view around.frames.items) (formula_view formula) (token_view token)) }
+{
+    let Around {
+        mut frames,
+        system,
+        flaw,
+    } = around;
+    match frames.pop() {
+        None => match token {
+            Token::End => {
+                let system = Name::new(alloc, "")?;
+                Ok(State {
+                    context: Context {
+                        around: Around {
+                            frames,
+                            system,
+                            flaw,
+                        },
+                        body: Body::fresh(alloc, 0),
+                    },
+                    position: Position::Done(formula),
+                })
+            }
+            _ => Err(Stop::Syntax),
+        },
+        Some(Frame::Paren(body, system)) => match token {
+            Token::Closing => Ok(State {
+                context: Context {
+                    around: Around {
+                        frames,
+                        system,
+                        flaw,
+                    },
+                    body,
+                },
+                position: Position::AfterOperand(formula),
+            }),
+            _ => Err(Stop::Syntax),
+        },
+        Some(Frame::Quantified(scope, body)) => {
+            let core = quantified(alloc, body.before, scope, formula)?;
+            let whole = body.front.whole(alloc, core)?;
+            let around = Around {
+                frames,
+                system,
+                flaw,
+            };
+            close(alloc, around, whole, token)
+        }
+    }
+}
+
+/// A `)` after a term that is no side of a relation: its parenthesis was a term's.
+pub(crate) fn close_term(alloc: Global, context: Context, part: Part) -> Result<State, Stop>
+    ensures { Gives result (machine.close_term trees (context_view context) (frames_view context.around.frames.items) context.body.touched (term_view part.term) part.numeral) }
+{
+    let Context { around, body } = context;
+    let Around {
+        mut frames,
+        system: _,
+        flaw,
+    } = around;
+    match frames.pop() {
+        Some(Frame::Paren(outer, system)) => {
+            if body.touched {
+                return Err(Stop::Syntax);
+            }
+            let reading = Reading::start(alloc, Place::LeftSide);
+            Ok(State {
+                context: Context {
+                    around: Around {
+                        frames,
+                        system,
+                        flaw,
+                    },
+                    body: outer,
+                },
+                position: Position::AfterFactor(reading, part),
+            })
+        }
+        _ => Err(Stop::Syntax),
+    }
+}

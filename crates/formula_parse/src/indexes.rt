@@ -1,0 +1,117 @@
+//! The machine at words with places, on the left or on the right of a relation.
+
+ghost use Rattle.std.specs.Prelude.{◌≡◌};
+ghost use Rattle.formula_parse.specs.Grammar.{trees};
+ghost use Rattle.formula_parse.specs.Machine as machine;
+ghost use Rattle.formula_parse.specs.Views.{term_view, terms_view, index_view};
+ghost use Rattle.formula_parse.specs.StateViews.{token_view, aim_view, side_view, context_view};
+ghost use Rattle.formula_parse.specs.Stops.{Gives};
+
+use crate::fault::Stop;
+use crate::making::{atom, index};
+use crate::operands::leave;
+use crate::state::{Aim, Context, Place, Places, Position, Side, Spelling, State};
+use crate::terms::at_term;
+use crate::token::Token;
+use crate::tree::{Fact, Index, Term};
+use digit_tuple::name::Name;
+use std::alloc::Global;
+
+/// A token where the word on the right stands, or a letter.
+pub(crate) fn enter_word(context: Context, aim: Aim, token: Token) -> Result<State, Stop>
+    ensures { Gives result (machine.enter_word trees (context_view context) (aim_view aim) (token_view token)) }
+{
+    match token {
+        Token::Name(name) => Ok(State {
+            context,
+            position: Position::AtBracket(aim, name),
+        }),
+        Token::LetterSign(at) => match aim {
+            Aim::LeftIndex(index, relation) => {
+                Ok(State {
+                    context,
+                    position: Position::AtLetter(Spelling::OnRight(index, relation), at),
+                })
+            }
+            Aim::LeftLetter(_, _) => Err(Stop::Syntax),
+        },
+        _ => Err(Stop::Syntax),
+    }
+}
+
+/// A token after the word on the right.
+pub(crate) fn enter_bracket(
+    alloc: Global,
+    context: Context,
+    aim: Aim,
+    name: Name,
+    token: Token,
+) -> Result<State, Stop>
+    ensures { Gives result (machine.enter_bracket trees (context_view context) (aim_view aim) name (token_view token)) }
+{
+    match token {
+        Token::Bracket => {
+            let places = Places {
+                side: Side::Second(aim),
+                word: name,
+                places: Vec::new(alloc),
+            };
+            Ok(at_term(alloc, context, Place::PlaceIn(places)))
+        }
+        _ => Err(Stop::Syntax),
+    }
+}
+
+/// A token after a place of an index.
+pub(crate) fn leave_index(
+    alloc: Global,
+    context: Context,
+    places: Places,
+    term: Term,
+    token: Token,
+) -> Result<State, Stop>
+    ensures { Gives result (machine.leave_index trees (context_view context) (side_view places.side) places.word (terms_view places.places.items) (term_view term) (token_view token)) }
+{
+    let Places { side, word, places } = places;
+    let Index { word, places } = index(word, places, term)?;
+    match token {
+        Token::Bracket => {
+            let places = Places { side, word, places };
+            Ok(at_term(alloc, context, Place::PlaceIn(places)))
+        }
+        _ => leave_side(alloc, context, side, Index { word, places }, token),
+    }
+}
+
+/// A token after a whole index.
+fn leave_side(
+    alloc: Global,
+    context: Context,
+    side: Side,
+    index: Index,
+    token: Token,
+) -> Result<State, Stop>
+    ensures { Gives result (machine.leave_side trees (context_view context) (side_view side) (index_view index) (token_view token)) }
+{
+    match side {
+        Side::First => match token {
+            Token::Relation(relation) => {
+                Ok(State {
+                    context,
+                    position: Position::AtWord(Aim::LeftIndex(index, relation)),
+                })
+            }
+            _ => Err(Stop::Syntax),
+        },
+        Side::Second(Aim::LeftIndex(left, relation)) => {
+            let fact = Fact::Words(left, relation, index);
+            let core = atom(alloc, &context.around.system, fact)?;
+            leave(alloc, context, core, token)
+        }
+        Side::Second(Aim::LeftLetter(letter, relation)) => {
+            let fact = Fact::LetterWord(letter, relation, index);
+            let core = atom(alloc, &context.around.system, fact)?;
+            leave(alloc, context, core, token)
+        }
+    }
+}

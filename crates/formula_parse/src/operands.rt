@@ -1,0 +1,113 @@
+//! The machine after an operand: its connective, or what ends its formula.
+
+ghost use Rattle.std.specs.Prelude.{◌≡◌, IfOk};
+ghost use Rattle.formula_parse.specs.Flaws as flaws;
+ghost use Rattle.formula_parse.specs.Grammar as grammar;
+ghost use Rattle.formula_parse.specs.Grammar.{trees};
+ghost use Rattle.formula_parse.specs.Machine as machine;
+ghost use Rattle.formula_parse.specs.Views.{formula_view, names_view};
+ghost use Rattle.formula_parse.specs.StateViews.{token_view, tildes_view, flaw_view, noted_view, front_view, frames_view, context_view, state_view};
+ghost use Rattle.formula_parse.specs.Stops.{Gives};
+
+use crate::closings::close;
+use crate::fault::Stop;
+use crate::flaw::{Flaw, noted_if};
+use crate::making::{under_marks, under_tildes};
+use crate::state::{Around, Before, Body, Context, Front, Position, State};
+use crate::token::Token;
+use crate::tree::Formula;
+use digit_tuple::faults::OutOfMemory;
+use std::alloc::Global;
+
+/// An operand with what stands before its core.
+#[tactic(auto, using(crate::proofs::Words::wrapped_trees))]
+fn closed(alloc: Global, before: Before, core: Formula) -> Result<Formula, OutOfMemory>
+    ensures { IfOk result (λ f. formula_view f ≡ machine.wrapped trees (tildes_view before.tildes.items)
+        (grammar.under_marks (names_view before.marks.items) (formula_view core))) }
+{
+    let marked = under_marks(alloc, before.marks, core)?;
+    let whole = under_tildes(alloc, before.tildes, marked)?;
+    Ok(whole)
+}
+
+impl Around {
+    /// With a flaw that is met or not.
+    fn noted_if(self, met: bool, flaw: Flaw) -> Around
+        ensures frames { result.frames ≡ self.frames }
+        ensures system { result.system ≡ self.system }
+        ensures flaw { noted_view result.flaw ≡ flaws.noted_if met (flaw_view flaw) (noted_view self.flaw) }
+    {
+        Around {
+            frames: self.frames,
+            system: self.system,
+            flaw: noted_if(met, flaw, self.flaw),
+        }
+    }
+}
+
+/// A formula with a front, where an operand comes.
+fn joined(alloc: Global, around: Around, front: Front) -> State
+    ensures { state_view result ≡ record {
+      around = frames_view around.frames.items;
+      body = machine.with_front trees (machine.fresh trees front.base) (front_view front);
+      system = around.system;
+      flaw = noted_view around.flaw;
+      position = machine.at_operand;
+    } }
+{
+    State {
+        context: Context {
+            around,
+            body: Body::with_front(alloc, front),
+        },
+        position: Position::AtOperand,
+    }
+}
+
+/// A token after a closed operand.
+fn leave_closed(
+    alloc: Global,
+    around: Around,
+    front: Front,
+    closed: Formula,
+    token: Token,
+) -> Result<State, Stop>
+    ensures { Gives result (machine.leave_closed trees
+        (record { around = frames_view around.frames.items; body = machine.fresh trees front.base; system = around.system; flaw = noted_view around.flaw; position = machine.at_operand })
+        (front_view front) (formula_view closed) (token_view token)) }
+{
+    match token {
+        Token::Connective(sign, at) => {
+            let around = around.noted_if(front.came.mixes(sign), Flaw::MixedChain(at));
+            let front = front.connected(closed, sign)?;
+            Ok(joined(alloc, around, front))
+        }
+        Token::Implies(at) => {
+            let around = around.noted_if(front.implied, Flaw::MixedChain(at));
+            let front = front.implied(alloc, closed)?;
+            Ok(joined(alloc, around, front))
+        }
+        Token::Iff => {
+            let front = front.equated(alloc, closed)?;
+            Ok(joined(alloc, around, front))
+        }
+        _ => {
+            let whole = front.whole(alloc, closed)?;
+            close(alloc, around, whole, token)
+        }
+    }
+}
+
+/// A token after an operand.
+pub(crate) fn leave(
+    alloc: Global,
+    context: Context,
+    core: Formula,
+    token: Token,
+) -> Result<State, Stop>
+    ensures { Gives result (machine.leave trees (context_view context) (formula_view core) (token_view token)) }
+{
+    let Context { around, body } = context;
+    let closed = closed(alloc, body.before, core)?;
+    leave_closed(alloc, around, body.front, closed, token)
+}
