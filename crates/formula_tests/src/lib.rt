@@ -1,5 +1,5 @@
-//! Tests of the parsers of formulas and of rules of morphisms: what is read of texts and their faults, worked by hand, and texts
-//! as long as a command's.
+//! Tests of the parsers of formulas and of rules of morphisms, and of the expansion of macros: what is read of texts and their
+//! faults, worked by hand, texts as long as a command's, and the limits of expansions.
 #![tactic(auto)]
 
 // texts with the trees that they must have
@@ -17,3 +17,7 @@ mod long_texts;
 // rules of morphisms, as they are printed and with their first faults
 #[cfg(test)]
 mod rules;
+
+// texts with calls of macros
+#[cfg(test)]
+mod macros;
