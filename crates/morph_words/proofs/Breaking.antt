@@ -1,8 +1,9 @@
 -- Where a text first breaks the grammar of rules, and the fault there.
-use Rattle.std.proofs.Common.{◌≡◌, ℕ, suc, ◌+◌, Bool, true, false, List, [], ◌∷◌, ◌++◌, length, take, map, append_assoc, append-nil, Option, None, Some, Err, refl, sym, ◌∙◌, ap, subst, ℤ, pos, arith}
+use Rattle.std.proofs.Common.{◌≡◌, ℕ, ◌+◌, Bool, true, false, List, [], ◌∷◌, ◌++◌, length, take, append_assoc, append-nil, Option, None, Some, Err, refl, sym, ◌∙◌, ap, subst, ℤ, pos, arith}
 use Rattle.std.specs.Prelude.{slice_get, if◌then◌else◌}
 use Rattle.std.specs.Bool.{MatchBool}
-use Rattle.std.proofs.lemmas.List.{map-append, length-append}
+use Rattle.std.proofs.lemmas.List.{map-append, length-append, length-map}
+use Rattle.std.proofs.Math.Seq.{take-append_seam}
 use Rattle.text_grammar.specs.Faults.{Begins}
 use Rattle.morph_words.specs.declared.fault.RulesFault.{RulesFault}
 use Rattle.morph_words.specs.declared.fault.RulesFault.TheVariants.{Syntax, Number, Memory}
@@ -14,6 +15,7 @@ use Rattle.morph_words.specs.Rules.{Rules, has}
 use Rattle.morph_words.specs.Grammar.{Spells}
 use Rattle.morph_words.specs.Faults.{fault_of, fault_at, MayBeLetter, IsFault, Parses}
 use Rattle.morph_words.specs.Stages.{Stage, AtFirst, AfterLetter, AfterArrow, InImage, AfterRule, AfterComma, begun, step, takes_letter, ended, or_fault, and_then, run, rules_at}
+use Rattle.morph_words.proofs.ListSteps.{slice_get-front, slice_get-past}
 use Rattle.morph_words.proofs.Walks.{from, reach, reach-append, reach-push}
 use Rattle.morph_words.proofs.Complete.{letter_on, spelled_read}
 use Rattle.morph_words.proofs.Sound.{spelled}
@@ -90,23 +92,6 @@ told text (Syntax at) h = h
 told text (Number at) h = h
 told text Memory h = tt
 
--- places in a list after a front
-take_front : {X : Type 0} (xs ys : List X) → take (length xs) (xs ++ ys) ≡ xs
-take_front [] ys = refl
-take_front (x ∷ xs) ys = ap (λ w. x ∷ w) (take_front xs ys)
-
-get_front : {X : Type 0} (xs : List X) (y : X) (ys : List X) → slice_get (xs ++ y ∷ ys) (length xs) ≡ Some y
-get_front [] y ys = refl
-get_front (x ∷ xs) y ys = get_front xs y ys
-
-get_past : {X : Type 0} (xs : List X) → slice_get xs (length xs) ≡ None
-get_past [] = refl
-get_past (x ∷ xs) = get_past xs
-
-length-map : {X Y : Type 0} (f : X → Y) (xs : List X) → length (map f xs) ≡ length xs
-length-map f [] = refl
-length-map f (x ∷ xs) = ap suc (length-map f xs)
-
 -- the lexemes of a text that were read, and those that are left
 record Stands (text : List ℕ) (stage : Stage) (left : List Spot) : Type 0 where
   front : List Spot
@@ -119,12 +104,12 @@ lexemes_split text stage left st = ap lexemes_in st.split ∙ map-append (λ (s 
 -- the lexemes before are those of the front
 taken : (text : List ℕ) (stage : Stage) (left : List Spot) (st : Stands text stage left) → take (length st.front) (lexemes text) ≡ lexemes_in st.front
 taken text stage left st =
-    ap (λ n. take n (lexemes text)) (sym (length-map (λ (s : Spot). s.lexeme) st.front))
-    ∙ (ap (take (length (lexemes_in st.front))) (lexemes_split text stage left st) ∙ take_front (lexemes_in st.front) (lexemes_in left))
+    ap (λ n. take n (lexemes text)) (sym (length-map st.front (λ (s : Spot). s.lexeme)))
+    ∙ (ap (take (length (lexemes_in st.front))) (lexemes_split text stage left st) ∙ take-append_seam (lexemes_in st.front) (lexemes_in left))
 
 counted : (text : List ℕ) (stage : Stage) (left : List Spot) (st : Stands text stage left) → length (lexemes text) ≡ length st.front + length left
 counted text stage left st =
-    length-map (λ (s : Spot). s.lexeme) (spots text) ∙ (ap length st.split ∙ length-append st.front left)
+    length-map (spots text) (λ (s : Spot). s.lexeme) ∙ (ap length st.split ∙ length-append st.front left)
 
 may_be_here : (text : List ℕ) (stage : Stage) (left : List Spot) (st : Stands text stage left) → MatchBool (takes_letter stage) (MayBeLetter (take (length st.front) (lexemes text))) (MayBeLetter (take (length st.front) (lexemes text)) → ⊥)
 may_be_here text stage left st =
@@ -147,8 +132,8 @@ fault_here : (text : List ℕ) (stage : Stage) (s : Spot) (left : List Spot) →
 fault_here text stage s left st e =
     let n : length (lexemes text) ≡ length st.front + length (s ∷ left) = counted text stage (s ∷ left) st in
     let whole : lexemes text ≡ (lexemes_in st.front ++ s.lexeme ∷ []) ++ lexemes_in left = lexemes_split text stage (s ∷ left) st ∙ sym (append_assoc (lexemes_in st.front) (s.lexeme ∷ []) (lexemes_in left)) in
-    let len : length st.front + 1 ≡ length (lexemes_in st.front ++ s.lexeme ∷ []) = ap (λ k. k + 1) (sym (length-map (λ (x : Spot). x.lexeme) st.front)) ∙ sym (length-append (lexemes_in st.front) (s.lexeme ∷ [])) in
-    let next : take (length st.front + 1) (lexemes text) ≡ lexemes_in st.front ++ s.lexeme ∷ [] = ap (λ k. take k (lexemes text)) len ∙ (ap (take (length (lexemes_in st.front ++ s.lexeme ∷ []))) whole ∙ take_front (lexemes_in st.front ++ s.lexeme ∷ []) (lexemes_in left)) in
+    let len : length st.front + 1 ≡ length (lexemes_in st.front ++ s.lexeme ∷ []) = ap (λ k. k + 1) (sym (length-map st.front (λ (x : Spot). x.lexeme))) ∙ sym (length-append (lexemes_in st.front) (s.lexeme ∷ [])) in
+    let next : take (length st.front + 1) (lexemes text) ≡ lexemes_in st.front ++ s.lexeme ∷ [] = ap (λ k. take k (lexemes text)) len ∙ (ap (take (length (lexemes_in st.front ++ s.lexeme ∷ []))) whole ∙ take-append_seam (lexemes_in st.front ++ s.lexeme ∷ []) (lexemes_in left)) in
     record {
       count = length st.front;
       breaks = record {
@@ -159,7 +144,7 @@ fault_here text stage s left st e =
       };
       at_letter = takes_letter stage;
       may_be = may_be_here text stage (s ∷ left) st;
-      fault_is = ap (fault_at text (takes_letter stage)) (sym (ap (λ (ss : List Spot). slice_get ss (length st.front)) st.split ∙ get_front st.front s left));
+      fault_is = ap (fault_at text (takes_letter stage)) (sym (ap (λ (ss : List Spot). slice_get ss (length st.front)) st.split ∙ slice_get-front st.front s left));
     }
 
 -- a text that ends too early
@@ -178,7 +163,7 @@ fault_at_end text stage st e =
       };
       at_letter = takes_letter stage;
       may_be = may_be_here text stage [] st;
-      fault_is = ap (fault_at text (takes_letter stage)) (sym (ap (λ (ss : List Spot). slice_get ss (length st.front)) (st.split ∙ append-nil st.front) ∙ get_past st.front));
+      fault_is = ap (fault_at text (takes_letter stage)) (sym (ap (λ (ss : List Spot). slice_get ss (length st.front)) (st.split ∙ append-nil st.front) ∙ slice_get-past st.front));
     }
 
 -- what is read of the lexemes that are left

@@ -6,6 +6,7 @@ use Rattle.std.specs.List.{AllByRecursion}
 use Rattle.std.proofs.lemmas.Bool.Decides.{nat_tests}
 use Rattle.std.proofs.lemmas.List.{length-append}
 use Rattle.std.proofs.lemmas.Fmt.{decimal_by_steps}
+use Rattle.std.proofs.Math.Seq.{take-append_seam, drop-append_seam}
 use Rattle.text_grammar.specs.declared.class.Class.TheVariants.{Digit}
 use Rattle.text_grammar.specs.Bytes.{is_digit}
 use Rattle.text_grammar.specs.Fronts.{front_len, front_of}
@@ -13,6 +14,7 @@ use Rattle.morph_words.specs.declared.lexeme.Lexeme.TheVariants.{Letter, Long, B
 use Rattle.morph_words.specs.declared.lexeme.Piece.{Piece}
 use Rattle.morph_words.specs.Numbers.{begins_with, sign_len, unsigned, number_len, value_after, signed, number_at, is_short}
 use Rattle.morph_words.specs.Lexemes.{piece, bracket}
+use Rattle.morph_words.proofs.ListSteps.{all_append}
 
 is_digit-glyph : (d : ℕ) → d < 10 → is_digit (48 + d) ≡ true
 is_digit-glyph d h = grind (arith, nat_tests)
@@ -20,10 +22,6 @@ is_digit-glyph d h = grind (arith, nat_tests)
 value_after-append : (n : ℕ) (xs ys : List ℕ) → value_after n (xs ++ ys) ≡ value_after (value_after n xs) ys
 value_after-append n [] ys = refl
 value_after-append n (x ∷ xs) ys = value_after-append (10 * n + (x - 48)) xs ys
-
-all_append : {X : Type 0} (P : X → Type 0) (xs ys : List X) → AllByRecursion P xs → AllByRecursion P ys → AllByRecursion P (xs ++ ys)
-all_append P [] ys h k = k
-all_append P (x ∷ xs) ys h k = (h.0, all_append P xs ys h.1 k)
 
 -- digits that spell a number
 record AreDigitsOf (n : ℕ) (ds : List ℕ) : Type 0 where
@@ -45,16 +43,8 @@ front_before : (ds rest : List ℕ) → AllByRecursion (λ b. is_digit b ≡ tru
 front_before [] rest h = refl
 front_before (d ∷ ds) rest h = ap (λ (b : Bool). if b then suc (front_len Digit (ds ++ 93 ∷ rest)) else 0) h.0 ∙ ap suc (front_before ds rest h.1)
 
-take_front : {X : Type 0} (xs ys : List X) → take (length xs) (xs ++ ys) ≡ xs
-take_front [] ys = refl
-take_front (x ∷ xs) ys = ap (λ w. x ∷ w) (take_front xs ys)
-
-pub drop_front : {X : Type 0} (xs ys : List X) → drop (length xs) (xs ++ ys) ≡ ys
-drop_front [] ys = refl
-drop_front (x ∷ xs) ys = drop_front xs ys
-
 digits_before : (ds rest : List ℕ) → AllByRecursion (λ b. is_digit b ≡ true) ds → front_of Digit (ds ++ 93 ∷ rest) ≡ ds
-digits_before ds rest h = ap (λ k. take k (ds ++ 93 ∷ rest)) (front_before ds rest h) ∙ take_front ds (93 ∷ rest)
+digits_before ds rest h = ap (λ k. take k (ds ++ 93 ∷ rest)) (front_before ds rest h) ∙ take-append_seam ds (93 ∷ rest)
 
 -- digits have no sign
 no_sign : (ds rest : List ℕ) → AllByRecursion (λ b. is_digit b ≡ true) ds → begins_with 45 (ds ++ 93 ∷ rest) ≡ false
@@ -117,7 +107,7 @@ printed_bracket z rest h =
     let len = length (signed_decimal z) in
     let some : 0 < len = is.some in
     let nonzero : eqb len 0 ≡ false = grind (arith, nat_tests) in
-    let closed : begins_with 93 (drop len text) ≡ true = ap (begins_with 93) (drop_front (signed_decimal z) (93 ∷ rest)) in
+    let closed : begins_with 93 (drop len text) ≡ true = ap (begins_with 93) (drop-append_seam (signed_decimal z) (93 ∷ rest)) in
     ap (λ k. bracket_by k (number_at text) text) is.len
     ∙ (ap (λ (y : ℤ). bracket_by len y text) is.value
     ∙ (ap (λ (b : Bool). if b then piece Broken 0 else if is_short z then (if begins_with 93 (drop len text) then piece (Letter z) (len + 1) else piece Broken len) else piece Long len) nonzero

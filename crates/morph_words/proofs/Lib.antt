@@ -1,5 +1,6 @@
 pub mod NumberSteps
 pub mod SpotSteps
+pub mod ListSteps
 pub mod Orders
 pub mod Maps
 pub mod Walks

@@ -12,6 +12,7 @@ use Rattle.std.proofs.lemmas.List.Sorted.{IsPermutation-refl, IsPermutation-cons
 use Rattle.morph_words.specs.declared.lexeme.Lexeme.{Lexeme}
 use Rattle.morph_words.specs.Rules.{Rules, has, put}
 use Rattle.morph_words.specs.Grammar.{RuleList, first, next, Text, text_then, letters_of, rules_of, IsOnce, Spells}
+use Rattle.morph_words.specs.Laws.{OrderIsFree}
 use Rattle.morph_words.proofs.Orders.{has-cons, absent, sorted-put}
 
 -- the rules by ascending letter
@@ -47,12 +48,6 @@ swapped false false c = refl
 twice : (a b : Bool) → (a || b) ≡ (a || (a || b))
 twice true b = refl
 twice false b = refl
-
-turned : (a b : Bool) → (a || b) ≡ (b || a)
-turned true true = refl
-turned true false = refl
-turned false true = refl
-turned false false = refl
 
 has-put : (rules : Rules) (letter : ℤ) (image : List ℤ) (k : ℤ) → has (put rules letter image) k ≡ (is_eq (int_cmp k letter) || has rules k)
 has-put [] letter image k = has-cons (letter, image) [] k
@@ -116,7 +111,7 @@ map_permutes (next rules divider rule) h =
     IsPermutation-push_more (rules_of rules) (map_of rules) (put (map_of rules) rule.letter (letters_of rule.image)) (rule.letter, letters_of rule.image)
     (map_permutes rules h.0) (put_permutes (map_of rules) rule.letter (letters_of rule.image) h.1)
 
-sorted_none : IsStrictlySortedBy int_cmp []
+pub sorted_none : IsStrictlySortedBy int_cmp []
 unfolding IsStrictlySortedBy
 sorted_none = tt
 
@@ -199,3 +194,11 @@ map_spelled ts rules h =
           (λ r c. Contains-permutation (rules_of list) rules r h.same (Contains-permutation (map_of list) (rules_of list) r (IsPermutation-sym (rules_of list) (map_of list) moved) c))
           (λ r c. Contains-permutation (rules_of list) (map_of list) r moved (Contains-permutation rules (rules_of list) r (IsPermutation-sym (rules_of list) rules h.same) c));
     }
+
+pub order_is_free : OrderIsFree
+order_is_free ts us rules others h k moved =
+    let first = rules_of h.text.rules in
+    let second = rules_of k.text.rules in
+    same_rules rules others h.ascending k.ascending
+    (λ r c. Contains-permutation second others r k.same (Contains-permutation first second r moved (Contains-permutation rules first r (IsPermutation-sym first rules h.same) c)))
+    (λ r c. Contains-permutation first rules r h.same (Contains-permutation second first r (IsPermutation-sym first second moved) (Contains-permutation others second r (IsPermutation-sym second others k.same) c)))

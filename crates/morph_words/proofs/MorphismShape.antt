@@ -1,9 +1,7 @@
 -- The rules that a text spells are a morphism.
 use Rattle.std.proofs.Common.{◌≡◌, ℕ, zero, suc, ◌+◌, ◌-◌, ◌<◌, Bool, true, false, List, [], ◌∷◌, ◌++◌, length, ℤ, pos, refl, sym, subst, arith}
 use Rattle.std.specs.Prelude.{⊤, if◌then◌else◌, nat_lt, ◌==◌, ◌&&◌, drop}
-use Rattle.std.specs.Ordering.{int_cmp}
 use Rattle.std.specs.List.{AllByRecursion}
-use Rattle.std.specs.List.Sorted.{IsStrictlySortedBy}
 use Rattle.std.proofs.lemmas.Bool.Decides.{nat_tests}
 use Rattle.std.proofs.lemmas.List.{length-append}
 use Rattle.text_grammar.specs.Bytes.{is_blank, is_digit}
@@ -15,7 +13,8 @@ use Rattle.morph_words.specs.Lexemes.{piece, bracket, lexeme, spots_from, lexeme
 use Rattle.morph_words.specs.Rules.{IsRule, IsMorphism}
 use Rattle.morph_words.specs.Grammar.{Image, only, longer, Rule, Divider, blank, comma, and_blank, and_comma, RuleList, first, next, blanks_then, image_then, rule_then, divider_then, rules_then, text_then, letters_of}
 use Rattle.morph_words.specs.Laws.{SpellsMorphisms}
-use Rattle.morph_words.proofs.Maps.{map_of, MapOnce, map_spelled}
+use Rattle.morph_words.proofs.ListSteps.{all_append}
+use Rattle.morph_words.proofs.Maps.{map_of, MapOnce, map_spelled, sorted_none}
 use Rattle.morph_words.proofs.Orders.{morphism_put}
 
 -- a letter has 32 bits, signed
@@ -50,10 +49,6 @@ lexemes_short at skipped [] = tt
 lexemes_short at (suc skipped) (b ∷ bs) = lexemes_short (suc at) skipped bs
 lexemes_short at zero (b ∷ bs) = (lexeme_short b bs, lexemes_short (suc at) (lexeme b bs).more bs)
 
-all_append : {X : Type 0} (P : X → Type 0) (xs ys : List X) → AllByRecursion P xs → AllByRecursion P ys → AllByRecursion P (xs ++ ys)
-all_append P [] ys h k = k
-all_append P (x ∷ xs) ys h k = (h.0, all_append P xs ys h.1 k)
-
 abbrev AreShort : List Lexeme → Type 0
 AreShort ts = AllByRecursion IsShortLexeme ts
 
@@ -85,10 +80,6 @@ after_divider blank rest h = h.1
 after_divider comma rest h = h.1
 after_divider (and_blank divider) rest h = (after_divider divider (Blank ∷ rest) h).1
 after_divider (and_comma divider) rest h = (after_divider divider (Comma ∷ rest) h).1
-
-sorted_none : IsStrictlySortedBy int_cmp []
-unfolding IsStrictlySortedBy
-sorted_none = tt
 
 after_rules : (rules : RuleList) (rest : List Lexeme) → MapOnce rules → AreShort (rules_then rules rest) → IsMorphism (map_of rules) × AreShort rest
 after_rules (first rule) rest once h =

@@ -6,6 +6,7 @@ use Rattle.std.specs.List.{AllByRecursion, flat_map}
 use Rattle.std.proofs.lemmas.Bool.Decides.{nat_tests}
 use Rattle.std.proofs.lemmas.List.{length-append}
 use Rattle.std.proofs.lemmas.Fmt.{decimal_digit}
+use Rattle.std.proofs.Math.Seq.{drop-append-add}
 use Rattle.text_grammar.specs.Bytes.{is_digit}
 use Rattle.morph_words.specs.declared.lexeme.Lexeme.TheVariants.{Letter, Arrow, Blank}
 use Rattle.morph_words.specs.declared.lexeme.Piece.{Piece}
@@ -42,13 +43,9 @@ bracket_read z rest h =
     let len = length (signed_decimal z) in
     let bytes = signed_decimal z ++ 93 ∷ rest in
     let whole : len + length (93 ∷ rest) ≡ length bytes = sym (length-append (signed_decimal z) (93 ∷ rest)) in
-    let behind : drop (len + 1) bytes ≡ rest = past (signed_decimal z) in
+    let behind : drop (len + 1) bytes ≡ rest = drop-append-add (signed_decimal z) (93 ∷ rest) 1 in
     ap (λ bs. lexemes (91 ∷ bs)) (append_assoc (signed_decimal z) (93 ∷ []) rest)
     ∙ (first_lexeme (piece (Letter z) (len + 1)) 91 bytes (printed_bracket z rest h) (omega arith) ∙ ap (λ bs. Letter z ∷ lexemes bs) behind)
-  where
-    past : (xs : List ℕ) → drop (length xs + 1) (xs ++ 93 ∷ rest) ≡ rest
-    past [] = refl
-    past (x ∷ xs) = let e : suc (length xs) + 1 ≡ suc (length xs + 1) = omega arith in ap (λ k. drop k (x ∷ (xs ++ 93 ∷ rest))) e ∙ past xs
 
 -- a printed letter is one lexeme
 pub letter_read : (z : ℤ) (rest : List ℕ) → is_short z ≡ true → lexemes (letter_text z ++ rest) ≡ Letter z ∷ lexemes rest

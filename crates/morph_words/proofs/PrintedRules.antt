@@ -13,7 +13,7 @@ use Rattle.morph_words.specs.Lexemes.{lexemes}
 use Rattle.morph_words.specs.Rules.{Rules, has, put, IsRule, IsMorphism}
 use Rattle.morph_words.specs.Grammar.{Image, only, longer, Rule, blank, RuleList, first, next, image_then, rule_then, rules_then, letters_of}
 use Rattle.morph_words.specs.Printed.{rule_text, printed}
-use Rattle.morph_words.specs.Laws.{ReadsPrinted}
+use Rattle.morph_words.specs.Laws.{PrintedSpells}
 use Rattle.morph_words.proofs.Maps.{map_of, MapOnce, SpellsMap, spelled_map}
 use Rattle.morph_words.proofs.Orders.{has-cons}
 use Rattle.morph_words.proofs.PrintedLexemes.{blank_read, end_read, rule_read}
@@ -124,5 +124,5 @@ map_printed (rule ∷ more) h =
       rules_are = is.map_is;
     }
 
-pub printed_spells : ReadsPrinted
+pub printed_spells : PrintedSpells
 printed_spells rules h = spelled_map (lexemes (printed rules)) rules (map_printed rules h)

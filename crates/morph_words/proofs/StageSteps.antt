@@ -1,5 +1,5 @@
 -- A further rule begins.
-use Rattle.std.proofs.Common.{◌≡◌, ℕ, Bool, true, false, None, Some, Ok, Err, sym, ◌∙◌, ap, ℤ}
+use Rattle.std.proofs.Common.{◌≡◌, ℕ, Bool, true, None, Some, Err, sym, ◌∙◌, ap, ℤ}
 use Rattle.std.specs.Prelude.{if◌then◌else◌}
 use Rattle.morph_words.specs.declared.fault.RulesFault.TheVariants.{Syntax}
 use Rattle.morph_words.specs.declared.lexeme.Lexeme.{Lexeme}
@@ -9,15 +9,9 @@ use Rattle.morph_words.specs.Rules.{Rules, has}
 use Rattle.morph_words.specs.Faults.{no_letter}
 use Rattle.morph_words.specs.Stages.{AfterLetter, AfterRule, AfterComma, begun, step, or_fault, stepped}
 
-begun_by : (rules : Rules) (letter : ℤ) (at : ℕ) (test b : Bool) → test ≡ has rules letter → test ≡ b → or_fault (Syntax at) (begun rules letter) ≡ or_fault (Syntax at) (if b then None else Some (AfterLetter rules letter))
-begun_by rules letter at test b is value = ap (λ (t : Bool). or_fault (Syntax at) (if t then None else Some (AfterLetter rules letter))) (sym is ∙ value)
-
 -- a letter that has a rule is refused
 pub begun_refused : (rules : Rules) (letter : ℤ) (at : ℕ) (test : Bool) → test ≡ has rules letter → test ≡ true → or_fault (Syntax at) (begun rules letter) ≡ Err (Syntax at)
-begun_refused rules letter at test is value = begun_by rules letter at test true is value
-
-pub begun_free : (rules : Rules) (letter : ℤ) (at : ℕ) (test : Bool) → test ≡ has rules letter → test ≡ false → or_fault (Syntax at) (begun rules letter) ≡ Ok (AfterLetter rules letter)
-begun_free rules letter at test is value = begun_by rules letter at test false is value
+begun_refused rules letter at test is value = ap (λ (t : Bool). or_fault (Syntax at) (if t then None else Some (AfterLetter rules letter))) (sym is ∙ value)
 
 -- a letter after a rule
 pub letter_after_rule : (rules : Rules) (s : Spot) (letter : ℤ) → s.lexeme ≡ Letter letter → stepped (AfterRule rules) s ≡ or_fault (Syntax s.at) (begun rules letter)

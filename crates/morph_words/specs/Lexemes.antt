@@ -48,6 +48,7 @@ spots_from at zero (b ∷ bs) = spot at (lexeme b bs) ∷ spots_from (suc at) (l
 abbrev pub spots : List ℕ → List Spot
 spots text = spots_from 0 0 text
 
+-- lexemes without their bytes
 abbrev pub lexemes_in : List Spot → List Lexeme
 lexemes_in ss = map (λ (s : Spot). s.lexeme) ss
 

@@ -63,7 +63,7 @@ ended (InImage rules letter image) = Some (put rules letter image)
 ended (AfterRule rules) = Some rules
 ended _ = None
 
--- the value, or a fault
+-- the value, or this fault where there is none
 abbrev pub or_fault : {X : Type 0} → RulesFault → Option X → Result X RulesFault
 or_fault fault None = Err fault
 or_fault fault (Some x) = Ok x
@@ -72,6 +72,7 @@ or_fault fault (Some x) = Ok x
 abbrev pub stepped : Stage → Spot → Result Stage RulesFault
 stepped stage s = or_fault (fault_of (takes_letter stage) s) (step stage s.lexeme)
 
+-- what comes of a value, unless there is a fault
 abbrev pub and_then : {X Y : Type 0} → Result X RulesFault → (X → Result Y RulesFault) → Result Y RulesFault
 and_then (Ok x) f = f x
 and_then (Err fault) f = Err fault

@@ -1,6 +1,6 @@
 //! Laws of rules.
 
-ghost use Rattle.morph_words.specs.Laws.{OneAnswer, ReadsPrinted, SpellsMorphisms};
+ghost use Rattle.morph_words.specs.Laws.{OneAnswer, OrderIsFree, PrintedSpells, SpellsMorphisms};
 
 /// Reading a text has one answer, where memory is left.
 pub fn one_answer()
@@ -9,10 +9,15 @@ pub fn one_answer()
 
 /// The printed text of a morphism spells it.
 pub fn printed_spells()
-    ensures { ReadsPrinted }
+    ensures { PrintedSpells }
 {}
 
 /// The rules that a text spells are a morphism.
 pub fn spells_morphisms()
     ensures { SpellsMorphisms }
+{}
+
+/// Texts with the same rules, in whatever order they stand, spell one morphism, and so are printed alike.
+pub fn order_is_free()
+    ensures { OrderIsFree }
 {}
