@@ -3,39 +3,39 @@ use Rattle.std.proofs.Common.{◌≡◌, refl, sym, ap, ◌∙◌, ℕ, suc, ◌
 use Rattle.std.specs.Prelude.{◌==◌}
 use Rattle.std.specs.Borrow.{Bor}
 use Rattle.std.proofs.lemmas.List.{map_push, take_all, drop-drop}
-use Rattle.macro_expand.specs.Calls.{parentheses_behind}
-use Rattle.macro_expand.specs.Arguments.{brackets_behind, with_first, cut, first_len, arguments_left}
+use Rattle.macro_expand.specs.Calls.{parentheses_after}
+use Rattle.macro_expand.specs.Arguments.{brackets_after, with_first, cut, first_len, arguments_left}
 
 -- an argument that a comma ends
 pub cut_more : (n m : ℕ) (bytes : List ℕ) → first_len n m bytes < length bytes → cut n m bytes ≡ take (first_len n m bytes) bytes ∷ cut 0 0 (drop (first_len n m bytes + 1) bytes)
 cut_more n m [] h = absurd (omega arith)
-cut_more n m (b ∷ bs) h = by (b == 44 && (n == 0 && m == 0)) h (cut_more (parentheses_behind n b) (brackets_behind m b) bs)
+cut_more n m (b ∷ bs) h = by (b == 44 && (n == 0 && m == 0)) h (cut_more (parentheses_after n b) (brackets_after m b) bs)
   where
-    by : (t : Bool) → cond t 0 (suc (first_len (parentheses_behind n b) (brackets_behind m b) bs)) < suc (length bs)
-        → (first_len (parentheses_behind n b) (brackets_behind m b) bs < length bs → cut (parentheses_behind n b) (brackets_behind m b) bs
-        ≡ take (first_len (parentheses_behind n b) (brackets_behind m b) bs) bs ∷ cut 0 0 (drop (first_len (parentheses_behind n b) (brackets_behind m b) bs + 1) bs))
-        → cond t ([] ∷ cut 0 0 bs) (with_first b (cut (parentheses_behind n b) (brackets_behind m b) bs))
-        ≡ take (cond t 0 (suc (first_len (parentheses_behind n b) (brackets_behind m b) bs))) (b ∷ bs)
-        ∷ cut 0 0 (drop (cond t 0 (suc (first_len (parentheses_behind n b) (brackets_behind m b) bs)) + 1) (b ∷ bs))
+    by : (t : Bool) → cond t 0 (suc (first_len (parentheses_after n b) (brackets_after m b) bs)) < suc (length bs)
+        → (first_len (parentheses_after n b) (brackets_after m b) bs < length bs → cut (parentheses_after n b) (brackets_after m b) bs
+        ≡ take (first_len (parentheses_after n b) (brackets_after m b) bs) bs ∷ cut 0 0 (drop (first_len (parentheses_after n b) (brackets_after m b) bs + 1) bs))
+        → cond t ([] ∷ cut 0 0 bs) (with_first b (cut (parentheses_after n b) (brackets_after m b) bs))
+        ≡ take (cond t 0 (suc (first_len (parentheses_after n b) (brackets_after m b) bs))) (b ∷ bs)
+        ∷ cut 0 0 (drop (cond t 0 (suc (first_len (parentheses_after n b) (brackets_after m b) bs)) + 1) (b ∷ bs))
     by true l more = refl
     by false l more =
-        let e : suc (first_len (parentheses_behind n b) (brackets_behind m b) bs) + 1 ≡ suc (first_len (parentheses_behind n b) (brackets_behind m b) bs + 1) = omega arith in
+        let e : suc (first_len (parentheses_after n b) (brackets_after m b) bs) + 1 ≡ suc (first_len (parentheses_after n b) (brackets_after m b) bs + 1) = omega arith in
         rw e (ap (with_first b) (more (omega arith)))
 
 -- the last argument
 pub cut_last : (n m : ℕ) (bytes : List ℕ) → length bytes ≤ first_len n m bytes → cut n m bytes ≡ bytes ∷ []
 cut_last n m [] h = refl
-cut_last n m (b ∷ bs) h = by (b == 44 && (n == 0 && m == 0)) h (cut_last (parentheses_behind n b) (brackets_behind m b) bs)
+cut_last n m (b ∷ bs) h = by (b == 44 && (n == 0 && m == 0)) h (cut_last (parentheses_after n b) (brackets_after m b) bs)
   where
-    by : (t : Bool) → suc (length bs) ≤ cond t 0 (suc (first_len (parentheses_behind n b) (brackets_behind m b) bs))
-        → (length bs ≤ first_len (parentheses_behind n b) (brackets_behind m b) bs → cut (parentheses_behind n b) (brackets_behind m b) bs ≡ bs ∷ [])
-        → cond t ([] ∷ cut 0 0 bs) (with_first b (cut (parentheses_behind n b) (brackets_behind m b) bs)) ≡ (b ∷ bs) ∷ []
+    by : (t : Bool) → suc (length bs) ≤ cond t 0 (suc (first_len (parentheses_after n b) (brackets_after m b) bs))
+        → (length bs ≤ first_len (parentheses_after n b) (brackets_after m b) bs → cut (parentheses_after n b) (brackets_after m b) bs ≡ bs ∷ [])
+        → cond t ([] ∷ cut 0 0 bs) (with_first b (cut (parentheses_after n b) (brackets_after m b) bs)) ≡ (b ∷ bs) ∷ []
     by true l last = absurd (omega arith)
     by false l last = ap (with_first b) (last (omega arith))
 
 -- the first argument, where a comma ends it
-pub first_of_more : (bytes argument behind left : List ℕ) (len : ℕ) → len ≡ first_len 0 0 bytes → argument ≡ take len bytes → behind ≡ drop len bytes → 0 < length behind → left ≡ drop 1 behind → cut 0 0 bytes ≡ argument ∷ cut 0 0 left
-first_of_more bytes argument behind left len is front rest some last =
+pub first_of_more : (bytes argument after left : List ℕ) (len : ℕ) → len ≡ first_len 0 0 bytes → argument ≡ take len bytes → after ≡ drop len bytes → 0 < length after → left ≡ drop 1 after → cut 0 0 bytes ≡ argument ∷ cut 0 0 left
+first_of_more bytes argument after left len is front rest some last =
     let inside : first_len 0 0 bytes < length bytes = omega (arith, ap length rest, length-drop len bytes) in
     cut_more 0 0 bytes inside
     ∙ (ap (λ n. take n bytes ∷ cut 0 0 (drop (n + 1) bytes)) (sym is)
@@ -43,8 +43,8 @@ first_of_more bytes argument behind left len is front rest some last =
     ∙ ap (λ bs. argument ∷ cut 0 0 bs) (sym (last ∙ ap (drop 1) rest))))
 
 -- the only argument
-pub first_of_one : (bytes argument behind : List ℕ) (len : ℕ) → len ≡ first_len 0 0 bytes → argument ≡ take len bytes → behind ≡ drop len bytes → length behind ≡ 0 → cut 0 0 bytes ≡ argument ∷ []
-first_of_one bytes argument behind len is front rest none =
+pub first_of_one : (bytes argument after : List ℕ) (len : ℕ) → len ≡ first_len 0 0 bytes → argument ≡ take len bytes → after ≡ drop len bytes → length after ≡ 0 → cut 0 0 bytes ≡ argument ∷ []
+first_of_one bytes argument after len is front rest none =
     let whole : length bytes ≤ len = omega (arith, ap length rest, length-drop len bytes) in
     cut_last 0 0 bytes (omega arith) ∙ ap (λ bs. bs ∷ []) (sym (front ∙ take_all len bytes whole))
 

@@ -14,8 +14,8 @@ abbrev pub texts_within : Texts → ℕ → OfTexts
 texts_within macros levels = expand_text (expand_call_within macros levels)
 
 -- a call with its arguments expanded
-abbrev pub behind_arguments : Texts → OfTexts → Call → Given → Result Expanded MacroFault
-behind_arguments macros of_text c given = filled_text c.name given.texts (get macros c.name) >>= λ text. of_text text given.calls
+abbrev pub after_arguments : Texts → OfTexts → Call → Given → Result Expanded MacroFault
+after_arguments macros of_text c given = filled_text c.name given.texts (get macros c.name) >>= λ text. of_text text given.calls
 
 -- no level is left
 pub call_too_deep : (macros : Texts) (levels : ℕ) (c : Call) (calls : ℕ) → levels ≡ 0 → expand_call_within macros levels c calls ≡ Err (faults.MacroDepth c.name)
@@ -38,5 +38,5 @@ call_too_many macros levels c calls h many = rw (call_one_deeper macros levels h
 
 -- it is counted, and its arguments are expanded
 pub call_counted : (macros : Texts) (levels : ℕ) (c : Call) (calls : ℕ) → 0 < levels → calls < 65536
-    → expand_call_within macros levels c calls ≡ (expand_arguments (texts_within macros (levels - 1)) (arguments_of c.inside) (calls + 1) >>= behind_arguments macros (texts_within macros (levels - 1)) c)
+    → expand_call_within macros levels c calls ≡ (expand_arguments (texts_within macros (levels - 1)) (arguments_of c.inside) (calls + 1) >>= after_arguments macros (texts_within macros (levels - 1)) c)
 call_counted macros levels c calls h few = rw (call_one_deeper macros levels h, lt-leb 65536 calls few) refl

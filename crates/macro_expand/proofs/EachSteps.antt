@@ -13,7 +13,7 @@ bind_assoc : {A B C : Type 0} (r : Result A MacroFault) (f : A → Result B Macr
 bind_assoc (Ok x) f g h e = e x
 bind_assoc (Err d) f g h e = refl
 
--- some items, and others behind them
+-- some items, and others after them
 pub each-append : {X D : Type 0} (step : X → D → Result D MacroFault) (xs ys : List X) (done : D) → each step (xs ++ ys) done ≡ (each step xs done >>= each step ys)
 each-append step [] ys done = refl
 each-append step (x ∷ xs) ys done = bind_assoc (step x done) (each step xs) (each step ys) (each step (xs ++ ys)) (each-append step xs ys)
@@ -24,7 +24,7 @@ limited_short bytes h = rw (le-leb (length bytes) 65536 h) refl
 pub limited_long : (bytes : List ℕ) → 65536 < length bytes → limited bytes ≡ Err faults.MacroLong
 limited_long bytes h = rw (lt-leb (length bytes) 65536 h) refl
 
--- bytes that are no `#` are put behind what was expanded, one by one or all at once
+-- bytes that are no `#` are put after what was expanded, one by one or all at once
 pub each_plain : (of_call : OfCalls) (bytes : List ℕ) (done : Expanded) → length done.bytes ≤ 65536 → each (expand_piece of_call) (map byte bytes) done ≡ put done.bytes bytes done.calls
 each_plain of_call [] done h = rw (append-nil done.bytes, limited_short done.bytes h) refl
 each_plain of_call (b ∷ bs) done h = by (nat_le (length (done.bytes ++ b ∷ [])) 65536) refl (each_plain of_call bs)
@@ -52,7 +52,7 @@ limited_more bytes more e h = by (nat_le (length bytes) 65536) refl h
         let long = leb-false (length bytes) 65536 is in
         limited_long (bytes ++ more) (omega (arith, length-append bytes more)) ∙ h
 
--- bytes that are put behind what was expanded
+-- bytes that are put after what was expanded
 pub piece_put : (of_call : OfCalls) (bytes : List ℕ) (old new : Expanded) (result : Result (Unit {0}) MacroFault) → length old.bytes ≤ 65536 → new.calls ≡ old.calls
     → Answers (λ nothing. new.bytes) result (limited (old.bytes ++ bytes)) → Answers (λ nothing. new) result (each (expand_piece of_call) (map byte bytes) old)
 piece_put of_call bytes old new (Ok nothing) h same made =

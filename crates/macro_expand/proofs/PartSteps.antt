@@ -35,10 +35,10 @@ parts_sign bs h = rw h refl
 pub parts_place : (bs : List ℕ) → 0 < front_len Digit bs → parts (37 ∷ bs) ≡ place (number_of (front_of Digit bs)) ∷ parts (drop (front_len Digit bs) bs)
 parts_place bs h = rw (lt-ltb 0 (front_len Digit bs) h, parts_skip (front_len Digit bs) bs) refl
 
--- what was missing first, or else what is missing behind
+-- what was missing first, or else what is missing after
 abbrev pub or_else : Option ℕ → Option ℕ → Option ℕ
-or_else None behind = behind
-or_else (Some n) behind = Some n
+or_else None after = after
+or_else (Some n) after = Some n
 
 pub missing-append : (given : ℕ) (ps qs : List Part) → missing given (ps ++ qs) ≡ or_else (missing given ps) (missing given qs)
 missing-append given [] qs = refl
@@ -100,16 +100,16 @@ first_place bytes after digits number len follows mark some ahead inside more sp
     }
 
 module _ (rest : List ℕ) (first : Part') (is : IsFirstPart rest first) where
-  -- what was missing in the first part, or else behind it
+  -- what was missing in the first part, or else after it
   pub missing_first : (given : ℕ) → missing given (parts rest) ≡ or_else (missing given (parts_view first)) (missing given (parts (drop (part_len first) rest)))
   missing_first given = ap (missing given) is.parts_are ∙ missing-append given (parts_view first) (parts (drop (part_len first) rest))
 
   pub missing_here : (given n : ℕ) → missing given (parts_view first) ≡ Some n → missing given (parts rest) ≡ Some n
   missing_here given n h = missing_first given ∙ ap (λ o. or_else o (missing given (parts (drop (part_len first) rest)))) h
 
-  pub missing_behind : (given len : ℕ) (left : List ℕ) → missing given (parts_view first) ≡ None → len ≡ part_len first → left ≡ drop len rest → missing given (parts left) ≡ missing given (parts rest)
-  missing_behind given len left h l e = ap (λ bs. missing given (parts bs)) (e ∙ ap (λ k. drop k rest) l) ∙ sym (missing_first given ∙ ap (λ o. or_else o (missing given (parts (drop (part_len first) rest)))) h)
+  pub missing_after : (given len : ℕ) (left : List ℕ) → missing given (parts_view first) ≡ None → len ≡ part_len first → left ≡ drop len rest → missing given (parts left) ≡ missing given (parts rest)
+  missing_after given len left h l e = ap (λ bs. missing given (parts bs)) (e ∙ ap (λ k. drop k rest) l) ∙ sym (missing_first given ∙ ap (λ o. or_else o (missing given (parts (drop (part_len first) rest)))) h)
 
-  -- the first part with arguments in its place, and what stands behind it
+  -- the first part with arguments in its place, and what stands after it
   pub filled_first : (arguments : List (List ℕ)) → filled arguments (parts rest) ≡ filled arguments (parts_view first) ++ filled arguments (parts (drop (part_len first) rest))
   filled_first arguments = ap (filled arguments) is.parts_are ∙ filled-append arguments (parts_view first) (parts (drop (part_len first) rest))

@@ -5,7 +5,7 @@ use Rattle.std.specs.Borrow.{Bor}
 use Rattle.std.proofs.lemmas.List.{length-take-le, length-drop}
 use Rattle.macro_expand.specs.declared.call.Call.{Call as Call'}
 use Rattle.macro_expand.specs.declared.piece.Piece.TheVariants as piece
-use Rattle.macro_expand.specs.Calls.{Call, call_behind}
+use Rattle.macro_expand.specs.Calls.{Call, call_after}
 use Rattle.macro_expand.specs.Pieces.{byte, call, stray, pieces_from}
 use Rattle.macro_expand.specs.Views.{len_before, call_view, IsFirstPiece}
 use Rattle.macro_expand.proofs.FrontSteps.{at_mark}
@@ -31,14 +31,14 @@ pieces_plain at (b ∷ bs) = by (b == 35) refl (pieces_plain (at + 1) bs)
         rw h (ap (λ rest. byte b ∷ rest) (more ∙ ap (λ k. map byte (take (len_before 35 bs) bs) ++ pieces_from k 0 (drop (len_before 35 bs) bs)) e))
 
 -- a call
-pub pieces_call : (at : ℕ) (bs : List ℕ) (c : Call) → call_behind bs ≡ Some c → pieces_from at 0 (35 ∷ bs) ≡ call c ∷ pieces_from (at + (c.len + 1)) 0 (drop (c.len + 1) (35 ∷ bs))
+pub pieces_call : (at : ℕ) (bs : List ℕ) (c : Call) → call_after bs ≡ Some c → pieces_from at 0 (35 ∷ bs) ≡ call c ∷ pieces_from (at + (c.len + 1)) 0 (drop (c.len + 1) (35 ∷ bs))
 pieces_call at bs c h =
     let e : at + 1 + c.len ≡ at + (c.len + 1) = omega arith in
     let f : suc c.len ≡ c.len + 1 = omega arith in
     rw h (ap (λ more. call c ∷ more) (pieces_skip (at + 1) c.len bs ∙ (ap (λ k. pieces_from k 0 (drop c.len bs)) e ∙ ap (λ k. pieces_from (at + (c.len + 1)) 0 (drop k (35 ∷ bs))) f)))
 
 -- a `#` with which no call begins
-pub pieces_stray : (at : ℕ) (bs : List ℕ) → call_behind bs ≡ None → pieces_from at 0 (35 ∷ bs) ≡ stray at ∷ pieces_from (at + 1) 0 bs
+pub pieces_stray : (at : ℕ) (bs : List ℕ) → call_after bs ≡ None → pieces_from at 0 (35 ∷ bs) ≡ stray at ∷ pieces_from (at + 1) 0 bs
 pieces_stray at bs h = rw h refl
 
 -- the bytes before a `#` come first
@@ -53,9 +53,9 @@ first_plain at bytes plain r is within some e =
     }
 
 -- a call comes first
-pub first_call : (at : ℕ) (bytes after : List ℕ) (c : Call') → after ≡ drop 1 bytes → len_before 35 bytes ≡ 0 → 0 < length bytes → call_behind after ≡ Some (call_view c) → c.len ≤ length after → IsAscii c.name.now → IsFirstPiece at bytes (piece.Call c)
+pub first_call : (at : ℕ) (bytes after : List ℕ) (c : Call') → after ≡ drop 1 bytes → len_before 35 bytes ≡ 0 → 0 < length bytes → call_after after ≡ Some (call_view c) → c.len ≤ length after → IsAscii c.name.now → IsFirstPiece at bytes (piece.Call c)
 first_call at bytes after c follows mark some there inside named =
-    let is : call_behind (drop 1 bytes) ≡ Some (call_view c) = sym (ap call_behind follows) ∙ there in
+    let is : call_after (drop 1 bytes) ≡ Some (call_view c) = sym (ap call_after follows) ∙ there in
     let within : c.len ≤ length (drop 1 bytes) = omega (arith, inside, ap length follows) in
     let b : bytes ≡ 35 ∷ drop 1 bytes = at_mark 35 bytes mark some in
     let left : drop (c.len + 1) bytes ≡ drop (c.len + 1) (35 ∷ drop 1 bytes) = ap (drop (c.len + 1)) b in
@@ -67,9 +67,9 @@ first_call at bytes after c follows mark some there inside named =
     }
 
 -- a `#` with which no call begins comes first
-pub first_stray : (at : ℕ) (bytes after : List ℕ) → after ≡ drop 1 bytes → len_before 35 bytes ≡ 0 → 0 < length bytes → call_behind after ≡ None → IsFirstPiece at bytes (piece.Stray at)
+pub first_stray : (at : ℕ) (bytes after : List ℕ) → after ≡ drop 1 bytes → len_before 35 bytes ≡ 0 → 0 < length bytes → call_after after ≡ None → IsFirstPiece at bytes (piece.Stray at)
 first_stray at bytes after follows mark some there =
-    let none : call_behind (drop 1 bytes) ≡ None = sym (ap call_behind follows) ∙ there in
+    let none : call_after (drop 1 bytes) ≡ None = sym (ap call_after follows) ∙ there in
     let b : bytes ≡ 35 ∷ drop 1 bytes = at_mark 35 bytes mark some in
     record {
       some = omega arith;

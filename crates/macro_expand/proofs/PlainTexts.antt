@@ -7,7 +7,7 @@ use Rattle.text_grammar.specs.declared.class.Class.TheVariants.{NameByte}
 use Rattle.text_grammar.specs.Bytes.{is_name_byte}
 use Rattle.text_grammar.specs.Fronts.{front_len}
 use Rattle.macro_expand.specs.Texts.{Texts}
-use Rattle.macro_expand.specs.Calls.{Call, call_behind}
+use Rattle.macro_expand.specs.Calls.{Call, call_after}
 use Rattle.macro_expand.specs.Pieces.{byte, call, pieces_from}
 use Rattle.macro_expand.specs.Filling as filling
 use Rattle.macro_expand.specs.Filling.{parts, parts_from, missing, filled}
@@ -19,11 +19,11 @@ use Rattle.macro_expand.proofs.EachSteps.{each-append, each_plain, limited_short
 use Rattle.macro_expand.proofs.CallSteps.{call_one_deeper}
 
 -- bytes without calls, before others
-pieces_bytes : (at : ℕ) (text behind : List ℕ) → HasNo 35 text → pieces_from at 0 (text ++ behind) ≡ map byte text ++ pieces_from (at + length text) 0 behind
-pieces_bytes at [] behind all = let e : at ≡ at + 0 = omega arith in ap (λ k. pieces_from k 0 behind) e
-pieces_bytes at (b ∷ bs) behind all =
+pieces_bytes : (at : ℕ) (text after : List ℕ) → HasNo 35 text → pieces_from at 0 (text ++ after) ≡ map byte text ++ pieces_from (at + length text) 0 after
+pieces_bytes at [] after all = let e : at ≡ at + 0 = omega arith in ap (λ k. pieces_from k 0 after) e
+pieces_bytes at (b ∷ bs) after all =
     let e : at + 1 + length bs ≡ at + suc (length bs) = omega arith in
-    rw (ne_eqb b 35 all.0) (ap (λ more. byte b ∷ more) (pieces_bytes (at + 1) bs behind all.1 ∙ ap (λ k. map byte bs ++ pieces_from k 0 behind) e))
+    rw (ne_eqb b 35 all.0) (ap (λ more. byte b ∷ more) (pieces_bytes (at + 1) bs after all.1 ∙ ap (λ k. map byte bs ++ pieces_from k 0 after) e))
 
 pieces_only : (at : ℕ) (text : List ℕ) → HasNo 35 text → pieces_from at 0 text ≡ map byte text
 pieces_only at [] all = refl
@@ -33,7 +33,7 @@ parts_bytes : (text : List ℕ) → HasNo 37 text → parts text ≡ map filling
 parts_bytes [] all = refl
 parts_bytes (b ∷ bs) all = rw (ne_eqb b 37 all.0) (ap (λ more. filling.byte b ∷ more) (parts_bytes bs all.1))
 
--- bytes without calls are put behind what was expanded
+-- bytes without calls are put after what was expanded
 bytes_put : (of_call : OfCalls) (text : List ℕ) (done : Expanded) → length (done.bytes ++ text) ≤ 65536 → each (expand_piece of_call) (map byte text) done ≡ Ok (record { bytes = done.bytes ++ text; calls = done.calls })
 bytes_put of_call text done h =
     each_plain of_call text done (omega (arith, length-append done.bytes text)) ∙ rw (limited_short (done.bytes ++ text) h) refl
@@ -46,26 +46,26 @@ pub text_keeps : (macros : Texts) (text : List ℕ) → HasNo 35 text → length
 text_keeps macros text all h = rw (text_kept (expand_call_within macros 16) text 0 all h) refl
 
 -- a name is the front before a byte that is of no name
-front_named : (name behind : List ℕ) → AllByRecursion (λ b. is_name_byte b ≡ true) name → front_len NameByte (name ++ 40 ∷ behind) ≡ length name
-front_named [] behind all = refl
-front_named (b ∷ bs) behind all = rw (all.0, front_named bs behind all.1) refl
+front_named : (name after : List ℕ) → AllByRecursion (λ b. is_name_byte b ≡ true) name → front_len NameByte (name ++ 40 ∷ after) ≡ length name
+front_named [] after all = refl
+front_named (b ∷ bs) after all = rw (all.0, front_named bs after all.1) refl
 
 -- the call of a name, without arguments
 abbrev call_of_name : List ℕ → Call
 call_of_name name = record { name = name; inside = []; len = length name + 0 + 0 + 2 }
 
-call_named : (name behind : List ℕ) → IsName name → call_behind (name ++ 40 ∷ 41 ∷ behind) ≡ Some (call_of_name name)
-unfolding call_behind
-call_named name behind is =
-    rw (front_named name (41 ∷ behind) is.bytes, take_at name (40 ∷ 41 ∷ behind) (length name) refl, drop_at name (40 ∷ 41 ∷ behind) (length name) refl, lt-ltb 0 (suc (length behind)) (omega arith), is.form) refl
+call_named : (name after : List ℕ) → IsName name → call_after (name ++ 40 ∷ 41 ∷ after) ≡ Some (call_of_name name)
+unfolding call_after
+call_named name after is =
+    rw (front_named name (41 ∷ after) is.bytes, take_at name (40 ∷ 41 ∷ after) (length name) refl, drop_at name (40 ∷ 41 ∷ after) (length name) refl, lt-ltb 0 (suc (length after)) (omega arith), is.form) refl
 
-pieces_named : (at : ℕ) (name behind : List ℕ) → IsName name → pieces_from at 0 (35 ∷ name ++ 40 ∷ 41 ∷ behind) ≡ call (call_of_name name) ∷ pieces_from (at + 1 + (length name + 0 + 0 + 2)) 0 behind
-pieces_named at name behind is =
+pieces_named : (at : ℕ) (name after : List ℕ) → IsName name → pieces_from at 0 (35 ∷ name ++ 40 ∷ 41 ∷ after) ≡ call (call_of_name name) ∷ pieces_from (at + 1 + (length name + 0 + 0 + 2)) 0 after
+pieces_named at name after is =
     let e : length name + 0 + 0 + 2 ≡ length name + 2 = omega arith in
-    let rest : drop (length name + 0 + 0 + 2) (name ++ 40 ∷ 41 ∷ behind) ≡ behind =
-    ap (λ k. drop k (name ++ 40 ∷ 41 ∷ behind)) e ∙ (sym (drop-drop 2 (length name) (name ++ 40 ∷ 41 ∷ behind)) ∙ ap (drop 2) (drop_at name (40 ∷ 41 ∷ behind) (length name) refl)) in
-    rw (call_named name behind is)
-    (ap (λ more. call (call_of_name name) ∷ more) (pieces_skip (at + 1) (length name + 0 + 0 + 2) (name ++ 40 ∷ 41 ∷ behind) ∙ ap (pieces_from (at + 1 + (length name + 0 + 0 + 2)) 0) rest))
+    let rest : drop (length name + 0 + 0 + 2) (name ++ 40 ∷ 41 ∷ after) ≡ after =
+    ap (λ k. drop k (name ++ 40 ∷ 41 ∷ after)) e ∙ (sym (drop-drop 2 (length name) (name ++ 40 ∷ 41 ∷ after)) ∙ ap (drop 2) (drop_at name (40 ∷ 41 ∷ after) (length name) refl)) in
+    rw (call_named name after is)
+    (ap (λ more. call (call_of_name name) ∷ more) (pieces_skip (at + 1) (length name + 0 + 0 + 2) (name ++ 40 ∷ 41 ∷ after) ∙ ap (pieces_from (at + 1 + (length name + 0 + 0 + 2)) 0) rest))
 
 -- what a call without arguments of such a macro expands to
 call_given : (macros : Texts) (levels : ℕ) (name text : List ℕ) → 0 < levels → IsPlainMacro macros name text → length text ≤ 65536
@@ -74,17 +74,17 @@ call_given macros levels name text h is short =
     rw (call_one_deeper macros levels h, is.added, parts_bytes text is.no_place, missing_plain 0 text, filled_plain [] text, limited_short text short)
     (text_kept (expand_call_within macros (levels - 1)) text 1 is.no_call short)
 
-pub call_gives : (macros : Texts) (name text before behind : List ℕ) → IsPlainMacro macros name text → HasNo 35 before → HasNo 35 behind → length (before ++ (text ++ behind)) ≤ 65536
-    → expansion macros (before ++ (35 ∷ name ++ 40 ∷ 41 ∷ behind)) ≡ Ok (before ++ (text ++ behind))
-call_gives macros name text before behind is first last h =
-    let l = length-append before (text ++ behind) in
-    let m = length-append text behind in
+pub call_gives : (macros : Texts) (name text before after : List ℕ) → IsPlainMacro macros name text → HasNo 35 before → HasNo 35 after → length (before ++ (text ++ after)) ≤ 65536
+    → expansion macros (before ++ (35 ∷ name ++ 40 ∷ 41 ∷ after)) ≡ Ok (before ++ (text ++ after))
+call_gives macros name text before after is first last h =
+    let l = length-append before (text ++ after) in
+    let m = length-append text after in
     let n = length-append before text in
     let of_call = expand_call_within macros 16 in
     let one : each (expand_piece of_call) (map byte before) (record { bytes = []; calls = 0 }) ≡ Ok (record { bytes = before; calls = 0 }) = bytes_put of_call before (record { bytes = []; calls = 0 }) (omega arith) in
     let two : of_call (call_of_name name) 0 ≡ Ok (record { bytes = text; calls = 1 }) = call_given macros 16 name text (omega arith) is (omega arith) in
-    let three : each (expand_piece of_call) (map byte behind) (record { bytes = before ++ text; calls = 1 }) ≡ Ok (record { bytes = (before ++ text) ++ behind; calls = 1 }) =
-    bytes_put of_call behind (record { bytes = before ++ text; calls = 1 }) (omega (arith, length-append (before ++ text) behind)) in
-    rw (pieces_bytes 0 before (35 ∷ name ++ 40 ∷ 41 ∷ behind) first, pieces_named (0 + length before) name behind is.named, pieces_only (0 + length before + 1 + (length name + 0 + 0 + 2)) behind last)
-    (rw (each-append (expand_piece of_call) (map byte before) (call (call_of_name name) ∷ map byte behind) (record { bytes = []; calls = 0 }), one, two, limited_short (before ++ text) (omega arith), three)
-    (ap (λ bytes. Ok bytes) (append_assoc before text behind)))
+    let three : each (expand_piece of_call) (map byte after) (record { bytes = before ++ text; calls = 1 }) ≡ Ok (record { bytes = (before ++ text) ++ after; calls = 1 }) =
+    bytes_put of_call after (record { bytes = before ++ text; calls = 1 }) (omega (arith, length-append (before ++ text) after)) in
+    rw (pieces_bytes 0 before (35 ∷ name ++ 40 ∷ 41 ∷ after) first, pieces_named (0 + length before) name after is.named, pieces_only (0 + length before + 1 + (length name + 0 + 0 + 2)) after last)
+    (rw (each-append (expand_piece of_call) (map byte before) (call (call_of_name name) ∷ map byte after) (record { bytes = []; calls = 0 }), one, two, limited_short (before ++ text) (omega arith), three)
+    (ap (λ bytes. Ok bytes) (append_assoc before text after)))

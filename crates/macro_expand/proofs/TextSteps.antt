@@ -12,7 +12,7 @@ module _ (of_call : OfCalls) (text : List ℕ) (at len : ℕ) (first : Piece') (
   is : IsFirstPiece at (drop at text) first
   is = subst (λ bs. IsFirstPiece at bs first) follows seen
 
-  -- what is left is the first piece and what stands behind it
+  -- what is left is the first piece and what stands after it
   left : (done : Expanded) → each (expand_piece of_call) (pieces_from at 0 (drop at text)) done ≡ (each (expand_piece of_call) (pieces_view first) done >>= each (expand_piece of_call) (pieces_from (at + len) 0 (drop (at + len) text)))
   left done =
       ap (λ ps. each (expand_piece of_call) ps done)
@@ -20,9 +20,9 @@ module _ (of_call : OfCalls) (text : List ℕ) (at len : ℕ) (first : Piece') (
       ∙ each-append (expand_piece of_call) (pieces_view first) (pieces_from (at + len) 0 (drop (at + len) text)) done
 
   -- the first piece is expanded
-  pub left_behind : (done new : Expanded) (whole : Result Expanded MacroFault) → each (expand_piece of_call) (pieces_from at 0 (drop at text)) done ≡ whole → each (expand_piece of_call) (pieces_view first) done ≡ Ok new
+  pub left_after : (done new : Expanded) (whole : Result Expanded MacroFault) → each (expand_piece of_call) (pieces_from at 0 (drop at text)) done ≡ whole → each (expand_piece of_call) (pieces_view first) done ≡ Ok new
       → each (expand_piece of_call) (pieces_from (at + len) 0 (drop (at + len) text)) new ≡ whole
-  left_behind done new whole told h = sym (left done ∙ ap (λ r. r >>= each (expand_piece of_call) (pieces_from (at + len) 0 (drop (at + len) text))) h) ∙ told
+  left_after done new whole told h = sym (left done ∙ ap (λ r. r >>= each (expand_piece of_call) (pieces_from (at + len) 0 (drop (at + len) text))) h) ∙ told
 
   -- the first piece has a fault
   pub left_refused : (done : Expanded) (whole : Result Expanded MacroFault) (e : MacroFault) → each (expand_piece of_call) (pieces_from at 0 (drop at text)) done ≡ whole → each (expand_piece of_call) (pieces_view first) done ≡ Err e → whole ≡ Err e

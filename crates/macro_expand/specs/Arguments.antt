@@ -2,11 +2,11 @@
 use Rattle.std.specs.Prelude.{ℕ, suc, ◌+◌, ◌-◌, ◌==◌, ◌&&◌, if◌then◌else◌, List, [], ◌∷◌, length, Option, None, Some}
 use Rattle.text_grammar.specs.declared.class.Class.TheVariants.{Blank}
 use Rattle.text_grammar.specs.Fronts.{front_len}
-use Rattle.macro_expand.specs.Calls.{parentheses_behind}
+use Rattle.macro_expand.specs.Calls.{parentheses_after}
 
--- how many square brackets are open behind a byte: a `]` where none is open counts nothing
-abbrev pub brackets_behind : ℕ → ℕ → ℕ
-brackets_behind n b = if b == 91 then n + 1 else if b == 93 then n - 1 else n
+-- how many square brackets are open after a byte: a `]` where none is open counts nothing
+abbrev pub brackets_after : ℕ → ℕ → ℕ
+brackets_after n b = if b == 91 then n + 1 else if b == 93 then n - 1 else n
 
 -- a byte more at the front of the first argument
 abbrev pub with_first : ℕ → List (List ℕ) → List (List ℕ)
@@ -18,15 +18,15 @@ abbrev pub cut : ℕ → ℕ → List ℕ → List (List ℕ)
 cut n m [] = [] ∷ []
 cut n m (b ∷ bs) =
     if b == 44 && (n == 0 && m == 0) then [] ∷ cut 0 0 bs
-    else with_first b (cut (parentheses_behind n b) (brackets_behind m b) bs)
+    else with_first b (cut (parentheses_after n b) (brackets_after m b) bs)
 
 -- how many bytes the first argument of them has
 abbrev pub first_len : ℕ → ℕ → List ℕ → ℕ
 first_len n m [] = 0
 first_len n m (b ∷ bs) =
-    if b == 44 && (n == 0 && m == 0) then 0 else suc (first_len (parentheses_behind n b) (brackets_behind m b) bs)
+    if b == 44 && (n == 0 && m == 0) then 0 else suc (first_len (parentheses_after n b) (brackets_after m b) bs)
 
--- the arguments in what is left behind a comma; none where nothing is left
+-- the arguments in what is left after a comma; none where nothing is left
 abbrev pub arguments_left : Option (List ℕ) → List (List ℕ)
 arguments_left None = []
 arguments_left (Some bytes) = cut 0 0 bytes

@@ -5,7 +5,7 @@ use Rattle.text_grammar.specs.declared.class.Class.TheVariants.{Blank, NameByte}
 use Rattle.text_grammar.specs.Bytes.{is_letter}
 use Rattle.text_grammar.specs.Fronts.{front_len, front_of, behind_front}
 
--- a call: the macro's name, what stands between the parentheses, and how many bytes the call has behind its `#`
+-- a call: the macro's name, what stands between the parentheses, and how many bytes the call has after its `#`
 pub record Call : Type 0 where
   pub name : List ℕ
   pub inside : List ℕ
@@ -16,31 +16,31 @@ abbrev pub is_name : List ℕ → Bool
 is_name [] = false
 is_name (b ∷ bs) = is_letter b && nat_le (length (b ∷ bs)) 64
 
--- how many parentheses are open behind a byte
-abbrev pub parentheses_behind : ℕ → ℕ → ℕ
-parentheses_behind n b = if b == 40 then n + 1 else if b == 41 then n - 1 else n
+-- how many parentheses are open after a byte
+abbrev pub parentheses_after : ℕ → ℕ → ℕ
+parentheses_after n b = if b == 40 then n + 1 else if b == 41 then n - 1 else n
 
 -- how many bytes stand before the `)` that closes a parenthesis in which n others are open, or all where none does
 abbrev pub inside_len : ℕ → List ℕ → ℕ
 inside_len n [] = 0
-inside_len n (b ∷ bs) = if b == 41 && n == 0 then 0 else suc (inside_len (parentheses_behind n b) bs)
+inside_len n (b ∷ bs) = if b == 41 && n == 0 then 0 else suc (inside_len (parentheses_after n b) bs)
 
 -- what a `(` at the front encloses, if a `)` closes it
 abbrev pub enclosed : List ℕ → Option (List ℕ)
 enclosed [] = None
 enclosed (b ∷ bs) = if b == 40 && nat_lt (inside_len 0 bs) (length bs) then Some (take (inside_len 0 bs) bs) else None
 
--- what stands behind the name at the front and the blanks behind that
-abbrev pub behind_name : List ℕ → List ℕ
-behind_name bytes = behind_front Blank (behind_front NameByte bytes)
+-- what stands after the name at the front and the blanks after that
+abbrev pub after_name : List ℕ → List ℕ
+after_name bytes = behind_front Blank (behind_front NameByte bytes)
 
 -- the call of this name, between which and the `(` stand so many blanks, and what it encloses
 abbrev pub call_of : List ℕ → ℕ → List ℕ → Call
 call_of name blanks inside = record { name = name; inside = inside; len = length name + blanks + length inside + 2 }
 
--- the call at the front of what stands behind its `#`, if a call begins there
-unfoldable pub call_behind : List ℕ → Option Call
-call_behind bytes =
+-- the call at the front of what stands after its `#`, if a call begins there
+unfoldable pub call_after : List ℕ → Option Call
+call_after bytes =
     if is_name (front_of NameByte bytes)
-    then option_map (call_of (front_of NameByte bytes) (front_len Blank (behind_front NameByte bytes))) (enclosed (behind_name bytes))
+    then option_map (call_of (front_of NameByte bytes) (front_len Blank (behind_front NameByte bytes))) (enclosed (after_name bytes))
     else None

@@ -37,7 +37,7 @@ each step (x ∷ xs) done = step x done >>= each step xs
 abbrev pub limited : List ℕ → Result (List ℕ) MacroFault
 limited bytes = if nat_le (length bytes) 65536 then Ok bytes else Err faults.MacroLong
 
--- what was expanded so far, and more bytes behind it
+-- what was expanded so far, and more bytes after it
 abbrev pub put : List ℕ → List ℕ → ℕ → Result Expanded MacroFault
 put done bytes calls = limited (done ++ bytes) >>= λ all. Ok (record { bytes = all; calls = calls })
 

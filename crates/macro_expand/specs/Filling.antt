@@ -8,14 +8,14 @@ pub data Part : Type 0 where
   -- the place of an argument, by the argument's number
   place : ℕ → Part
 
--- the number that digits spell, behind those that spell the number so far
-abbrev pub value_behind : ℕ → List ℕ → ℕ
-value_behind so_far [] = so_far
-value_behind so_far (digit ∷ digits) = value_behind (10 * so_far + (digit - 48)) digits
+-- the number that digits spell, after those that spell the number so far
+abbrev pub value_after : ℕ → List ℕ → ℕ
+value_after so_far [] = so_far
+value_after so_far (digit ∷ digits) = value_after (10 * so_far + (digit - 48)) digits
 
 -- the number that digits spell; 2^64 - 1 stands for each greater one
 abbrev pub number_of : List ℕ → ℕ
-number_of digits = min (value_behind 0 digits) 18446744073709551615
+number_of digits = min (value_after 0 digits) 18446744073709551615
 
 -- the parts of some bytes, of which the first n are digits of a place before them
 abbrev pub parts_from : ℕ → List ℕ → List Part

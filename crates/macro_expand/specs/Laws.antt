@@ -29,5 +29,5 @@ pub record IsPlainMacro (macros : Texts) (name text : List ℕ) : Type 0 where
 
 -- such a macro's text stands in the place of its call without arguments, where all is at most 65,536 bytes
 abbrev pub GivesPlainTexts : Type 0
-GivesPlainTexts = (macros : Texts) (name text before behind : List ℕ) → IsPlainMacro macros name text → HasNo 35 before → HasNo 35 behind → length (before ++ (text ++ behind)) ≤ 65536
-    → expansion macros (before ++ (35 ∷ name ++ 40 ∷ 41 ∷ behind)) ≡ Ok (before ++ (text ++ behind))
+GivesPlainTexts = (macros : Texts) (name text before after : List ℕ) → IsPlainMacro macros name text → HasNo 35 before → HasNo 35 after → length (before ++ (text ++ after)) ≤ 65536
+    → expansion macros (before ++ (35 ∷ name ++ 40 ∷ 41 ∷ after)) ≡ Ok (before ++ (text ++ after))

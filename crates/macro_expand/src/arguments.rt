@@ -2,16 +2,16 @@
 
 ghost use Rattle.std.specs.Prelude.{◌≡◌, ◌≤◌, ◌<◌, ◌+◌, ◌∷◌, length, map, IfOk, IfSome};
 ghost use Rattle.std.specs.Option.{option_copied};
-ghost use Rattle.macro_expand.specs.Arguments.{cut, arguments_left, brackets_behind as bracketed_behind, first_len as len_of_first, arguments_of as arguments_in};
+ghost use Rattle.macro_expand.specs.Arguments.{cut, arguments_left, brackets_after as bracketed_after, first_len as len_of_first, arguments_of as arguments_in};
 
-use crate::call::parentheses_behind;
+use crate::call::parentheses_after;
 use std::alloc::{AllocError, Global};
 use text_grammar::{Class, front_len};
 
-/// How many square brackets are open behind a byte, before which some are.
-fn brackets_behind(before: usize, byte: u8) -> usize
+/// How many square brackets are open after a byte, before which some are.
+fn brackets_after(before: usize, byte: u8) -> usize
     requires { before < usize.MAX }
-    ensures is { result ≡ bracketed_behind before byte }
+    ensures is { result ≡ bracketed_after before byte }
     ensures few { result ≤ before + 1 }
 {
     match byte {
@@ -32,20 +32,20 @@ fn first_len(bytes: &[u8]) -> usize
         if *byte == b',' && parentheses == 0 && brackets == 0 {
             return index;
         }
-        parentheses = parentheses_behind(parentheses, *byte);
-        brackets = brackets_behind(brackets, *byte);
+        parentheses = parentheses_after(parentheses, *byte);
+        brackets = brackets_after(brackets, *byte);
     }
     bytes.len()
 }
 
-/// The first argument, and what stands behind the comma that ends it, if one does.
+/// The first argument, and what stands after the comma that ends it, if one does.
 #[tactic(auto, using(crate::proofs::ArgumentSteps::first_of_more, crate::proofs::ArgumentSteps::first_of_one))]
 fn first_argument(bytes: &[u8]) -> (&[u8], Option<&[u8]>)
     ensures parted { cut 0 0 bytes.now ≡ result.0.now ∷ arguments_left (option_copied result.1) }
     ensures shorter { IfSome result.1 (λ left. length left.now < length bytes.now) }
 {
-    let (argument, behind) = bytes.split_at(first_len(bytes));
-    match behind.split_first() {
+    let (argument, after) = bytes.split_at(first_len(bytes));
+    match after.split_first() {
         Some((_, left)) => (argument, Some(left)),
         None => (argument, None),
     }
@@ -62,9 +62,9 @@ pub(crate) fn arguments_of(alloc: Global, inside: &[u8]) -> Result<Vec<&[u8]>, A
     }
     let mut left = Some(inside);
     'arguments: while let Some(bytes) = left {
-        let (argument, behind) = first_argument(bytes);
+        let (argument, after) = first_argument(bytes);
         arguments.push(argument)?;
-        left = behind;
+        left = after;
     }
     Ok(arguments)
 }

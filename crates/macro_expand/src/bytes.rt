@@ -1,4 +1,4 @@
-//! Fronts of texts, and what stands behind them.
+//! Fronts of texts, and what stands after them.
 
 ghost use Rattle.std.specs.Prelude.{◌≡◌, ◌≤◌, drop, length};
 ghost use Rattle.macro_expand.specs.Views.{len_before as len_up_to};
@@ -16,8 +16,8 @@ pub(crate) fn len_before(mark: u8, bytes: &[u8]) -> usize
     bytes.len()
 }
 
-/// What stands behind so many bytes.
-pub(crate) fn behind(len: usize, bytes: &[u8]) -> &[u8]
+/// What stands after so many bytes.
+pub(crate) fn after(len: usize, bytes: &[u8]) -> &[u8]
     requires { len ≤ length bytes.now }
     ensures { result.now ≡ drop len bytes.now }
 {

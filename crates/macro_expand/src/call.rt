@@ -2,7 +2,7 @@
 
 ghost use Rattle.std.specs.Prelude.{◌≡◌, ◌≤◌, ◌<◌, ◌+◌, length, IfSome, IsAscii};
 ghost use Rattle.std.specs.Option.{option_map, option_copied};
-ghost use Rattle.macro_expand.specs.Calls.{is_name as is_macro_name, parentheses_behind as nested_behind, inside_len as len_inside, enclosed as enclosed_there, call_behind as call_there};
+ghost use Rattle.macro_expand.specs.Calls.{is_name as is_macro_name, parentheses_after as nested_after, inside_len as len_inside, enclosed as enclosed_there, call_after as call_there};
 ghost use Rattle.macro_expand.specs.Views.{call_view};
 
 use text_grammar::{Class, front_len};
@@ -10,7 +10,7 @@ use text_grammar::{Class, front_len};
 /// The greatest length of a name.
 const LONGEST_NAME: usize = 64;
 
-/// A call: the macro's name, what stands between the parentheses, and how many bytes come behind the `#`.
+/// A call: the macro's name, what stands between the parentheses, and how many bytes come after the `#`.
 #[derive(Clone, Copy)]
 pub(crate) struct Call<'a> {
     pub name: &'a [u8],
@@ -28,10 +28,10 @@ fn is_name(bytes: &[u8]) -> bool
     }
 }
 
-/// How many parentheses are open behind a byte, before which some are.
-pub(crate) fn parentheses_behind(before: usize, byte: u8) -> usize
+/// How many parentheses are open after a byte, before which some are.
+pub(crate) fn parentheses_after(before: usize, byte: u8) -> usize
     requires { before < usize.MAX }
-    ensures is { result ≡ nested_behind before byte }
+    ensures is { result ≡ nested_after before byte }
     ensures few { result ≤ before + 1 }
 {
     match byte {
@@ -51,7 +51,7 @@ fn inside_len(bytes: &[u8]) -> usize
         if *byte == b')' && nested == 0 {
             return index;
         }
-        nested = parentheses_behind(nested, *byte);
+        nested = parentheses_after(nested, *byte);
     }
     bytes.len()
 }
@@ -61,30 +61,30 @@ fn enclosed(bytes: &[u8]) -> Option<&[u8]>
     ensures inside { option_copied result ≡ enclosed_there bytes.now }
     ensures within { IfSome result (λ inside. length inside.now + 2 ≤ length bytes.now) }
 {
-    let (first, behind) = bytes.split_first()?;
+    let (first, after) = bytes.split_first()?;
     if *first != b'(' {
         return None;
     }
-    let len = inside_len(behind);
-    if len == behind.len() {
+    let len = inside_len(after);
+    if len == after.len() {
         return None;
     }
-    Some(&behind[..len])
+    Some(&after[..len])
 }
 
-/// The call at the front of what stands behind its `#`, if a call begins there.
-#[tactic(auto, unfolding(crate::specs::Calls::call_behind))]
-pub(crate) fn call_behind(bytes: &[u8]) -> Option<Call<'_>>
+/// The call at the front of what stands after its `#`, if a call begins there.
+#[tactic(auto, unfolding(crate::specs::Calls::call_after))]
+pub(crate) fn call_after(bytes: &[u8]) -> Option<Call<'_>>
     ensures call { option_map call_view result ≡ call_there bytes.now }
     ensures named { IfSome result (λ call. IsAscii call.name.now) }
     ensures within { IfSome result (λ call. call.len ≤ length bytes.now) }
 {
-    let (name, behind) = bytes.split_at(front_len(Class::NameByte, bytes));
+    let (name, after) = bytes.split_at(front_len(Class::NameByte, bytes));
     if !is_name(name) {
         return None;
     }
-    let blanks = front_len(Class::Blank, behind);
-    let inside = enclosed(&behind[blanks..])?;
+    let blanks = front_len(Class::Blank, after);
+    let inside = enclosed(&after[blanks..])?;
     Some(Call {
         name,
         inside,

@@ -5,7 +5,7 @@ ghost use Rattle.macro_expand.specs.Expansion.{each, expand_piece as with_piece,
 ghost use Rattle.macro_expand.specs.Views.{Answers, IsNamed, call_view, pieces_view, expanded_view, given_view};
 
 use crate::arguments::arguments_of;
-use crate::bytes::behind;
+use crate::bytes::after;
 use crate::call::Call;
 use crate::fault::{MacroFault, name_of};
 use crate::filling::filled_text;
@@ -38,7 +38,7 @@ struct Given {
 /// arguments in its places `%0`, `%1` and so on.
 ///
 /// A call's name begins with a letter, goes on with letters, digits and `_`, and has at most 64 bytes; blanks may stand
-/// behind it. The call ends at the `)` that closes its `(`; parentheses alone count. An argument ends at a comma where no
+/// after it. The call ends at the `)` that closes its `(`; parentheses alone count. An argument ends at a comma where no
 /// further parenthesis and no square bracket is open; a `]` where none is open counts nothing. Arguments keep their blanks,
 /// and a call with only blanks between its parentheses has none. A `%` takes all digits that follow it, and stays where
 /// there is none. Arguments for which there is no place are expanded all the same, and left out.
@@ -74,14 +74,14 @@ fn expand_text(
     };
     let mut at = 0;
     'pieces: while at < text.len() {
-        let piece = first_piece(at, behind(at, text));
+        let piece = first_piece(at, after(at, text));
         expand_piece(alloc, macros, &piece, levels, &mut done)?;
         at += piece.len();
     }
     Ok(done)
 }
 
-/// Puts what a piece expands to behind what was expanded so far.
+/// Puts what a piece expands to after what was expanded so far.
 #[cycle(expansion)]
 fn expand_piece(
     alloc: Global,

@@ -6,7 +6,7 @@ ghost use Rattle.macro_expand.specs.Filling.{parts, missing, filled};
 ghost use Rattle.macro_expand.specs.Expansion.{limited, filled_text as text_filled};
 ghost use Rattle.macro_expand.specs.Views.{Answers};
 
-use crate::bytes::behind;
+use crate::bytes::after;
 use crate::fault::{MacroFault, name_of};
 use crate::limited::put;
 use crate::macros::Macros;
@@ -23,7 +23,7 @@ fn missing_place(text: &[u8], given: usize) -> Option<u64>
         if let Some(number) = part.missing(given) {
             return Some(number);
         }
-        rest = behind(part.len(), rest);
+        rest = after(part.len(), rest);
     }
     None
 }
@@ -37,7 +37,7 @@ fn fill(alloc: Global, text: &[u8], arguments: &[Vec<u8>]) -> Result<Vec<u8>, Ma
     while !rest.is_empty() {
         let part = first_part(rest);
         put(&mut made, part.text(arguments))?;
-        rest = behind(part.len(), rest);
+        rest = after(part.len(), rest);
     }
     Ok(made)
 }

@@ -12,7 +12,7 @@
 mod fault;
 // the texts of macros, by their names
 mod macros;
-// fronts of texts, and what stands behind them
+// fronts of texts, and what stands after them
 mod bytes;
 // calls, and the ends of their parentheses
 mod call;

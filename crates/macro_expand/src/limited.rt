@@ -9,7 +9,7 @@ use crate::fault::MacroFault;
 /// How many bytes a text that an expansion makes may have.
 const MOST_BYTES: usize = 65_536;
 
-/// Puts bytes behind a text, unless that would be too long.
+/// Puts bytes after a text, unless that would be too long.
 pub(crate) fn put(text: &mut Vec<u8>, bytes: &[u8]) -> Result<(), MacroFault>
     requires { length text.old.items ≤ MOST_BYTES }
     ensures made { Answers (λ done. text.new.items) result (limited (text.old.items ++ bytes.now)) }

@@ -4,7 +4,7 @@ ghost use Rattle.std.specs.Prelude.{◌≡◌, ◌<◌, length, map};
 ghost use Rattle.macro_expand.specs.Filling.{number_of as number_in, missing as missing_in, filled};
 ghost use Rattle.macro_expand.specs.Views.{part_len, parts_view, IsFirstPart};
 
-use crate::bytes::{behind, len_before};
+use crate::bytes::{after, len_before};
 use text_grammar::{Class, front_len};
 
 /// Some bytes outside of places, or the place of an argument: its number, and how many bytes spell it.
@@ -79,10 +79,10 @@ pub(crate) fn first_part(bytes: &[u8]) -> Part<'_>
     if plain > 0 {
         return Part::Plain(&bytes[..plain]);
     }
-    let after = behind(1, bytes);
-    let digits = front_len(Class::Digit, after);
+    let ahead = after(1, bytes);
+    let digits = front_len(Class::Digit, ahead);
     if digits == 0 {
         return Part::Plain(&bytes[..1]);
     }
-    Part::Place(number_of(&after[..digits]), digits + 1)
+    Part::Place(number_of(&ahead[..digits]), digits + 1)
 }

@@ -3,8 +3,8 @@
 ghost use Rattle.std.specs.Prelude.{◌≡◌, ◌<◌, ◌^◌, length};
 ghost use Rattle.macro_expand.specs.Views.{piece_len, IsFirstPiece};
 
-use crate::bytes::{behind, len_before};
-use crate::call::{Call, call_behind};
+use crate::bytes::{after, len_before};
+use crate::call::{Call, call_after};
 
 /// Some bytes outside of calls, a call, or the place of a `#` with which no call begins.
 #[derive(Clone, Copy)]
@@ -37,7 +37,7 @@ pub(crate) fn first_piece(at: usize, bytes: &[u8]) -> Piece<'_>
     if plain > 0 {
         return Piece::Plain(&bytes[..plain]);
     }
-    match call_behind(behind(1, bytes)) {
+    match call_after(after(1, bytes)) {
         Some(call) => Piece::Call(call),
         None => Piece::Stray(at),
     }

@@ -4,7 +4,7 @@ use Rattle.macro_expand.specs.Expansion.{each, expand_piece, expand_text, expand
 use Rattle.macro_expand.specs.Views.{expanded_view, given_view}
 use Rattle.macro_expand.proofs.expanding.+expansion.Given as goal
 
--- what is left, behind what was expanded, expands to what the whole does
+-- what is left, after what was expanded, expands to what the whole does
 abbrev pub invariant-expand_text-pieces : goal.invariant-expand_text-pieces
 invariant-expand_text-pieces l = record {
   told : each (expand_piece (expand_call_within l.macros l.levels)) (pieces_from l.at 0 (drop l.at l.text)) (expanded_view l.done) ≡ expand_text (expand_call_within l.macros l.levels) l.text l.calls;
@@ -15,7 +15,7 @@ invariant-expand_text-pieces l = record {
 abbrev pub decreases-expand_text-pieces : goal.decreases-expand_text-pieces
 decreases-expand_text-pieces l = length l.text - l.at
 
--- the arguments that are left, behind those that were expanded, expand to what all do
+-- the arguments that are left, after those that were expanded, expand to what all do
 abbrev pub invariant-expand_arguments-loop-argument : goal.invariant-expand_arguments-loop-argument
 invariant-expand_arguments-loop-argument l =
     each (expand_argument (expand_text (expand_call_within l.macros l.levels))) (map (λ argument. argument.now) (drop l.argument-index l.arguments)) (given_view l.given)

@@ -13,6 +13,6 @@ returns-in_err-put c =
 pub loop-rest-preserved : goal.loop-rest-preserved
 loop-rest-preserved c = record {
   told = fill_more (map (λ argument. argument.items) c.args.arguments.now) c.loop-rest.rest.now c.first_part-part.result c.first_part-part.ensures c.loop-rest.made.items c.text.result.now (filled (map (λ argument. argument.items) c.args.arguments.now) (parts c.args.text.now)) c.text.ensures c.loop-rest.invariant.told
-      _ _ c.len.result c.in_ok-put.ensures.text c.len.ensures c.behind-rest.ensures;
+      _ _ c.len.result c.in_ok-put.ensures.text c.len.ensures c.after-rest.ensures;
   short = c.in_ok-put.ensures.short;
 }

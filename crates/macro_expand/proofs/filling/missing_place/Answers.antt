@@ -1,5 +1,5 @@
 use Rattle.std.proofs.Common.{◌∙◌, sym}
-use Rattle.macro_expand.proofs.PartSteps.{missing_here, missing_behind}
+use Rattle.macro_expand.proofs.PartSteps.{missing_here, missing_after}
 use Rattle.macro_expand.proofs.filling.missing_place.Goals as goal
 
 pub returns-in-Some : goal.returns-in-Some
@@ -7,4 +7,4 @@ returns-in-Some c = sym (missing_here c.loop-rest.rest.now c.first_part-part.res
 
 pub loop-rest-preserved : goal.loop-rest-preserved
 loop-rest-preserved c =
-    missing_behind c.loop-rest.rest.now c.first_part-part.result c.first_part-part.ensures c.args.given c.len.result _ (sym c.in_default.ensures) c.len.ensures c.behind-rest.ensures ∙ c.loop-rest.invariant
+    missing_after c.loop-rest.rest.now c.first_part-part.result c.first_part-part.ensures c.args.given c.len.result _ (sym c.in_default.ensures) c.len.ensures c.after-rest.ensures ∙ c.loop-rest.invariant

@@ -1,8 +1,8 @@
 use Rattle.std.proofs.Common.{◌≡◌, ◌≤◌, min, drop}
-use Rattle.macro_expand.specs.Filling.{value_behind, number_of as number_in}
+use Rattle.macro_expand.specs.Filling.{value_after, number_of as number_in}
 use Rattle.macro_expand.proofs.part.number_of.Given as goal
 
--- the digits that are left, behind the number so far, spell the number
+-- the digits that are left, after the number so far, spell the number
 abbrev pub invariant-loop-digit : goal.invariant-loop-digit
 invariant-loop-digit l =
-    (min (value_behind l.number (drop l.digit-index l.digits)) 18446744073709551615 ≡ number_in l.digits) × (l.number ≤ 18446744073709551615)
+    (min (value_after l.number (drop l.digit-index l.digits)) 18446744073709551615 ≡ number_in l.digits) × (l.number ≤ 18446744073709551615)

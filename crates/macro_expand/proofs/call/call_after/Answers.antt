@@ -1,6 +1,6 @@
 use Rattle.std.proofs.Common.{ℕ, List, IsAscii, take, sym, ap, ◌∙◌, subst}
 use Rattle.macro_expand.proofs.FrontSteps.{IsAscii-front}
-use Rattle.macro_expand.proofs.call.call_behind.Goals as goal
+use Rattle.macro_expand.proofs.call.call_after.Goals as goal
 
 pub returns-clause-named : goal.returns-clause-named
 returns-clause-named c =
