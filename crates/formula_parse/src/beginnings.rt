@@ -9,7 +9,7 @@ ghost use Rattle.formula_parse.specs.Stops.{Gives};
 
 use crate::fault::Stop;
 use crate::state::{
-    Around, Before, Body, Context, Frame, Place, Position, Reading, Scope, Spelling, State,
+    Before, Body, Context, Frame, Place, Position, Reading, Scope, Spelling, State,
 };
 use crate::terms::{after_factor, numeral};
 use crate::token::Token;
@@ -21,24 +21,13 @@ use std::alloc::Global;
 fn open(alloc: Global, context: Context) -> Result<State, Stop>
     ensures { Gives result (machine.enter trees (context_view context) (token_view Token.Opening)) }
 {
-    let Context { around, body } = context;
-    let Around {
-        mut frames,
-        system,
-        flaw,
-    } = around;
+    let Context { mut around, body } = context;
     let base = body.inside()?;
-    let before = system.copy(alloc)?;
-    frames.push(Frame::Paren(body, before))?;
+    let before = around.system.copy(alloc)?;
+    around.frames.push(Frame::Paren(body, before))?;
+    let body = Body::fresh(alloc, base);
     Ok(State {
-        context: Context {
-            around: Around {
-                frames,
-                system,
-                flaw,
-            },
-            body: Body::fresh(alloc, base),
-        },
+        context: Context { around, body },
         position: Position::AtOperand,
     })
 }
@@ -69,13 +58,8 @@ fn negate(alloc: Global, context: Context) -> Result<State, Stop>
 fn next_variable(context: Context) -> Result<State, Stop>
     ensures { Gives result (machine.next_variable trees (context_view context) (frames_view context.around.frames.items) context.body.touched) }
 {
-    let Context { around, body } = context;
-    let Around {
-        mut frames,
-        system,
-        flaw,
-    } = around;
-    match frames.pop() {
+    let Context { mut around, body } = context;
+    match around.frames.pop() {
         Some(Frame::Quantified(scope, outer)) => {
             if body.touched {
                 return Err(Stop::Syntax);
@@ -86,11 +70,6 @@ fn next_variable(context: Context) -> Result<State, Stop>
                 last,
             } = scope;
             names.push(last)?;
-            let around = Around {
-                frames,
-                system,
-                flaw,
-            };
             Ok(State {
                 context: Context {
                     around,
@@ -152,20 +131,13 @@ pub(crate) fn enter_system(alloc: Global, context: Context, token: Token) -> Res
 {
     match token {
         Token::System(name) => {
-            let Context { around, body } = context;
-            let Before { tildes, mut marks } = body.before;
-            let system = name.copy(alloc)?;
-            marks.push(name)?;
-            let body = Body {
-                front: body.front,
-                before: Before { tildes, marks },
-                touched: true,
-            };
-            let around = Around {
-                frames: around.frames,
-                system,
-                flaw: around.flaw,
-            };
+            let Context {
+                mut around,
+                mut body,
+            } = context;
+            around.system = name.copy(alloc)?;
+            body.before.marks.push(name)?;
+            body.touched = true;
             Ok(State {
                 context: Context { around, body },
                 position: Position::AtOperand,
@@ -187,29 +159,17 @@ pub(crate) fn enter_variable(
 {
     match token {
         Token::Name(last) => {
-            let Context { around, body } = context;
-            let Around {
-                mut frames,
-                system,
-                flaw,
-            } = around;
+            let Context { mut around, body } = context;
             let base = body.inside()?;
             let scope = Scope {
                 quantifier,
                 names,
                 last,
             };
-            frames.push(Frame::Quantified(scope, body))?;
-            let around = Around {
-                frames,
-                system,
-                flaw,
-            };
+            around.frames.push(Frame::Quantified(scope, body))?;
+            let body = Body::fresh(alloc, base);
             Ok(State {
-                context: Context {
-                    around,
-                    body: Body::fresh(alloc, base),
-                },
+                context: Context { around, body },
                 position: Position::AtOperand,
             })
         }

@@ -20,57 +20,37 @@ use std::alloc::Global;
 /// A `)` or the end of the text after a formula. The quantifiers that it ends are closed one after the other.
 pub(crate) fn close(
     alloc: Global,
-    around: Around,
+    mut around: Around,
     formula: Formula,
     token: Token,
 ) -> Result<State, Stop>
     ensures { Gives result (machine.close trees (noted_view around.flaw) (frames_view around.frames.items) (formula_view formula) (token_view token)) }
 {
-    let Around {
-        mut frames,
-        system,
-        flaw,
-    } = around;
-    match frames.pop() {
+    match around.frames.pop() {
         None => match token {
             Token::End => {
-                let system = Name::new(alloc, "")?;
+                around.system = Name::new(alloc, "")?;
+                let body = Body::fresh(alloc, 0);
                 Ok(State {
-                    context: Context {
-                        around: Around {
-                            frames,
-                            system,
-                            flaw,
-                        },
-                        body: Body::fresh(alloc, 0),
-                    },
+                    context: Context { around, body },
                     position: Position::Done(formula),
                 })
             }
             _ => Err(Stop::Syntax),
         },
         Some(Frame::Paren(body, system)) => match token {
-            Token::Closing => Ok(State {
-                context: Context {
-                    around: Around {
-                        frames,
-                        system,
-                        flaw,
-                    },
-                    body,
-                },
-                position: Position::AfterOperand(formula),
-            }),
+            Token::Closing => {
+                around.system = system;
+                Ok(State {
+                    context: Context { around, body },
+                    position: Position::AfterOperand(formula),
+                })
+            }
             _ => Err(Stop::Syntax),
         },
         Some(Frame::Quantified(scope, body)) => {
             let core = quantified(alloc, body.before, scope, formula)?;
             let whole = body.front.whole(alloc, core)?;
-            let around = Around {
-                frames,
-                system,
-                flaw,
-            };
             close(alloc, around, whole, token)
         }
     }
@@ -80,25 +60,17 @@ pub(crate) fn close(
 pub(crate) fn close_term(alloc: Global, context: Context, part: Part) -> Result<State, Stop>
     ensures { Gives result (machine.close_term trees (context_view context) (frames_view context.around.frames.items) context.body.touched (term_view part.term) part.numeral) }
 {
-    let Context { around, body } = context;
-    let Around {
-        mut frames,
-        system: _,
-        flaw,
-    } = around;
-    match frames.pop() {
+    let Context { mut around, body } = context;
+    match around.frames.pop() {
         Some(Frame::Paren(outer, system)) => {
             if body.touched {
                 return Err(Stop::Syntax);
             }
+            around.system = system;
             let reading = Reading::start(alloc, Place::LeftSide);
             Ok(State {
                 context: Context {
-                    around: Around {
-                        frames,
-                        system,
-                        flaw,
-                    },
+                    around,
                     body: outer,
                 },
                 position: Position::AfterFactor(reading, part),

@@ -15,7 +15,7 @@ use crate::flaw::Product;
 use crate::making::{atom, multiplied, summed, with_addend, with_factor};
 use crate::operands::leave;
 use crate::state::{
-    Arguments, Around, Context, Nest, Part, Place, Places, Position, Reading, Side, State, Sum,
+    Arguments, Context, Nest, Part, Place, Places, Position, Reading, Side, State, Sum,
 };
 use crate::token::Token;
 use crate::tree::{Fact, Sign, Term};
@@ -39,13 +39,8 @@ pub(crate) fn after_factor(context: Context, reading: Reading, part: Part) -> St
     ensures { state_view result ≡ machine.with_factor trees (context_view context) (place_view reading.nest.place) (outers_view reading.nest.outer.items)
         (addends_view reading.sum.addends.items) (factors_view reading.sum.factors.items) (product_view reading.sum.product) (term_view part.term) part.numeral }
 {
-    let Context { around, body } = context;
-    let flaw = reading.sum.product.noted(part.numeral, around.flaw);
-    let around = Around {
-        frames: around.frames,
-        system: around.system,
-        flaw,
-    };
+    let Context { mut around, body } = context;
+    around.flaw = reading.sum.product.noted(part.numeral, around.flaw);
     State {
         context: Context { around, body },
         position: Position::AfterFactor(reading, part),
