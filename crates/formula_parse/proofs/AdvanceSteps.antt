@@ -5,7 +5,8 @@ use Rattle.formula_parse.specs.Tokens as tokens
 use Rattle.formula_parse.specs.Tokens.{here, value_of, number, nesting_of}
 use Rattle.formula_parse.specs.Machine.{Position, at_letter, at_value, depth, step}
 use Rattle.formula_parse.specs.Runs.{placed}
-use Rattle.formula_parse.specs.Grammar.{made, trees, IsInRange, told_at, letter_bound}
+use Rattle.formula_parse.specs.Made.{made, trees}
+use Rattle.formula_parse.specs.Limits.{IsInRange, told_at, letter_bound}
 use Rattle.formula_parse.specs.StateViews.{Machine, state_view}
 use Rattle.formula_parse.specs.Stops.{Steps}
 use Rattle.formula_parse.specs.Advances.{Advances}

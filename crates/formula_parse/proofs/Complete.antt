@@ -3,9 +3,12 @@ use Rattle.std.proofs.Common.{◌≡◌, refl, ◌∙◌, ℕ, suc, Bool, true, 
 use Rattle.formula_parse.specs.Tokens.{Name, Relation, Quantifier, Connective, Sign, Token, Placed, here, times, sign, relation, closing, connective, implies, iff, end}
 use Rattle.formula_parse.specs.Trees.{Names, no_names, names}
 use Rattle.formula_parse.specs.Making.{Kinds, Making}
-use Rattle.formula_parse.specs.Derivations.{Factor, variable, numeral, in_parens, Factors, no_factors, factors, Addends, no_addends, addends, Term, term, Terms, no_terms, terms, index, Core, compare, words, word_letter, letter_word, call_none, call, not_closed, grouped, marked, Operands, no_operands, operands, Chains, no_chains, chains, Implications, no_implications, implications, Last, ends, quantified, Formula, formula, factor_then, factors_then, addends_then, term_then, arguments_then, places_then, letter_then, marks_then, variables_then, tildes_then, core_then, operands_then, chains_then, implications_then, last_then, formula_then, spelled}
-use Rattle.formula_parse.specs.Systems.{marks_system, tildes_system, core_system, operands_system, chains_system, implications_system, factor_of, factors_of, addends_of, terms_of, core_of, operands_of, chains_of, implications_of, last_of, formula_of}
-use Rattle.formula_parse.specs.Flaws.{Flaw, Product, product_start, product_of, noted_factor, is_lone, is_numeral, factor_flaw, factors_flaw, addends_flaw, term_flaw, terms_flaw, none_came, came_of, is_implied, core_flaw, operands_flaw, chains_flaw, implications_flaw, last_flaw, formula_flaw, Came}
+use Rattle.formula_parse.proofs.Derivations.{Factor, variable, numeral, in_parens, Factors, no_factors, factors, Addends, no_addends, addends, Term, term, Terms, no_terms, terms, index, Core, compare, words, word_letter, letter_word, call_none, call, not_closed, grouped, marked, Operands, no_operands, operands, Chains, no_chains, chains, Implications, no_implications, implications, Last, ends, quantified, Formula, formula, factor_then, factors_then, addends_then, term_then, arguments_then, places_then, variables_then, tildes_then, core_then, operands_then, chains_then, implications_then, last_then, formula_then, spelled}
+use Rattle.formula_parse.specs.Formulas.{letter_then, marks_then}
+use Rattle.formula_parse.specs.FormulaTrees.{marks_system}
+use Rattle.formula_parse.proofs.Systems.{tildes_system, core_system, operands_system, chains_system, implications_system, factor_of, factors_of, addends_of, terms_of, core_of, operands_of, chains_of, implications_of, last_of, formula_of}
+use Rattle.formula_parse.specs.Flaws.{Flaw, Product, product_start, noted_factor, none_came, Came}
+use Rattle.formula_parse.proofs.DerivedFlaws.{product_of, is_lone, is_numeral, factor_flaw, factors_flaw, addends_flaw, term_flaw, terms_flaw, came_of, is_implied, core_flaw, operands_flaw, chains_flaw, implications_flaw, last_flaw, formula_flaw}
 use Rattle.formula_parse.specs.Machine.{Front, Body, Frame, Outer, Side, Where, Position, State, left_index, left_letter, first, second, left_side, right_of, place_in, argument, at_operand, at_variable, after_operand, at_factor, after_factor, after_index, at_word, after_letter, at_argument, done, paren, fresh, close, place, start}
 use Rattle.formula_parse.specs.Runs.{after, run}
 

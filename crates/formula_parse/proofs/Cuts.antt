@@ -3,11 +3,13 @@ use Rattle.std.proofs.Common.{◌≡◌, refl, sym, ◌∙◌, ap, subst, ℕ, �
 use Rattle.std.proofs.lemmas.List.{append-nil, map-append, same_from_push}
 use Rattle.std.specs.List.{AllByRecursion}
 use Rattle.formula_parse.specs.Tokens.{Token, number, Placed, here, value_of, token_of, nesting_of}
-use Rattle.formula_parse.specs.Derivations.{Formula, spelled, parts, derivations}
-use Rattle.formula_parse.specs.Flaws.{Flaw, formula_flaw}
+use Rattle.formula_parse.proofs.Derivations.{Formula, spelled, parts, derivations}
+use Rattle.formula_parse.specs.Flaws.{Flaw}
+use Rattle.formula_parse.proofs.DerivedFlaws.{formula_flaw}
 use Rattle.formula_parse.specs.Machine.{State, done}
 use Rattle.formula_parse.specs.Runs.{run_tokens}
-use Rattle.formula_parse.specs.Grammar.{IsInRange, IsAllowed, Derives, GoesOn, Begins, Breaks, Reaches}
+use Rattle.formula_parse.specs.Limits.{IsInRange, IsAllowed}
+use Rattle.formula_parse.proofs.DerivedGrammar.{Derives, GoesOn, Begins, Breaks, Reaches}
 use Rattle.formula_parse.specs.Spots.{Spot, spots, tokens}
 use Rattle.formula_parse.specs.Parsing.{Cut}
 use Rattle.formula_parse.proofs.Complete.{final}

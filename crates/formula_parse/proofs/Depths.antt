@@ -3,7 +3,7 @@ use Rattle.std.proofs.Common.{◌≡◌, ◌∙◌, ap, ℕ, suc, ◌+◌, List,
 use Rattle.std.specs.List.{fold}
 use Rattle.formula_parse.specs.Machine as machine
 use Rattle.formula_parse.specs.Machine.{within_outer}
-use Rattle.formula_parse.specs.Grammar.{made}
+use Rattle.formula_parse.specs.Made.{made}
 use Rattle.formula_parse.specs.StateViews.{outer_view, outers_view}
 use Rattle.formula_parse.specs.declared.state.Sum.{Sum}
 

@@ -5,15 +5,21 @@ use Rattle.std.specs.List.{AllByRecursion}
 use Rattle.formula_parse.specs.Tokens.{Token, number, Placed, token_of}
 use Rattle.formula_parse.specs.Trees as trees
 use Rattle.formula_parse.specs.Making.{Kinds, Making}
-use Rattle.formula_parse.specs.Derivations.{Formula, spelled, parts, derivations, within}
-use Rattle.formula_parse.specs.Flaws.{Flaw, formula_flaw}
-use Rattle.formula_parse.specs.Machine.{Position, at_letter, at_value, State, at_operand, at_system, at_variable, after_operand, after_first, at_factor, after_factor, after_index, at_word, at_bracket, after_letter, at_called, at_call, at_argument, done, step, start, depth, within_position}
+use Rattle.formula_parse.proofs.Derivations.{Formula, spelled, parts, derivations}
+use Rattle.formula_parse.specs.Machine.{within, Position, at_letter, at_value, State, at_operand, at_system, at_variable, after_operand, after_first, at_factor, after_factor, after_index, at_word, at_bracket, after_letter, at_called, at_call, at_argument, done, step, start, depth, within_position}
+use Rattle.formula_parse.specs.Flaws.{Flaw}
+use Rattle.formula_parse.proofs.DerivedFlaws.{formula_flaw}
 use Rattle.formula_parse.specs.Runs.{after, run_tokens, run, placed}
-use Rattle.formula_parse.specs.Grammar.{made, trees, default_system, tree_of, IsAllowed, Derives, Reads, Begins, Breaks, Reaches}
+use Rattle.formula_parse.specs.Made.{made, trees}
+use Rattle.formula_parse.specs.FormulaTrees.{default_system}
+use Rattle.formula_parse.proofs.DerivedGrammar.{tree_of, Derives, Reads, Begins, Breaks, Reaches}
+use Rattle.formula_parse.specs.Limits.{IsAllowed}
 use Rattle.formula_parse.proofs.Complete.{complete, final}
 use Rattle.formula_parse.proofs.Sound.{Sane, GoesOn as ReadsFrom, at_then, state_then, deep, step_goes}
 use Rattle.formula_parse.proofs.Completions.{completed}
 use Rattle.formula_parse.proofs.Same.{nothing, none, bare, bare_position, bared, step_same, depth_same, placed_same}
+use Rattle.formula_parse.specs.Grammar as grammar
+use Rattle.formula_parse.proofs.BothGrammars.{breaks, reaches, WholeDerived, Whole, whole}
 
 -- a run over tokens that keep the limits
 pub record Walks (front : List Token) (s : State made) : Type 0 where
@@ -138,7 +144,7 @@ walks_step front s t n w e a =
     }
 
 -- the front begins a text
-pub walks_begins : (front : List Token) (s : State made) → Walks front s → Begins front
+walks_begins : (front : List Token) (s : State made) → Walks front s → Begins front
 walks_begins front s w =
     let c = completed w.state in
     record {
@@ -151,8 +157,8 @@ walks_begins front s w =
     }
 
 -- a token at which the machine stops goes on in no text
-pub walks_breaks : (front : List Token) (s : State made) (t : Token) → Walks front s → step trees s t ≡ None → Breaks front t
-walks_breaks front s t w e = record {
+breaks_derived : (front : List Token) (s : State made) (t : Token) → Walks front s → step trees s t ≡ None → Breaks front t
+breaks_derived front s t w e = record {
   before = walks_begins front s w;
   there = λ text read more g h.
       let first = start trees default_system in
@@ -168,8 +174,11 @@ walks_breaks front s t w e = record {
       cc;
 }
 
-pub walks_reach : (front : List Token) (s : State made) (t : Token) (n : State made) → Walks front s → step trees s t ≡ Some n → Reaches front t (placed s.position t (depth n))
-walks_reach front s t n w e =
+pub walks_breaks : (front : List Token) (s : State made) (t : Token) → Walks front s → step trees s t ≡ None → grammar.Breaks front t
+walks_breaks front s t w e = breaks front t (breaks_derived front s t w e)
+
+reach_derived : (front : List Token) (s : State made) (t : Token) (n : State made) → Walks front s → step trees s t ≡ Some n → Reaches front t (placed s.position t (depth n))
+reach_derived front s t n w e =
     let v = walked {n = n} w e in
     let c = completed v.state in
     record {
@@ -182,13 +191,10 @@ walks_reach front s t n w e =
       allowed = v.allowed;
     }
 
--- a text that was read to its end
-pub record Ended (ts : List Token) (tree : trees.Formula) (flaw : Option Flaw) : Type 0 where
-  pub text : Formula
-  pub derives : Derives ts text
-  pub tree_is : tree_of text ≡ tree
-  pub flaw_is : formula_flaw None text ≡ flaw
+pub walks_reach : (front : List Token) (s : State made) (t : Token) (n : State made) → Walks front s → step trees s t ≡ Some n → grammar.Reaches front t (placed s.position t (depth n))
+walks_reach front s t n w e = reaches front t (placed s.position t (depth n)) (reach_derived front s t n w e)
 
+-- a text that was read to its end
 done_of : (p : Position parts) → bare_position p ≡ done tt → (g : Formula) × (p ≡ done g)
 done_of (done g) e = (g, refl)
 done_of at_operand e = absurd cc
@@ -214,20 +220,14 @@ tokens_end ts text e =
     ap (λ us. run_tokens trees us (start trees default_system)) (sym e)
     ∙ (run_placed trees (spelled text) (start trees default_system) ∙ complete trees text default_system)
 
-final_tree : (f g : trees.Formula) (u w : Option Flaw) → Some (final trees f u) ≡ Some (final trees g w) → f ≡ g
-final_tree f g u w e =
-    let one : final trees f u ≡ final trees g w = cc in
-    let place : done f ≡ done g = ap (λ (z : State made). z.position) one in
-    cc
-
 final_done : (s : State made) (f g : trees.Formula) (w : Option Flaw) → Some s ≡ Some (final trees g w) → s.position ≡ done f → (g ≡ f) × (w ≡ s.flaw)
 final_done s f g w e h =
     let one : s ≡ final trees g w = cc in
     let place : done f ≡ done g = sym h ∙ ap (λ (z : State made). z.position) one in
     (cc, sym (ap (λ (z : State made). z.flaw) one))
 
-pub walks_end : (ts : List Token) (s : State made) (f : trees.Formula) → Walks ts s → s.position ≡ done f → Ended ts f s.flaw
-walks_end ts s f w e =
+end_derived : (ts : List Token) (s : State made) (f : trees.Formula) → Walks ts s → s.position ≡ done f → WholeDerived ts f s.flaw
+end_derived ts s f w e =
     let bare_end : bare_position w.state.position ≡ done tt =
     ap (λ (z : State nothing). z.position) w.same ∙ ap (λ (z : Position made). bare_position z) e in
     let g = done_of w.state.position bare_end in
@@ -241,9 +241,5 @@ walks_end ts s f w e =
       flaw_is = one.1;
     }
 
--- no tokens have two trees
-pub one_tree : (ts : List Token) (f g : trees.Formula) → Reads ts f → Reads ts g → f ≡ g
-one_tree ts f g r q =
-    sym r.tree_is
-    ∙ (final_tree (tree_of r.text) (tree_of q.text) (formula_flaw None r.text) (formula_flaw None q.text) (sym (tokens_end ts r.text r.derives.spells) ∙ tokens_end ts q.text q.derives.spells)
-    ∙ q.tree_is)
+pub walks_end : (ts : List Token) (s : State made) (f : trees.Formula) → Walks ts s → s.position ≡ done f → Whole ts f s.flaw
+walks_end ts s f w e = whole ts f s.flaw (end_derived ts s f w e)

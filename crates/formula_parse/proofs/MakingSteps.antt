@@ -5,7 +5,7 @@ use Rattle.std.specs.List.{fold}
 use Rattle.std.specs.declared.alloc.Global.{Global}
 use Rattle.formula_parse.specs.Tokens.{Name}
 use Rattle.formula_parse.specs.Trees as trees
-use Rattle.formula_parse.specs.Grammar.{multiplied, summed, chained, under_marks}
+use Rattle.formula_parse.specs.Building.{multiplied, summed, chained, under_marks}
 use Rattle.formula_parse.specs.Views.{term_view, factor_view, factors_view, addend_view, addends_view, with_addend, formula_view, operand_view, operands_view, with_operand, names_view, quantifier_view}
 use Rattle.formula_parse.specs.declared.tree.Term.{Term}
 use Rattle.formula_parse.specs.declared.tree.Term.TheVariants as term

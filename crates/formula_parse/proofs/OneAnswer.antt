@@ -1,16 +1,22 @@
 -- The answers that the grammar gives to a text are one.
-use Rattle.std.proofs.Common.{◌≡◌, sym, ◌∙◌, ap, subst, ℕ, ◌<◌, List, Option, None, Some, Result, Ok, Err, arith}
+use Rattle.std.proofs.Common.{◌≡◌, refl, sym, ◌∙◌, ap, subst, ℕ, ◌<◌, List, Option, None, Some, Result, Ok, Err, arith}
 use Rattle.formula_parse.specs.Tokens.{Token, Placed, nesting_of}
 use Rattle.formula_parse.specs.Trees as trees
-use Rattle.formula_parse.specs.Derivations.{Formula}
-use Rattle.formula_parse.specs.Flaws.{Flaw, mixed_chain, not_linear, formula_flaw}
-use Rattle.formula_parse.specs.Grammar.{tree_of, IsInRange, Derives, Breaks, Reaches, told_at}
+use Rattle.formula_parse.proofs.Derivations.{Formula}
+use Rattle.formula_parse.specs.Flaws.{Flaw, mixed_chain, not_linear}
+use Rattle.formula_parse.proofs.DerivedFlaws.{formula_flaw}
+use Rattle.formula_parse.specs.Limits.{IsInRange, told_at}
+use Rattle.formula_parse.proofs.DerivedGrammar.{tree_of, Derives, Breaks, Reaches}
 use Rattle.formula_parse.specs.Spots.{spots, tokens}
 use Rattle.formula_parse.specs.Parsing.{Cut, Parses}
 use Rattle.formula_parse.specs.OneAnswer.{told, IsOfTheText}
 use Rattle.formula_parse.specs.declared.tree.Formula.{Formula as Tree}
 use Rattle.formula_parse.specs.declared.fault.ParseFault.{ParseFault}
 use Rattle.formula_parse.specs.declared.fault.ParseFault.TheVariants as faults
+use Rattle.formula_parse.specs.FormulaTrees as shown
+use Rattle.formula_parse.specs.Views.{formula_view}
+use Rattle.formula_parse.specs.Grammar.{Reads}
+use Rattle.formula_parse.proofs.BothGrammars.{breaks_derived, reaches_derived, WholeDerived, whole_derived}
 use Rattle.formula_parse.proofs.Cuts.{one_derivation, Stops, breaks_stop, reaches_stop, breaks_reaches, one_reached, not_deep, SameCut, same_cut, whole_stops}
 
 -- what a derivation of a whole text tells
@@ -30,14 +36,46 @@ data Tells (text : List ℕ) (x : Result trees.Formula ParseFault) : Type 0 wher
   at_depth : (c : Cut text) (p : Placed) → Reaches (tokens c.front) c.spot.token p → 128 < nesting_of p → Err (faults.Depth c.spot.at) ≡ x → Tells text x
 
 tells : (text : List ℕ) (f : Result Tree ParseFault) → IsOfTheText f → Parses text f → Tells text (told f)
-tells text (Ok f) i p = to_the_end p.text p.derives (ap (λ w. flawed w (tree_of p.text)) p.flawless ∙ ap Ok p.tree_is)
-tells text (Err (faults.Syntax at)) i p = at_break p.cut p.breaks (ap (λ b. Err (faults.Syntax b)) p.at_is)
+tells text (Ok f) i p =
+    let w =
+    whole_derived
+    (tokens (spots text))
+    (formula_view f)
+    None
+    (record { text = p.text; derives = p.derives; tree_is = p.tree_is; flaw_is = p.flawless }) in
+    to_the_end w.text w.derives (ap (λ z. flawed z (tree_of w.text)) w.flaw_is ∙ ap Ok w.tree_is)
+tells text (Err (faults.Syntax at)) i p =
+    at_break p.cut (breaks_derived (tokens p.cut.front) p.cut.spot.token p.breaks) (ap (λ b. Err (faults.Syntax b)) p.at_is)
 tells text (Err (faults.Number at)) i p =
-    at_number p.cut p.passes.place p.passes.reaches p.passes.out (ap (λ b. Err (faults.Number b)) p.passes.told)
+    at_number
+    p.cut
+    p.passes.place
+    (reaches_derived (tokens p.cut.front) p.cut.spot.token p.passes.place p.passes.reaches)
+    p.passes.out
+    (ap (λ b. Err (faults.Number b)) p.passes.told)
 tells text (Err (faults.Depth at)) i p =
-    at_depth p.cut p.passes.place p.passes.reaches p.passes.deep (ap (λ b. Err (faults.Depth b)) p.at_is)
-tells text (Err (faults.MixedChain at)) i p = to_the_end p.text p.derives (ap (λ w. flawed w (tree_of p.text)) p.flaw_is)
-tells text (Err (faults.NotLinear at)) i p = to_the_end p.text p.derives (ap (λ w. flawed w (tree_of p.text)) p.flaw_is)
+    at_depth
+    p.cut
+    p.passes.place
+    (reaches_derived (tokens p.cut.front) p.cut.spot.token p.passes.place p.passes.reaches)
+    p.passes.deep
+    (ap (λ b. Err (faults.Depth b)) p.at_is)
+tells text (Err (faults.MixedChain at)) i p =
+    let w =
+    whole_derived
+    (tokens (spots text))
+    (shown.tree_of p.text)
+    (Some (mixed_chain at))
+    (record { text = p.text; derives = p.derives; tree_is = refl; flaw_is = p.flaw_is }) in
+    to_the_end w.text w.derives (ap (λ z. flawed z (tree_of w.text)) w.flaw_is)
+tells text (Err (faults.NotLinear at)) i p =
+    let w =
+    whole_derived
+    (tokens (spots text))
+    (shown.tree_of p.text)
+    (Some (not_linear at))
+    (record { text = p.text; derives = p.derives; tree_is = refl; flaw_is = p.flaw_is }) in
+    to_the_end w.text w.derives (ap (λ z. flawed z (tree_of w.text)) w.flaw_is)
 tells text (Err faults.Memory) i p = absurd i
 
 number_stops : (front : List Token) (t : Token) (p : Placed) → Reaches front t p → (IsInRange p → ⊥) → Stops front t
@@ -98,3 +136,13 @@ module _ (text : List ℕ) where
 
 pub one_answer_of : (text : List ℕ) (f g : Result Tree ParseFault) → IsOfTheText f → IsOfTheText g → Parses text f → Parses text g → told f ≡ told g
 one_answer_of text f g i j p q = one_tells text (told f) (told g) (tells text f i p) (tells text g j q)
+
+-- the derivation of tokens that have a tree
+reads_derived : (ts : List Token) (f : trees.Formula) → Reads ts f → WholeDerived ts f None
+reads_derived ts f r = whole_derived ts f None (record { text = r.text; derives = r.derives; tree_is = r.tree_is; flaw_is = r.flawless })
+
+pub one_tree_of : (ts : List Token) (f g : trees.Formula) → Reads ts f → Reads ts g → f ≡ g
+one_tree_of ts f g r q =
+    let a = reads_derived ts f r in
+    let b = reads_derived ts g q in
+    sym a.tree_is ∙ (ap tree_of (one_derivation a.text b.text (a.derives.spells ∙ sym b.derives.spells)) ∙ b.tree_is)

@@ -6,7 +6,9 @@ use Rattle.formula_parse.specs.Tokens as tokens
 use Rattle.formula_parse.specs.Machine as machine
 use Rattle.formula_parse.specs.Machine.{done, step, start, depth}
 use Rattle.formula_parse.specs.Runs.{placed}
-use Rattle.formula_parse.specs.Grammar.{trees as making, default_system, IsInRange, IsAllowed, told_at}
+use Rattle.formula_parse.specs.Made.{trees as making}
+use Rattle.formula_parse.specs.FormulaTrees.{default_system}
+use Rattle.formula_parse.specs.Limits.{IsInRange, IsAllowed, told_at}
 use Rattle.formula_parse.specs.Spots.{Mode, plain, mode_after, Spot, spots_from, spots, tokens as tokens_of}
 use Rattle.formula_parse.specs.Views.{formula_view}
 use Rattle.formula_parse.specs.StateViews.{Machine, position_view, state_view, noted_view}
@@ -23,7 +25,8 @@ use Rattle.formula_parse.specs.declared.tree.Formula.{Formula}
 use Rattle.formula_parse.specs.declared.fault.ParseFault.{ParseFault}
 use Rattle.formula_parse.specs.declared.fault.ParseFault.TheVariants as faults
 use Rattle.formula_parse.proofs.Ends.{EndsDone, step_done}
-use Rattle.formula_parse.proofs.Law.{Walks, walks_start, walks_step, walks_breaks, walks_reach, walks_end, Ended}
+use Rattle.formula_parse.proofs.Law.{Walks, walks_start, walks_step, walks_breaks, walks_reach, walks_end}
+use Rattle.formula_parse.proofs.BothGrammars.{Whole}
 use Rattle.formula_parse.proofs.SpotSteps.{NotEnd, unless_end_token}
 
 -- the machine has read the tokens before a byte
@@ -115,7 +118,7 @@ pub place_done : (s : Machine) (t : tokens.Token) (b : ℕ) (n : State) → t �
 place_done s t b n e a =
     subst (λ (o : Option Machine). EndsDone o) a.0 (subst (λ (u : tokens.Token). EndsDone (step making s u)) (sym e) (step_done making s))
 
-flawed_parses : (text : List ℕ) (f : Formula) (w : Option Flaw) (result : Result Formula ParseFault) → Ended (tokens_of (spots text)) (formula_view f) (noted_view w) → Flawed f w result → Parses text result
+flawed_parses : (text : List ℕ) (f : Formula) (w : Option Flaw) (result : Result Formula ParseFault) → Whole (tokens_of (spots text)) (formula_view f) (noted_view w) → Flawed f w result → Parses text result
 flawed_parses text f None result e h =
     subst (λ (x : Result Formula ParseFault). Parses text x) (sym h) (record { text = e.text; derives = e.derives; flawless = e.flaw_is; tree_is = e.tree_is })
 flawed_parses text f (Some (flaw.MixedChain b)) result e h =

@@ -3,11 +3,13 @@ use Rattle.std.proofs.Common.{◌≡◌, refl, sym, ◌∙◌, ap, subst, ℕ, �
 use Rattle.std.proofs.lemmas.List.{append-nil}
 use Rattle.std.specs.List.{AllByRecursion}
 use Rattle.formula_parse.specs.Tokens.{Token, number, Placed, token_of, nesting_of}
-use Rattle.formula_parse.specs.Derivations.{Formula, spelled, parts, derivations, within}
-use Rattle.formula_parse.specs.Flaws.{formula_flaw}
-use Rattle.formula_parse.specs.Machine.{Position, State, on_left, on_right, at_operand, at_factor, at_letter, at_value, at_argument, step, step_at, start, within_position}
+use Rattle.formula_parse.proofs.Derivations.{Formula, spelled, parts, derivations}
+use Rattle.formula_parse.specs.Machine.{within, Position, State, on_left, on_right, at_operand, at_factor, at_letter, at_value, at_argument, step, step_at, start, within_position}
+use Rattle.formula_parse.proofs.DerivedFlaws.{formula_flaw}
 use Rattle.formula_parse.specs.Runs.{after, run_tokens, placed}
-use Rattle.formula_parse.specs.Grammar.{default_system, IsAllowed, GoesOn}
+use Rattle.formula_parse.specs.FormulaTrees.{default_system}
+use Rattle.formula_parse.specs.Limits.{IsAllowed}
+use Rattle.formula_parse.proofs.DerivedGrammar.{GoesOn}
 use Rattle.formula_parse.proofs.Complete.{complete, final}
 use Rattle.formula_parse.proofs.Sound.{Sane, GoesOn as ReadsFrom, nesting, state_then, deep, step_goes}
 use Rattle.formula_parse.proofs.Law.{run_placed}

@@ -1,8 +1,9 @@
 -- Derivations made of derivations are those derivations.
 use Rattle.std.proofs.Common.{◌≡◌, refl, ap}
 use Rattle.formula_parse.specs.Tokens.{Name}
-use Rattle.formula_parse.specs.Derivations.{Factor, variable, numeral, in_parens, Factors, no_factors, factors, Addends, no_addends, addends, Term, term, Terms, no_terms, terms, Index, index, Core, compare, words, word_letter, letter_word, call_none, call, not_closed, grouped, Closed, marked, Operands, no_operands, operands, Chains, no_chains, chains, Implications, no_implications, implications, Last, ends, quantified, Formula, formula, derivations}
-use Rattle.formula_parse.specs.Systems.{marks_system, tildes_system, operands_system, chains_system, implications_system, factor_of, factors_of, addends_of, term_of, terms_of, index_of, core_of, closed_of, operands_of, chains_of, implications_of, last_of, formula_of}
+use Rattle.formula_parse.proofs.Derivations.{Factor, variable, numeral, in_parens, Factors, no_factors, factors, Addends, no_addends, addends, Term, term, Terms, no_terms, terms, Index, index, Core, compare, words, word_letter, letter_word, call_none, call, not_closed, grouped, Closed, marked, Operands, no_operands, operands, Chains, no_chains, chains, Implications, no_implications, implications, Last, ends, quantified, Formula, formula, derivations}
+use Rattle.formula_parse.specs.FormulaTrees.{marks_system}
+use Rattle.formula_parse.proofs.Systems.{tildes_system, operands_system, chains_system, implications_system, factor_of, factors_of, addends_of, term_of, terms_of, index_of, core_of, closed_of, operands_of, chains_of, implications_of, last_of, formula_of}
 
 mutual
   factor_remade : (f : Factor) → factor_of derivations f ≡ f

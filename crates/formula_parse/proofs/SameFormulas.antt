@@ -4,16 +4,18 @@ use Rattle.formula_parse.specs.Tokens as tokens
 use Rattle.formula_parse.specs.Tokens.{Name, Quantifier, Connective, Token, Placed, here}
 use Rattle.formula_parse.specs.Trees as shapes
 use Rattle.formula_parse.specs.Trees.{Names, no_names, names}
-use Rattle.formula_parse.specs.Derivations as derived
-use Rattle.formula_parse.specs.Derivations.{marks_then, within, tildes_then}
-use Rattle.formula_parse.specs.Systems as systems
-use Rattle.formula_parse.specs.Systems.{marks_system, tildes_system}
-use Rattle.formula_parse.specs.Flaws as flaws
+use Rattle.formula_parse.proofs.Derivations as derived
+use Rattle.formula_parse.specs.Formulas.{marks_then, Atom, Variables, variable_one, variable_more, Formula, imp, iff, Imp, chain, implies, Chain, operand, joined, Operand, marked, negated, quantified, grouped, atom, variables_then, formula_then, imp_then, chain_then, operand_then}
+use Rattle.formula_parse.specs.Machine.{within}
+use Rattle.formula_parse.proofs.Derivations.{tildes_then}
+use Rattle.formula_parse.proofs.Systems as systems
+use Rattle.formula_parse.specs.FormulaTrees.{marks_system, variables, formula_system, imp_system, chain_system, operand_system, before_imp, last_imp, before_chain, last_chain, before_operand, last_operand, operand_tree}
+use Rattle.formula_parse.proofs.Systems.{tildes_system}
+use Rattle.formula_parse.proofs.DerivedFlaws as flaws
 use Rattle.formula_parse.specs.Flaws.{Flaw, mixed_chain, noted_if, Came, came_next, mixes}
-use Rattle.formula_parse.specs.Grammar.{trees, chained, under_marks, under_tildes, joint}
-use Rattle.formula_parse.specs.Published.{Atom, Variables, variable_one, variable_more, Formula, imp, iff, Imp, chain, implies, Chain, operand, joined, Operand, marked, negated, quantified, grouped, atom, variables_then, formula_then, imp_then, chain_then, operand_then}
-use Rattle.formula_parse.specs.PublishedTrees.{variables, formula_system, imp_system, chain_system, operand_system, before_imp, last_imp, before_chain, last_chain, before_operand, last_operand, operand_tree}
-use Rattle.formula_parse.specs.PublishedFlaws.{came_in, is_implied, formula_flaw, imp_flaw, chain_flaw, operand_flaw}
+use Rattle.formula_parse.specs.Made.{trees}
+use Rattle.formula_parse.specs.Building.{chained, under_marks, under_tildes, joint}
+use Rattle.formula_parse.specs.FormulaFlaws.{came_in, is_implied, formula_flaw, imp_flaw, chain_flaw, operand_flaw}
 use Rattle.formula_parse.proofs.SameTerms.{both, SameAtom}
 
 -- the system after an operand that closes

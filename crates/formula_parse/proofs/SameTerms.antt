@@ -3,14 +3,16 @@ use Rattle.std.proofs.Common.{◌≡◌, refl, ◌∙◌, ap, ℕ, suc, Bool, tr
 use Rattle.formula_parse.specs.Tokens as tokens
 use Rattle.formula_parse.specs.Tokens.{Name, Relation, Sign, Letter, Placed, here}
 use Rattle.formula_parse.specs.Trees as shapes
-use Rattle.formula_parse.specs.Derivations as derived
-use Rattle.formula_parse.specs.Systems as systems
-use Rattle.formula_parse.specs.Flaws as flaws
-use Rattle.formula_parse.specs.Flaws.{Flaw, not_linear, noted_if, noted_factor, product_of}
-use Rattle.formula_parse.specs.Grammar.{trees, multiplied, summed, letter_of, in_system}
-use Rattle.formula_parse.specs.Published.{Factor, variable, numeral, in_parens, Prod, factor, times, Term, prod, signed, Index, word, further, Terms, term, comma, Atom, compare, words, word_letter, letter_word, call_none, call, factor_then, prod_then, term_then, index_then, terms_then, atom_then}
-use Rattle.formula_parse.specs.PublishedTrees.{factor_tree, before_factor, last_factor, before_prod, last_prod, term_tree, index_word, index_places, index_tree, terms_tree, fact}
-use Rattle.formula_parse.specs.PublishedFlaws.{is_numeral, is_numeral_term, is_numeral_prod, has_unknown, factor_flaw, prod_flaw, term_flaw, index_flaw, terms_flaw, atom_flaw}
+use Rattle.formula_parse.proofs.Derivations as derived
+use Rattle.formula_parse.proofs.Systems as systems
+use Rattle.formula_parse.proofs.DerivedFlaws as flaws
+use Rattle.formula_parse.specs.Flaws.{Flaw, not_linear, noted_if, noted_factor}
+use Rattle.formula_parse.proofs.DerivedFlaws.{product_of}
+use Rattle.formula_parse.specs.Made.{trees}
+use Rattle.formula_parse.specs.Building.{multiplied, summed, letter_of, in_system}
+use Rattle.formula_parse.specs.Formulas.{Factor, variable, numeral, in_parens, Prod, factor, times, Term, prod, signed, Index, word, further, Terms, term, comma, Atom, compare, words, word_letter, letter_word, call_none, call, letter_then, factor_then, prod_then, term_then, index_then, terms_then, atom_then}
+use Rattle.formula_parse.specs.FormulaTrees.{factor_tree, before_factor, last_factor, before_prod, last_prod, term_tree, index_word, index_places, index_tree, terms_tree, fact}
+use Rattle.formula_parse.specs.FormulaFlaws.{is_numeral, is_numeral_term, is_numeral_prod, has_unknown, factor_flaw, prod_flaw, term_flaw, index_flaw, terms_flaw, atom_flaw}
 
 pub both : {X Y Z : Type 0} (f : X → Y → Z) {a b : X} {c d : Y} → a ≡ b → c ≡ d → f a c ≡ f b d
 both f e h = cc
@@ -190,7 +192,7 @@ same_words g h e x z s v = record {
 
 pub same_word_letter : (g : derived.Index) (e : Relation) (l : Letter) (x : Index) → AlikeIndex g x → SameAtom (derived.word_letter g e l) (word_letter x e l)
 same_word_letter g e l x s = record {
-  spells = λ d r. s.spells d (here (tokens.relation e) d ∷ derived.letter_then l d r);
+  spells = λ d r. s.spells d (here (tokens.relation e) d ∷ letter_then l d r);
   tree_is = λ y. ap (λ a. in_system y (shapes.word_letter a e (letter_of l))) s.tree_is;
   system_is = λ y. refl;
   flaw_is = s.flaw_is;
@@ -198,7 +200,7 @@ same_word_letter g e l x s = record {
 
 pub same_letter_word : (g : derived.Index) (e : Relation) (l : Letter) (x : Index) → AlikeIndex g x → SameAtom (derived.letter_word l e g) (letter_word l e x)
 same_letter_word g e l x s = record {
-  spells = λ d r. ap (λ z. derived.letter_then l d (here (tokens.relation e) d ∷ z)) (s.spells d r);
+  spells = λ d r. ap (λ z. letter_then l d (here (tokens.relation e) d ∷ z)) (s.spells d r);
   tree_is = λ y. ap (λ a. in_system y (shapes.letter_word (letter_of l) e a)) s.tree_is;
   system_is = λ y. refl;
   flaw_is = s.flaw_is;

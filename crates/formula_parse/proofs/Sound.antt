@@ -2,9 +2,10 @@
 use Rattle.std.proofs.Common.{◌≡◌, refl, sym, ◌∙◌, ap, ℕ, suc, Bool, true, false, List, [], ◌∷◌, Option, None, Some}
 use Rattle.formula_parse.specs.Tokens.{Name, Quantifier, Letter, Token, Placed, here, name, number, system, called, mark, call_sign, negation, quantifier, comma, opening, closing, bracket, unbracket, letter_sign, sign, minus, times, relation, connective, implies, iff, end}
 use Rattle.formula_parse.specs.Trees.{Names}
-use Rattle.formula_parse.specs.Derivations.{Factor, variable, Factors, no_factors, Addends, no_addends, Term, term, Terms, no_terms, index, Core, compare, words, letter_word, not_closed, Closed, marked, ends, quantified, Formula, factor_then, factors_then, addends_then, term_then, arguments_then, places_then, index_then, letter_then, marks_then, variables_then, within, tildes_then, core_then, closed_then, operands_then, chains_then, implications_then, formula_then, parts, derivations}
+use Rattle.formula_parse.proofs.Derivations.{Factor, variable, Factors, no_factors, Addends, no_addends, Term, term, Terms, no_terms, index, Core, compare, words, letter_word, not_closed, Closed, marked, ends, quantified, Formula, factor_then, factors_then, addends_then, term_then, arguments_then, places_then, index_then, variables_then, tildes_then, core_then, closed_then, operands_then, chains_then, implications_then, formula_then, parts, derivations}
+use Rattle.formula_parse.specs.Formulas.{letter_then, marks_then}
+use Rattle.formula_parse.specs.Machine.{within, Front, Body, Frame, Outer, Aim, Side, Where, Spelling, Position, State, left_index, left_letter, first, second, left_side, right_of, place_in, argument, on_left, on_right, at_operand, at_system, at_variable, after_operand, after_first, at_factor, after_factor, after_index, at_word, at_bracket, at_letter, at_value, after_letter, at_called, at_call, at_argument, done, paren, scope, fresh, close, whole, wrapped, closed, leave_closed, leave, close_term, leave_whole, leave_product, leave_factor, leave_first, leave_side, leave_index, enter_word, enter_bracket, enter_letter, enter_value, leave_letter, enter_called, enter_call, enter_factor, enter_argument, next_variable, enter, enter_system, enter_variable, step, step_at, within_where, within_outer, within_position}
 use Rattle.formula_parse.specs.Flaws.{Flaw, Product, product_start}
-use Rattle.formula_parse.specs.Machine.{Front, Body, Frame, Outer, Aim, Side, Where, Spelling, Position, State, left_index, left_letter, first, second, left_side, right_of, place_in, argument, on_left, on_right, at_operand, at_system, at_variable, after_operand, after_first, at_factor, after_factor, after_index, at_word, at_bracket, at_letter, at_value, after_letter, at_called, at_call, at_argument, done, paren, scope, fresh, close, whole, wrapped, closed, leave_closed, leave, close_term, leave_whole, leave_product, leave_factor, leave_first, leave_side, leave_index, enter_word, enter_bracket, enter_letter, enter_value, leave_letter, enter_called, enter_call, enter_factor, enter_argument, next_variable, enter, enter_system, enter_variable, step, step_at, within_where, within_outer, within_position}
 use Rattle.formula_parse.specs.Runs.{placed}
 
 -- the nesting of the formula inside of some frames

@@ -5,11 +5,11 @@ use Rattle.std.specs.List.{fold}
 use Rattle.std.specs.declared.alloc.Global.{Global}
 use Rattle.formula_parse.specs.Trees as trees
 use Rattle.formula_parse.specs.Trees.{Names}
-use Rattle.formula_parse.specs.Derivations.{within}
+use Rattle.formula_parse.specs.Machine.{within, Front, State, place, fresh, wrapped, leave_closed}
 use Rattle.formula_parse.specs.Tokens.{Name, Token, connective, implies, iff}
 use Rattle.formula_parse.specs.Making.{Kinds, Making}
-use Rattle.formula_parse.specs.Machine.{Front, State, place, fresh, wrapped, leave_closed}
-use Rattle.formula_parse.specs.Grammar.{trees as making, under_marks, under_tildes}
+use Rattle.formula_parse.specs.Made.{trees as making}
+use Rattle.formula_parse.specs.Building.{under_marks, under_tildes}
 use Rattle.formula_parse.specs.Views.{names_view}
 use Rattle.formula_parse.specs.StateViews.{tildes_view, body_view}
 use Rattle.formula_parse.specs.declared.state.Body.{Body as Body'}

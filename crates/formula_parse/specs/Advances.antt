@@ -4,7 +4,8 @@ use Rattle.formula_parse.specs.Tokens.{Token}
 use Rattle.formula_parse.specs.Making.{Kinds}
 use Rattle.formula_parse.specs.Machine.{Position, done, step, depth}
 use Rattle.formula_parse.specs.Runs.{placed}
-use Rattle.formula_parse.specs.Grammar.{trees, IsInRange, IsAllowed, told_at}
+use Rattle.formula_parse.specs.Made.{trees}
+use Rattle.formula_parse.specs.Limits.{IsInRange, IsAllowed, told_at}
 use Rattle.formula_parse.specs.StateViews.{Machine, state_view}
 use Rattle.formula_parse.specs.declared.flaw.Flaw.{Flaw}
 use Rattle.formula_parse.specs.declared.state.State.{State}

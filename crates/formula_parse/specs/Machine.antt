@@ -3,7 +3,6 @@ use Rattle.std.specs.Prelude.{ℕ, suc, Bool, true, false, ◌&&◌, List, [], �
 use Rattle.formula_parse.specs.Tokens.{Name, Relation, Quantifier, Letter, Token, name, number, system, called, mark, call_sign, negation, quantifier, comma, opening, closing, bracket, unbracket, letter_sign, sign, minus, times, relation, connective, implies, iff, end}
 use Rattle.formula_parse.specs.Trees.{Names, no_names, names}
 use Rattle.formula_parse.specs.Making.{Kinds, Making}
-use Rattle.formula_parse.specs.Derivations.{within}
 use Rattle.formula_parse.specs.Flaws.{Flaw, mixed_chain, Product, product_start, product_next, noted_if, noted_factor, Came, none_came, came_next, mixes}
 
 -- what stands before the next operand of a formula
@@ -84,6 +83,11 @@ pub record State (K : Kinds) : Type 0 where
   pub system : Name
   pub flaw : Option Flaw
   pub position : Position K
+
+-- the nesting after some `~`
+abbrev pub within : List Names → ℕ → ℕ
+within [] d = d
+within (ms ∷ st) d = suc (within st d)
 
 -- the nesting of the operand that comes
 abbrev pub place : {K : Kinds} → Body K → ℕ

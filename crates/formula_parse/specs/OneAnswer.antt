@@ -1,6 +1,8 @@
 -- A text has one answer.
 use Rattle.std.specs.Prelude.{◌≡◌, ℕ, List, Result, Ok, Err, ⊤}
 use Rattle.formula_parse.specs.Trees as trees
+use Rattle.formula_parse.specs.Grammar.{Reads}
+use Rattle.formula_parse.specs.Spots.{spots, tokens}
 use Rattle.formula_parse.specs.Views.{formula_view}
 use Rattle.formula_parse.specs.Parsing.{Parses}
 use Rattle.formula_parse.specs.declared.tree.Formula.{Formula}
@@ -20,3 +22,7 @@ IsOfTheText _ = ⊤
 -- no text has two trees, two faults, or one of each
 abbrev pub OneAnswer : Type 0
 OneAnswer = (text : List ℕ) (f g : Result Formula ParseFault) → IsOfTheText f → IsOfTheText g → Parses text f → Parses text g → told f ≡ told g
+
+-- no text has two trees
+abbrev pub OneTree : Type 0
+OneTree = (text : List ℕ) (f g : trees.Formula) → Reads (tokens (spots text)) f → Reads (tokens (spots text)) g → f ≡ g

@@ -41,7 +41,3 @@ Parses text (Err (faults.Depth at)) = IsDepthAt text at
 Parses text (Err (faults.MixedChain at)) = IsFlawed (tokens (spots text)) (mixed_chain at)
 Parses text (Err (faults.NotLinear at)) = IsFlawed (tokens (spots text)) (not_linear at)
 Parses text (Err faults.Memory) = ⊤
-
--- no text has two trees
-abbrev pub OneTree : Type 0
-OneTree = (text : List ℕ) (f g : trees.Formula) → Reads (tokens (spots text)) f → Reads (tokens (spots text)) g → f ≡ g

@@ -6,7 +6,7 @@ use Rattle.formula_parse.specs.Tokens as tokens
 use Rattle.formula_parse.specs.Trees as trees
 use Rattle.formula_parse.specs.Flaws as flaws
 use Rattle.formula_parse.specs.Machine as machine
-use Rattle.formula_parse.specs.Grammar.{made}
+use Rattle.formula_parse.specs.Made.{made}
 use Rattle.formula_parse.specs.Views.{relation_view, quantifier_view, sign_view, names_view, term_view, terms_view, factors_view, addends_view, index_view, formula_view, operands_view}
 use Rattle.formula_parse.specs.declared.token.ChainSign.{ChainSign}
 use Rattle.formula_parse.specs.declared.token.ChainSign.TheVariants as chain_signs

@@ -1,7 +1,8 @@
 -- What a step of the machine gives, unless memory runs out.
 use Rattle.std.specs.Prelude.{◌≡◌, ◌<◌, ◌≤◌, ℕ, suc, Bool, true, false, Option, Some, None, Result, Ok, Err, ⊤, IsSome, IsSomeAnd}
 use Rattle.formula_parse.specs.Tokens as tokens
-use Rattle.formula_parse.specs.Grammar.{made, letter_bound}
+use Rattle.formula_parse.specs.Made.{made}
+use Rattle.formula_parse.specs.Limits.{letter_bound}
 use Rattle.formula_parse.specs.Machine as machine
 use Rattle.formula_parse.specs.Machine.{depth}
 use Rattle.formula_parse.specs.StateViews.{Machine, state_view}

@@ -4,7 +4,7 @@ ghost use Rattle.std.specs.Prelude.{◌≡◌, ℕ, ◌^◌, min, Err};
 ghost use Rattle.formula_parse.specs.Tokens as tokens;
 ghost use Rattle.formula_parse.specs.Machine as machine;
 ghost use Rattle.formula_parse.specs.StateViews.{Machine, outers_view, place_view, position_view, state_view, token_view};
-ghost use Rattle.formula_parse.specs.Grammar.{IsInRange};
+ghost use Rattle.formula_parse.specs.Limits.{IsInRange};
 ghost use Rattle.formula_parse.specs.Advances.{Advances};
 
 use crate::fault::{ParseFault, Stop};

@@ -1,7 +1,7 @@
 //! The machine where an operand begins: marks, `~`, quantifiers and parentheses before it, and its first token.
 
 ghost use Rattle.std.specs.Prelude.{◌≡◌, Some};
-ghost use Rattle.formula_parse.specs.Grammar.{trees};
+ghost use Rattle.formula_parse.specs.Made.{trees};
 ghost use Rattle.formula_parse.specs.Machine as machine;
 ghost use Rattle.formula_parse.specs.Views.{names_view, quantifier_view};
 ghost use Rattle.formula_parse.specs.StateViews.{token_view, frames_view, context_view, state_view};

@@ -2,7 +2,7 @@
 
 ghost use Rattle.std.specs.Prelude.{◌≡◌, true, []};
 ghost use Rattle.formula_parse.specs.Flaws as flaws;
-ghost use Rattle.formula_parse.specs.Grammar.{trees};
+ghost use Rattle.formula_parse.specs.Made.{trees};
 ghost use Rattle.formula_parse.specs.Machine as machine;
 ghost use Rattle.formula_parse.specs.StateViews.{token_view, context_view};
 ghost use Rattle.formula_parse.specs.Stops.{Gives};

@@ -1,7 +1,7 @@
 //! The machine at a `)` or the end of the text, after a formula or a term.
 
 ghost use Rattle.std.specs.Prelude.{◌≡◌};
-ghost use Rattle.formula_parse.specs.Grammar.{trees};
+ghost use Rattle.formula_parse.specs.Made.{trees};
 ghost use Rattle.formula_parse.specs.Machine as machine;
 ghost use Rattle.formula_parse.specs.Views.{term_view, formula_view};
 ghost use Rattle.formula_parse.specs.StateViews.{token_view, noted_view, frames_view, context_view};

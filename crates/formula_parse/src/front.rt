@@ -3,8 +3,7 @@
 
 ghost use Rattle.std.specs.Prelude.{◌≡◌, min, true, false, [], IfOk};
 ghost use Rattle.formula_parse.specs.Flaws as flaws;
-ghost use Rattle.formula_parse.specs.Grammar as grammar;
-ghost use Rattle.formula_parse.specs.Grammar.{trees};
+ghost use Rattle.formula_parse.specs.Made.{trees};
 ghost use Rattle.formula_parse.specs.Trees.{no_addends, no_factors};
 ghost use Rattle.formula_parse.specs.Machine as machine;
 ghost use Rattle.formula_parse.specs.Views.{formula_view, factors_view, addends_view};
@@ -48,7 +47,7 @@ impl Front {
     /// With one more operand, and the connective after it.
     pub fn connected(self, operand: Formula, sign: ChainSign) -> Result<Front, OutOfMemory>
         ensures front { IfOk result (λ f. front_view f ≡ record (front_view self) {
-          operands = grammar.trees.operands (front_view self).operands (formula_view operand) (chain_sign_view sign) 0;
+          operands = trees.operands (front_view self).operands (formula_view operand) (chain_sign_view sign) 0;
           came = flaws.came_next (chain_sign_view sign) (front_view self).came;
         }) }
         ensures base { IfOk result (λ f. f.base ≡ self.base) }
@@ -69,8 +68,8 @@ impl Front {
     pub fn implied(self, alloc: Global, operand: Formula) -> Result<Front, OutOfMemory>
         ensures front { IfOk result (λ f. front_view f ≡ record {
           implications = (front_view self).implications;
-          chains = grammar.trees.chains (front_view self).chains (front_view self).operands (formula_view operand) 0;
-          operands = grammar.trees.no_operands;
+          chains = trees.chains (front_view self).chains (front_view self).operands (formula_view operand) 0;
+          operands = trees.no_operands;
           came = flaws.none_came;
           implied = true;
         }) }
@@ -91,9 +90,9 @@ impl Front {
     /// With the implication that an operand ends, and a `<=>` after it.
     pub fn equated(self, alloc: Global, operand: Formula) -> Result<Front, OutOfMemory>
         ensures front { IfOk result (λ f. front_view f ≡ record {
-          implications = grammar.trees.implications (front_view self).implications (front_view self).chains (front_view self).operands (formula_view operand);
-          chains = grammar.trees.no_chains;
-          operands = grammar.trees.no_operands;
+          implications = trees.implications (front_view self).implications (front_view self).chains (front_view self).operands (formula_view operand);
+          chains = trees.no_chains;
+          operands = trees.no_operands;
           came = flaws.none_came;
           implied = false;
         }) }

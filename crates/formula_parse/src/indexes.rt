@@ -1,7 +1,7 @@
 //! The machine at words with places, on the left or on the right of a relation.
 
 ghost use Rattle.std.specs.Prelude.{◌≡◌};
-ghost use Rattle.formula_parse.specs.Grammar.{trees};
+ghost use Rattle.formula_parse.specs.Made.{trees};
 ghost use Rattle.formula_parse.specs.Machine as machine;
 ghost use Rattle.formula_parse.specs.Views.{term_view, terms_view, index_view};
 ghost use Rattle.formula_parse.specs.StateViews.{token_view, aim_view, side_view, context_view};

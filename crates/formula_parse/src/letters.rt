@@ -1,8 +1,9 @@
 //! The machine at letters: an `@`, a `-` or none, and a numeral.
 
 ghost use Rattle.std.specs.Prelude.{◌≡◌, ◌<◌, true, false, SomeIff};
-ghost use Rattle.formula_parse.specs.Grammar as grammar;
-ghost use Rattle.formula_parse.specs.Grammar.{trees};
+ghost use Rattle.formula_parse.specs.Building as building;
+ghost use Rattle.formula_parse.specs.Limits.{letter_bound};
+ghost use Rattle.formula_parse.specs.Made.{trees};
 ghost use Rattle.formula_parse.specs.Machine as machine;
 ghost use Rattle.formula_parse.specs.StateViews.{token_view, spelling_view, context_view};
 ghost use Rattle.formula_parse.specs.Stops.{Gives, GivesLetter};
@@ -16,7 +17,7 @@ use std::alloc::Global;
 
 /// The letter with a sign and a numeral, where it is a signed 32-bit number.
 fn signed(negative: bool, value: u64) -> Option<i32>
-    ensures { SomeIff result (value < grammar.letter_bound negative) (grammar.signed negative value) }
+    ensures { SomeIff result (value < letter_bound negative) (building.signed negative value) }
 {
     if negative {
         if value > 1 << 31 {

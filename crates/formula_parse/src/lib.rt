@@ -55,12 +55,12 @@ mod step;
 /// The machine at a token, with its limits.
 mod advance;
 
-/// The parser, and its law.
+/// The parser.
 mod parser;
 
 /// Laws of the grammar.
 mod laws;
 
 pub use fault::ParseFault;
-pub use laws::{one_answer, published_grammar};
-pub use parser::{one_tree, parse};
+pub use laws::{one_answer, one_tree};
+pub use parser::parse;

@@ -2,7 +2,8 @@
 
 ghost use Rattle.std.specs.Prelude.{◌≡◌, IfOk};
 ghost use Rattle.formula_parse.specs.Trees as trees;
-ghost use Rattle.formula_parse.specs.Grammar as grammar;
+ghost use Rattle.formula_parse.specs.Building as building;
+ghost use Rattle.formula_parse.specs.Made.{trees as making};
 ghost use Rattle.formula_parse.specs.Views.{term_view, terms_view, factors_view, addends_view, formula_view, operands_view, names_view, sign_view, connective_view, quantifier_view, fact_view};
 ghost use Rattle.formula_parse.specs.StateViews.{tildes_view};
 
@@ -15,7 +16,7 @@ use std::alloc::Global;
 /// The product of some factors and the last.
 #[tactic(auto, using(crate::proofs::MakingSteps::multiplied_none, crate::proofs::MakingSteps::multiplied_more))]
 pub fn multiplied(mut factors: Vec<Factor>, last: Term) -> Result<Term, OutOfMemory>
-    ensures { IfOk result (λ t. term_view t ≡ grammar.multiplied (factors_view factors.items) (term_view last)) }
+    ensures { IfOk result (λ t. term_view t ≡ building.multiplied (factors_view factors.items) (term_view last)) }
 {
     if factors.is_empty() {
         return Ok(last);
@@ -36,7 +37,7 @@ pub fn with_factor(mut factors: Vec<Factor>, term: Term) -> Result<Vec<Factor>, 
 /// The sum of some addends and the last.
 #[tactic(auto, using(crate::proofs::MakingSteps::summed_none, crate::proofs::MakingSteps::summed_more))]
 pub fn summed(alloc: Global, addends: Vec<Addend>, last: Term) -> Result<Term, OutOfMemory>
-    ensures { IfOk result (λ t. term_view t ≡ grammar.summed (addends_view addends.items) (term_view last)) }
+    ensures { IfOk result (λ t. term_view t ≡ building.summed (addends_view addends.items) (term_view last)) }
 {
     if addends.is_empty() {
         return Ok(last);
@@ -59,7 +60,7 @@ pub fn with_addend(
 /// The chain of some operands and the last.
 #[tactic(auto, using(crate::proofs::MakingSteps::chained_none, crate::proofs::MakingSteps::chained_more))]
 pub fn chained(alloc: Global, operands: Vec<Operand>, last: Formula) -> Result<Formula, OutOfMemory>
-    ensures { IfOk result (λ f. formula_view f ≡ grammar.chained (operands_view operands.items) (formula_view last)) }
+    ensures { IfOk result (λ f. formula_view f ≡ building.chained (operands_view operands.items) (formula_view last)) }
 {
     if operands.is_empty() {
         return Ok(last);
@@ -89,7 +90,7 @@ pub fn under_marks(
     marks: Vec<Name>,
     formula: Formula,
 ) -> Result<Formula, OutOfMemory>
-    ensures { IfOk result (λ f. formula_view f ≡ grammar.under_marks (names_view marks.items) (formula_view formula)) }
+    ensures { IfOk result (λ f. formula_view f ≡ building.under_marks (names_view marks.items) (formula_view formula)) }
 {
     if marks.is_empty() {
         return Ok(formula);
@@ -111,7 +112,7 @@ pub fn under_tildes(
     mut tildes: Vec<Vec<Name>>,
     formula: Formula,
 ) -> Result<Formula, OutOfMemory>
-    ensures { IfOk result (λ f. formula_view f ≡ grammar.under_tildes (tildes_view tildes.items) (formula_view formula)) }
+    ensures { IfOk result (λ f. formula_view f ≡ building.under_tildes (tildes_view tildes.items) (formula_view formula)) }
 {
     match tildes.pop() {
         None => Ok(formula),
@@ -126,7 +127,7 @@ pub fn under_tildes(
 /// A fact in a system.
 #[tactic(auto, using(crate::proofs::ViewSteps::view_atom))]
 pub fn atom(alloc: Global, system: &Name, fact: Fact) -> Result<Formula, OutOfMemory>
-    ensures { IfOk result (λ f. formula_view f ≡ grammar.in_system system.now (fact_view fact)) }
+    ensures { IfOk result (λ f. formula_view f ≡ building.in_system system.now (fact_view fact)) }
 {
     Ok(Formula::Atom(Atom {
         system: system.copy(alloc)?,
@@ -156,7 +157,7 @@ pub fn quantified(
     scope: Scope,
     formula: Formula,
 ) -> Result<Formula, OutOfMemory>
-    ensures { IfOk result (λ f. formula_view f ≡ grammar.trees.quantified
+    ensures { IfOk result (λ f. formula_view f ≡ making.quantified
         (tildes_view before.tildes.items) (names_view before.marks.items)
         (quantifier_view scope.quantifier) (names_view scope.names.items) scope.last (formula_view formula)) }
 {

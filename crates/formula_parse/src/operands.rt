@@ -2,8 +2,8 @@
 
 ghost use Rattle.std.specs.Prelude.{◌≡◌, IfOk};
 ghost use Rattle.formula_parse.specs.Flaws as flaws;
-ghost use Rattle.formula_parse.specs.Grammar as grammar;
-ghost use Rattle.formula_parse.specs.Grammar.{trees};
+ghost use Rattle.formula_parse.specs.Building as building;
+ghost use Rattle.formula_parse.specs.Made.{trees};
 ghost use Rattle.formula_parse.specs.Machine as machine;
 ghost use Rattle.formula_parse.specs.Views.{formula_view, names_view};
 ghost use Rattle.formula_parse.specs.StateViews.{token_view, tildes_view, flaw_view, noted_view, front_view, frames_view, context_view, state_view};
@@ -23,7 +23,7 @@ use std::alloc::Global;
 #[tactic(auto, using(crate::proofs::Words::wrapped_trees))]
 fn closed(alloc: Global, before: Before, core: Formula) -> Result<Formula, OutOfMemory>
     ensures { IfOk result (λ f. formula_view f ≡ machine.wrapped trees (tildes_view before.tildes.items)
-        (grammar.under_marks (names_view before.marks.items) (formula_view core))) }
+        (building.under_marks (names_view before.marks.items) (formula_view core))) }
 {
     let marked = under_marks(alloc, before.marks, core)?;
     let whole = under_tildes(alloc, before.tildes, marked)?;

@@ -3,12 +3,13 @@
 ghost use Rattle.std.specs.Prelude.{◌≡◌, ◌↔◌, IsTrue, IfOk};
 ghost use Rattle.formula_parse.specs.Tokens as tokens;
 ghost use Rattle.formula_parse.specs.Machine as machine;
-ghost use Rattle.formula_parse.specs.Grammar.{trees, default_system};
+ghost use Rattle.formula_parse.specs.Made.{trees};
+ghost use Rattle.formula_parse.specs.FormulaTrees.{default_system};
 ghost use Rattle.formula_parse.specs.Spots.{mode_after};
 ghost use Rattle.formula_parse.specs.StateViews.{position_view, state_view};
 ghost use Rattle.formula_parse.specs.LexemeViews.{lexed_view, mode_view};
 ghost use Rattle.formula_parse.specs.Advances.{IsDone, Finishes};
-ghost use Rattle.formula_parse.specs.Parsing.{OneTree, Parses};
+ghost use Rattle.formula_parse.specs.Parsing.{Parses};
 
 use crate::advance::{advance, big_fault};
 use crate::fault::ParseFault;
@@ -113,8 +114,3 @@ pub fn parse(alloc: Global, text: &[u8]) -> Result<Formula, ParseFault>
         at = end;
     }
 }
-
-/// No text has two trees. The call does nothing.
-pub fn one_tree()
-    ensures { OneTree }
-{}

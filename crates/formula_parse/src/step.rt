@@ -1,6 +1,6 @@
 //! One token of the machine.
 
-ghost use Rattle.formula_parse.specs.Grammar.{trees};
+ghost use Rattle.formula_parse.specs.Made.{trees};
 ghost use Rattle.formula_parse.specs.Machine as machine;
 ghost use Rattle.formula_parse.specs.StateViews.{token_view, position_view, state_view};
 ghost use Rattle.formula_parse.specs.Stops.{Steps};

@@ -3,7 +3,7 @@
 ghost use Rattle.std.specs.Prelude.{◌≡◌, true, false, ◌&&◌, [], Some, IfOk};
 ghost use Rattle.formula_parse.specs.Flaws as flaws;
 ghost use Rattle.formula_parse.specs.Trees.{no_addends, no_factors};
-ghost use Rattle.formula_parse.specs.Grammar.{trees};
+ghost use Rattle.formula_parse.specs.Made.{trees};
 ghost use Rattle.formula_parse.specs.Machine as machine;
 ghost use Rattle.formula_parse.specs.Views.{term_view, factors_view, addends_view, sign_view};
 ghost use Rattle.formula_parse.specs.StateViews.{token_view, outers_view, place_view, product_view, context_view, state_view};

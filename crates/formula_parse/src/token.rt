@@ -47,7 +47,7 @@ pub(crate) enum Token {
 }
 
 impl ChainSign {
-    ghost use Rattle.formula_parse.specs.Grammar.{joint};
+    ghost use Rattle.formula_parse.specs.Building.{joint};
     ghost use Rattle.formula_parse.specs.Views.{connective_view};
     ghost use Rattle.formula_parse.specs.StateViews.{chain_sign_view};
 

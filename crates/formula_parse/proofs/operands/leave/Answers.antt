@@ -1,6 +1,6 @@
 use Rattle.std.proofs.Common.{◌∙◌, ap, subst, Option}
 use Rattle.formula_parse.specs.Trees as trees
-use Rattle.formula_parse.specs.Grammar.{trees as making}
+use Rattle.formula_parse.specs.Made.{trees as making}
 use Rattle.formula_parse.specs.Machine as machine
 use Rattle.formula_parse.specs.StateViews.{Machine, token_view, front_view, context_view}
 use Rattle.formula_parse.specs.Stops.{Gives}

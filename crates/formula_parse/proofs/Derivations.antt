@@ -1,8 +1,10 @@
--- The grammar: derivations, and the tokens that they spell.
+-- Derivations as the machine reads them, and the tokens that they spell. The last operand of a formula is told from those before it.
 use Rattle.std.specs.Prelude.{ℕ, suc, Bool, true, false, List, [], ◌∷◌}
 use Rattle.formula_parse.specs.Tokens.{Name, Relation, Quantifier, Connective, Sign, Letter, Placed, here, value_of, name, number, system, called, mark, call_sign, negation, quantifier, comma, opening, closing, bracket, unbracket, letter_sign, sign, minus, times, relation, connective, implies, iff, end}
 use Rattle.formula_parse.specs.Trees.{Names, no_names, names}
 use Rattle.formula_parse.specs.Making.{Kinds, Making}
+use Rattle.formula_parse.specs.Machine.{within}
+use Rattle.formula_parse.specs.Formulas.{letter_then, marks_then}
 
 -- factor := VAR | NUM | "(" term ")"; prod := { factor "*" } factor; term := { prod ("+" | "-") } prod
 mutual
@@ -100,25 +102,9 @@ places_then (terms ts t) d r = places_then ts d (term_then t (suc d) (here unbra
 abbrev pub index_then : Index → ℕ → List Placed → List Placed
 index_then (index n ts t) d r = here (name n) d ∷ here bracket (suc d) ∷ places_then ts d (term_then t (suc d) (here unbracket d ∷ r))
 
-abbrev pub minus_then : Bool → ℕ → List Placed → List Placed
-minus_then true d r = here (sign minus) d ∷ r
-minus_then false d r = r
-
-abbrev pub letter_then : Letter → ℕ → List Placed → List Placed
-letter_then l d r = here (letter_sign l.at) d ∷ minus_then l.negative d (value_of l d ∷ r)
-
-abbrev pub marks_then : Names → ℕ → List Placed → List Placed
-marks_then no_names d r = r
-marks_then (names ms n) d r = marks_then ms d (here mark d ∷ here (system n) d ∷ r)
-
 abbrev pub variables_then : Names → ℕ → List Placed → List Placed
 variables_then no_names d r = r
 variables_then (names ns n) d r = variables_then ns d (here (name n) d ∷ here comma d ∷ r)
-
--- the nesting after some `~`
-abbrev pub within : List Names → ℕ → ℕ
-within [] d = d
-within (ms ∷ st) d = suc (within st d)
 
 -- some `~`, each with the marks before it, the last first
 abbrev pub tildes_then : List Names → ℕ → List Placed → List Placed

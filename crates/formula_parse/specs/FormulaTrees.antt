@@ -1,9 +1,10 @@
 -- The tree of a formula of the grammar, with the system that is in force at each atom.
+use Rattle.std.specs.Prelude.{[], ◌∷◌}
 use Rattle.formula_parse.specs.Tokens.{Name}
 use Rattle.formula_parse.specs.Trees as trees
-use Rattle.formula_parse.specs.Systems.{marks_system}
-use Rattle.formula_parse.specs.Published.{Factor, variable, numeral, in_parens, Prod, factor, times, Term, prod, signed, Index, word, further, Terms, term, comma, Atom, compare, words, word_letter, letter_word, call_none, call, Variables, variable_one, variable_more, Formula, imp, iff, Imp, chain, implies, Chain, operand, joined, Operand, marked, Core, negated, quantified, grouped, atom}
-use Rattle.formula_parse.specs.Grammar.{multiplied, summed, chained, under_marks, letter_of, joint, in_system, default_system}
+use Rattle.formula_parse.specs.Trees.{Names, no_names, names}
+use Rattle.formula_parse.specs.Formulas.{Factor, variable, numeral, in_parens, Prod, factor, times, Term, prod, signed, Index, word, further, Terms, term, comma, Atom, compare, words, word_letter, letter_word, call_none, call, Variables, variable_one, variable_more, Formula, imp, iff, Imp, chain, implies, Chain, operand, joined, Operand, marked, Core, negated, quantified, grouped, atom}
+use Rattle.formula_parse.specs.Building.{multiplied, summed, chained, under_marks, letter_of, joint, in_system}
 
 -- Of what repeats: the tree of the last item, and those of the items before it. A list of one is its item, and parentheses leave no mark.
 abbrev mutual
@@ -57,6 +58,11 @@ fact (call n ts) = trees.call n (terms_tree ts)
 abbrev pub variables : Variables → trees.Names
 variables (variable_one n) = trees.names trees.no_names n
 variables (variable_more vs n) = trees.names (variables vs) n
+
+-- the system in force after some marks
+abbrev pub marks_system : Name → Names → Name
+marks_system y no_names = y
+marks_system y (names ms n) = n
 
 -- The system in force after each, where one is in force before it: that of the last `?` mark. A mark holds up to the closing parenthesis.
 abbrev mutual
@@ -118,6 +124,10 @@ abbrev mutual
 
 abbrev pub formula_tree : Name → Formula → trees.Formula
 formula_tree y f = chained (before_imp y f) (last_imp y f)
+
+-- the system where no mark stands: `msd_2`
+abbrev pub default_system : Name
+default_system = 109 ∷ 115 ∷ 100 ∷ 95 ∷ 50 ∷ []
 
 -- the tree of a text
 abbrev pub tree_of : Formula → trees.Formula

@@ -1,10 +1,9 @@
 -- The grammar of formulas as it is printed: a data type for each line, a constructor for each of its cases, and the tokens that these spell.
 -- What repeats, as `prod { ("+" | "-") prod }`, is read from the left: it is one item, or what repeats and an item more.
-use Rattle.std.specs.Prelude.{ℕ, suc, List, [], ◌∷◌, ⊤}
+use Rattle.std.specs.Prelude.{ℕ, suc, Bool, true, false, List, [], ◌∷◌, ⊤}
 use Rattle.formula_parse.specs.Tokens as tokens
-use Rattle.formula_parse.specs.Tokens.{Name, Relation, Quantifier, Connective, Sign, Letter, Token, Placed, here}
-use Rattle.formula_parse.specs.Trees.{Names}
-use Rattle.formula_parse.specs.Derivations.{letter_then, marks_then}
+use Rattle.formula_parse.specs.Tokens.{Name, Relation, Quantifier, Connective, Sign, Letter, Token, Placed, here, value_of}
+use Rattle.formula_parse.specs.Trees.{Names, no_names, names}
 
 mutual
   -- factor := VAR | NUM | "(" term ")"
@@ -127,6 +126,13 @@ abbrev pub terms_then : Terms → ℕ → List Placed → List Placed
 terms_then (term t) d r = term_then t d r
 terms_then (comma ts t) d r = terms_then ts d (here tokens.comma d ∷ term_then t d r)
 
+abbrev pub minus_then : Bool → ℕ → List Placed → List Placed
+minus_then true d r = here (tokens.sign tokens.minus) d ∷ r
+minus_then false d r = r
+
+abbrev pub letter_then : Letter → ℕ → List Placed → List Placed
+letter_then l d r = here (tokens.letter_sign l.at) d ∷ minus_then l.negative d (value_of l d ∷ r)
+
 abbrev pub atom_then : Atom → ℕ → List Placed → List Placed
 atom_then (compare t e u) d r = term_then t d (here (tokens.relation e) d ∷ term_then u d r)
 atom_then (words x e z) d r = index_then x d (here (tokens.relation e) d ∷ index_then z d r)
@@ -139,6 +145,10 @@ atom_then (call n ts) d r =
 abbrev pub variables_then : Variables → ℕ → List Placed → List Placed
 variables_then (variable_one n) d r = here (tokens.name n) d ∷ r
 variables_then (variable_more vs n) d r = variables_then vs d (here tokens.comma d ∷ here (tokens.name n) d ∷ r)
+
+abbrev pub marks_then : Names → ℕ → List Placed → List Placed
+marks_then no_names d r = r
+marks_then (names ms n) d r = marks_then ms d (here tokens.mark d ∷ here (tokens.system n) d ∷ r)
 
 abbrev mutual
   pub formula_then : Formula → ℕ → List Placed → List Placed

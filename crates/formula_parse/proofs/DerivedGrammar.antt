@@ -1,0 +1,63 @@
+-- The grammar over derivations: which tokens have which tree, and where tokens first break it.
+use Rattle.std.specs.Prelude.{◌≡◌, ℕ, ◌+◌, ◌^◌, ◌<◌, ◌≤◌, ℤ, pos, neg_ℤ, Bool, true, false, List, [], ◌∷◌, ◌++◌, map, None, Some, ⊤}
+use Rattle.formula_parse.specs.Tokens.{Name, Connective, Letter, Token, number, Placed, here, value_of, token_of, nesting_of}
+use Rattle.formula_parse.specs.Tokens as tokens
+use Rattle.formula_parse.specs.Trees.{Names, no_names, names, Term, variable, numeral, product, sum, Factors, no_factors, factors, times, Terms, no_terms, terms, Addends, no_addends, addends, Index, Fact, compare, words, word_letter, letter_word, call, Joint, and, or, xor, implies, iff, Formula, atom, negated, chain, quantified, marked, Operands, no_operands, operands}
+use Rattle.std.specs.List.{AllByRecursion}
+use Rattle.formula_parse.specs.Flaws.{Flaw}
+use Rattle.formula_parse.specs.Limits.{IsAllowed}
+use Rattle.formula_parse.specs.Made.{trees}
+use Rattle.formula_parse.specs.FormulaTrees.{default_system}
+use Rattle.formula_parse.proofs.Derivations as derivations
+use Rattle.formula_parse.proofs.Derivations.{spelled}
+use Rattle.formula_parse.proofs.Systems.{formula_of}
+use Rattle.formula_parse.proofs.DerivedFlaws.{formula_flaw}
+
+abbrev pub tree_of : derivations.Formula → Formula
+tree_of f = formula_of trees default_system f
+
+-- tokens that a derivation spells, within the limits
+pub record Derives (ts : List Token) (text : derivations.Formula) : Type 0 where
+  pub spells : map token_of (spelled text) ≡ ts
+  pub allowed : AllByRecursion IsAllowed (spelled text)
+
+-- the grammar: tokens and their tree
+pub record Reads (ts : List Token) (tree : Formula) : Type 0 where
+  pub text : derivations.Formula
+  pub derives : Derives ts text
+  pub flawless : formula_flaw None text ≡ None
+  pub tree_is : tree_of text ≡ tree
+
+-- the second pass: tokens that a derivation spells, and its least flaw
+pub record IsFlawed (ts : List Token) (flaw : Flaw) : Type 0 where
+  pub text : derivations.Formula
+  pub derives : Derives ts text
+  pub flaw_is : formula_flaw None text ≡ Some flaw
+
+-- a derivation goes on after what was read of it
+pub record GoesOn (text : derivations.Formula) (read more : List Placed) : Type 0 where
+  pub spells : spelled text ≡ read ++ more
+
+-- tokens that begin a text and keep the limits
+pub record Begins (front : List Token) : Type 0 where
+  pub text : derivations.Formula
+  pub read : List Placed
+  pub more : List Placed
+  pub goes_on : GoesOn text read more
+  pub tokens_are : map token_of read ≡ front
+  pub allowed : AllByRecursion IsAllowed read
+
+-- the first token at which no text goes on
+pub record Breaks (front : List Token) (token : Token) : Type 0 where
+  pub before : Begins front
+  pub there : (text : derivations.Formula) (read more : List Placed) → GoesOn text read more → map token_of read ≡ front ++ token ∷ [] → ⊥
+
+-- a text goes on at a token, placed so, and all before it keep the limits
+pub record Reaches (front : List Token) (token : Token) (place : Placed) : Type 0 where
+  pub text : derivations.Formula
+  pub read : List Placed
+  pub more : List Placed
+  pub goes_on : GoesOn text read (place ∷ more)
+  pub tokens_are : map token_of read ≡ front
+  pub token_is : token_of place ≡ token
+  pub allowed : AllByRecursion IsAllowed read

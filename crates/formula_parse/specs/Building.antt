@@ -1,0 +1,41 @@
+-- How trees are made of their parts: parentheses leave no mark, and a list of one is its item.
+use Rattle.std.specs.Prelude.{◌≡◌, ℕ, ◌+◌, ◌^◌, ◌<◌, ◌≤◌, ℤ, pos, neg_ℤ, Bool, true, false, List, [], ◌∷◌, ◌++◌, map, None, Some, ⊤}
+use Rattle.formula_parse.specs.Tokens.{Name, Connective, Letter, Token, number, Placed, here, value_of, token_of, nesting_of}
+use Rattle.formula_parse.specs.Tokens as tokens
+use Rattle.formula_parse.specs.Trees.{Names, no_names, names, Term, variable, numeral, product, sum, Factors, no_factors, factors, times, Terms, no_terms, terms, Addends, no_addends, addends, Index, Fact, compare, words, word_letter, letter_word, call, Joint, and, or, xor, implies, iff, Formula, atom, negated, chain, quantified, marked, Operands, no_operands, operands}
+
+abbrev pub multiplied : Factors → Term → Term
+multiplied no_factors t = t
+multiplied (factors ps p) t = product (factors (factors ps p) (times t))
+
+abbrev pub summed : Addends → Term → Term
+summed no_addends t = t
+summed (addends ss s g) t = sum (addends ss s g) t
+
+abbrev pub chained : Operands → Formula → Formula
+chained no_operands f = f
+chained (operands os g k) f = chain (operands os g k) f
+
+abbrev pub under_marks : Names → Formula → Formula
+under_marks no_names f = f
+under_marks (names ms n) f = marked (names ms n) f
+
+-- some `~`, the last first, each with the marks before it
+abbrev pub under_tildes : List Names → Formula → Formula
+under_tildes [] f = f
+under_tildes (ms ∷ st) f = under_tildes st (under_marks ms (negated f))
+
+abbrev pub signed : Bool → ℕ → ℤ
+signed true n = neg_ℤ (pos n)
+signed false n = pos n
+
+abbrev pub letter_of : Letter → ℤ
+letter_of l = signed l.negative l.value
+
+abbrev pub joint : Connective → Joint
+joint tokens.and = and
+joint tokens.or = or
+joint tokens.xor = xor
+
+abbrev pub in_system : Name → Fact → Formula
+in_system y f = atom (record { system = y; fact = f })

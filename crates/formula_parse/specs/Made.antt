@@ -1,0 +1,59 @@
+-- Trees as what the machine makes.
+use Rattle.std.specs.Prelude.{◌≡◌, ℕ, ◌+◌, ◌^◌, ◌<◌, ◌≤◌, ℤ, pos, neg_ℤ, Bool, true, false, List, [], ◌∷◌, ◌++◌, map, None, Some, ⊤}
+use Rattle.formula_parse.specs.Tokens.{Name, Connective, Letter, Token, number, Placed, here, value_of, token_of, nesting_of}
+use Rattle.formula_parse.specs.Tokens as tokens
+use Rattle.formula_parse.specs.Trees.{Names, no_names, names, Term, variable, numeral, product, sum, Factors, no_factors, factors, times, Terms, no_terms, terms, Addends, no_addends, addends, Index, Fact, compare, words, word_letter, letter_word, call, Joint, and, or, xor, implies, iff, Formula, atom, negated, chain, quantified, marked, Operands, no_operands, operands}
+use Rattle.formula_parse.specs.Making.{Kinds, Making}
+use Rattle.formula_parse.specs.Building.{multiplied, summed, chained, under_marks, under_tildes, letter_of, joint, in_system}
+
+abbrev pub made : Kinds
+made = record {
+  Factor = Term;
+  Factors = Factors;
+  Addends = Addends;
+  Term = Term;
+  Terms = Terms;
+  Index = Index;
+  Letter = ℤ;
+  Core = Formula;
+  Closed = Formula;
+  Operands = Operands;
+  Chains = Operands;
+  Implications = Operands;
+  Last = Formula;
+  Formula = Formula;
+}
+
+abbrev pub trees : Making made
+trees = record {
+  variable = variable;
+  numeral = numeral;
+  in_parens = λ t. t;
+  no_factors = no_factors;
+  factors = λ ps f b. factors ps (times f);
+  no_addends = no_addends;
+  addends = λ ss ps f s. addends ss (multiplied ps f) s;
+  term = λ ss ps f. summed ss (multiplied ps f);
+  no_terms = no_terms;
+  terms = terms;
+  index = λ n ts t. record { word = n; places = terms ts t };
+  letter = letter_of;
+  compare = λ y t e u. in_system y (compare t e u);
+  words = λ y x e z. in_system y (words x e z);
+  word_letter = λ y x e l. in_system y (word_letter x e l);
+  letter_word = λ y l e x. in_system y (letter_word l e x);
+  call_none = λ y n. in_system y (call n no_terms);
+  call = λ y n ts t. in_system y (call n (terms ts t));
+  not_closed = negated;
+  grouped = λ f. f;
+  marked = under_marks;
+  no_operands = no_operands;
+  operands = λ os c k b. operands os c (joint k);
+  no_chains = no_operands;
+  chains = λ hs os c b. operands hs (chained os c) implies;
+  no_implications = no_operands;
+  implications = λ is hs os c. operands is (chained hs (chained os c)) iff;
+  ends = λ c. c;
+  quantified = λ st ms q ns n f. under_tildes st (under_marks ms (quantified q (names ns n) f));
+  formula = λ is hs os l. chained is (chained hs (chained os l));
+}
