@@ -1,0 +1,11 @@
+pub mod OnceLemmas
+pub mod HoldLemmas
+pub mod RelationLemmas
+pub mod PlacedLemmas
+pub mod RenamedLemmas
+pub mod OrderedLemmas
+pub mod PairLemmas
+pub mod ArithmeticLemmas
+pub mod TruthLemmas
+pub mod SentenceLemmas
+pub mod LawLemmas

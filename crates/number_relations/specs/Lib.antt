@@ -1,0 +1,4 @@
+pub mod Relations
+pub mod Placed
+pub mod Comparisons
+pub mod Laws

@@ -1,0 +1,99 @@
+-- Relations on numbers: automata of their spellings, with a name and a system for each track.
+use Rattle.std.specs.Prelude.{◌≡◌, ℕ, List, [], ◌∷◌, map, length, slice_index_or, ◌↔◌}
+use Rattle.std.specs.List.{AllByRecursion}
+use Rattle.digit_tuple.specs.Deterministic.{Automaton}
+use Rattle.digit_tuple.specs.Names.{place_of}
+use Rattle.digit_tuple.specs.declared.direction.Direction.{Direction}
+use Rattle.digit_tuple.specs.declared.direction.Direction.TheVariants.{Msd}
+use Rattle.minimise.specs.Tracked.{NamedAutomaton, IsTracked}
+use Rattle.numeration.specs.Systems.{System}
+use Rattle.numeration.specs.Relations.{HoldsOf}
+use Rattle.num_system.specs.Sealed.{SystemValue, system_of, IsSealed}
+use Rattle.num_system.specs.Spellings.{HasSpelling}
+
+-- the names of the tracks, their systems, and the automaton of the spellings
+pub record RelationValue : Type 0 where
+  pub names : List (List ℕ)
+  pub systems : List SystemValue
+  pub automaton : Automaton
+
+-- an automaton with names, and the systems of its tracks
+abbrev pub relation_over : NamedAutomaton → List SystemValue → RelationValue
+relation_over a systems = record { names = a.names; systems = systems; automaton = a.automaton }
+
+-- the automaton with its names
+abbrev pub named_of : RelationValue → NamedAutomaton
+named_of r = record { names = r.names; automaton = r.automaton }
+
+-- the direction of the tracks, that of the first; of no tracks any does, and this is msd
+abbrev pub way_of : List SystemValue → Direction
+way_of [] = Msd
+way_of (s ∷ ss) = s.way
+
+-- the tracks have one direction
+abbrev pub HaveOneWay : List SystemValue → Type 0
+HaveOneWay systems = AllByRecursion (λ (s : SystemValue). s.way ≡ way_of systems) systems
+
+-- what their words and numbers are
+abbrev pub systems_of : List SystemValue → List System
+systems_of systems = map system_of systems
+
+-- the systems of the tracks
+abbrev pub systems_in : RelationValue → List System
+systems_in r = systems_of r.systems
+
+-- some spelling of the numbers is accepted by an automaton over these systems
+abbrev pub HoldsOver : List SystemValue → Automaton → List ℕ → Type 0
+HoldsOver systems d ns = HasSpelling (way_of systems) (systems_of systems) d ns
+
+-- each word that spells numbers of which some spelling is accepted is accepted, and no other word is
+abbrev pub IsClosedOver : List SystemValue → Automaton → Type 0
+IsClosedOver systems d = HoldsOf (way_of systems) (systems_of systems) (HoldsOver systems d) d
+
+-- the relation holds of the numbers: some spelling of them is accepted
+abbrev pub RelationHolds : RelationValue → List ℕ → Type 0
+RelationHolds r ns = HoldsOver r.systems r.automaton ns
+
+-- the automaton is canonical, each track has a name of its own and a sealed system, these have one direction, and the automaton
+-- accepts the spellings of the numbers of which the relation holds, and no other words
+pub record IsRelation (r : RelationValue) : Type 0 where
+  pub tracked : IsTracked (named_of r)
+  pub count : length r.systems ≡ length r.names
+  pub sealed : AllByRecursion IsSealed r.systems
+  pub one_way : HaveOneWay r.systems
+  pub closed : IsClosedOver r.systems r.automaton
+
+-- what stands for a system that is not there
+abbrev pub no_automaton : Automaton
+no_automaton = record { sizes = []; states = [] }
+
+abbrev pub absent_system : SystemValue
+absent_system = record {
+  digits = 0;
+  way = Msd;
+  language = no_automaton;
+  adder = no_automaton;
+  equal = no_automaton;
+  less = no_automaton;
+  successor = no_automaton;
+  zero = no_automaton;
+}
+
+-- the system of the first track of this name, of tracks that have these names
+abbrev pub system_under : List (List ℕ) → List SystemValue → List ℕ → SystemValue
+system_under names systems name = slice_index_or systems (place_of names name) absent_system
+
+-- the system of the track of this name
+abbrev pub system_named : RelationValue → List ℕ → SystemValue
+system_named r name = system_under r.names r.systems name
+
+-- the number of the first track of this name, of tracks that have these names and numbers
+abbrev pub number_under : List (List ℕ) → List ℕ → List ℕ → ℕ
+number_under names ns name = slice_index_or ns (place_of names name) 0
+
+-- the relation has these tracks, and holds of numbers where this is true of the number under each name
+pub record IsRelationOf (names : List (List ℕ)) (systems : List SystemValue) (holds : (List ℕ → ℕ) → Type 0) (r : RelationValue) : Type 0 where
+  pub relation : IsRelation r
+  pub names_are : r.names ≡ names
+  pub systems_are : r.systems ≡ systems
+  pub holds_of : (number_of : List ℕ → ℕ) → RelationHolds r (map number_of names) ↔ holds number_of
