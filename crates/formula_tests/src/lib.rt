@@ -1,5 +1,6 @@
-//! Tests of the parsers of formulas and of rules of morphisms, and of the expansion of macros: what is read of texts and their
-//! faults, worked by hand, texts as long as a command's, and the limits of expansions.
+//! Tests of the parsers of formulas and of rules of morphisms, of the truth of formulas, and of the expansion of macros: what is
+//! read of texts and their faults, worked by hand, numbers for which formulas are true, texts as long as a command's, and the
+//! limits of expansions.
 #![tactic(auto)]
 
 // texts with the trees that they must have
@@ -21,3 +22,7 @@ mod rules;
 // texts with calls of macros
 #[cfg(test)]
 mod macros;
+
+// formulas with the numbers for which they are true
+#[cfg(test)]
+mod truth;

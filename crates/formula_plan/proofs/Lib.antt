@@ -1,0 +1,10 @@
+pub mod OptionLemmas
+pub mod TrackLemmas
+pub mod Standing
+pub mod MultipleLemmas
+pub mod TermLemmas
+pub mod FactLemmas
+pub mod AgreementLemmas
+pub mod QuantifierLemmas
+pub mod FormulaLemmas
+pub mod LinearLemmas

@@ -1,0 +1,276 @@
+-- The value of a term stands where its plan places it.
+use Rattle.std.proofs.Common.{◌≡◌, ◌↔◌, ℕ, zero, suc, ◌+◌, ◌-◌, ◌*◌, ◌/◌, ◌%◌, ◌==◌, ◌≤◌, Bool, true, false, if◌then◌else◌, List, [], ◌∷◌, ◌++◌, map, slice_index_or, Option, None, Some, refl, sym, ◌∙◌, ap, subst, arith}
+use Rattle.std.proofs.lemmas.Option.{none-some, same_Some}
+use Rattle.formula_parse.specs.Tokens.{Name, Sign, plus, minus, equal}
+use Rattle.formula_parse.specs.Trees.{Term, variable, numeral, product, sum, Factors, no_factors, factors, times, Terms, no_terms, terms, Addends, no_addends, addends}
+use Rattle.formula_truth.specs.Assignments.{Assignment}
+use Rattle.formula_truth.specs.Values.{both, by_sign, multiplied, value, product_value, sum_value, and_value, values}
+use Rattle.formula_truth.specs.Truth.{Meanings}
+use Rattle.formula_plan.specs.Tracks.{Track, own, fresh, Numbers, of_variables}
+use Rattle.formula_plan.specs.Plans.{Plan, compared, added, Made}
+use Rattle.formula_plan.specs.TermPlans.{TermPlan, no_times, linked, multiple, times_numeral, times_numerals, sum_relation, with_addend, numeral_plan, begun, term_plan, factor_plans, sum_plan}
+use Rattle.formula_plan.specs.FactPlans.{Places, no_places, places, tracks_of, count, argument_plans}
+use Rattle.formula_plan.specs.Linear.{IsLinear, AreLinearFactors, AreLinearAddends, AreLinear, others}
+use Rattle.formula_plan.specs.Means.{Means}
+use Rattle.formula_plan.proofs.OptionLemmas.{both_some, both_at, and_some, difference_there, difference_back}
+use Rattle.formula_plan.proofs.Standing.{Value, IsPlaced, placed_up, Stands, stands_same, Values, no_values, listed, read_all, StandAll, Reads, reads_outside, list_there, list_back}
+use Rattle.formula_plan.proofs.MultipleLemmas.{IsBelow, multiple_is}
+
+numeral_stands : (m : Meanings) (s : Name) (c k : ℕ) → Stands m (λ b. Some c) (numeral_plan s c k).placed k (numeral_plan s c k).next
+numeral_stands m s c k = record {
+  there = λ a is. ap Some (sym is);
+  back = λ a is. sym (same_Some c (a (fresh k)) is);
+  placed = (omega arith, omega arith);
+}
+
+-- one value, listed
+one_read : (v : Value) (b : Assignment) (x : ℕ) → v b ≡ Some x → read_all (listed no_values v) b ≡ Some (x ∷ [])
+one_read v b x is = ap (λ o. and_value (Some []) o) is
+
+read_one : (v : Value) (b : Assignment) (ns : List ℕ) → read_all (listed no_values v) b ≡ Some ns → (x : ℕ) × (v b ≡ Some x) × (ns ≡ x ∷ [])
+read_one v b ns is =
+    let parts = and_some (Some []) (v b) ns is in
+    let none : [] ≡ parts.0 = same_Some [] parts.0 parts.2 in
+    (parts.1, parts.3, sym parts.4 ∙ ap (λ xs. xs ++ parts.1 ∷ []) (sym none))
+
+-- two values, listed
+pub two_read : (v w : Value) (b : Assignment) (x y : ℕ) → v b ≡ Some x → w b ≡ Some y → read_all (listed (listed no_values v) w) b ≡ Some (x ∷ y ∷ [])
+two_read v w b x y first second = ap (λ o. and_value o (w b)) (one_read v b x first) ∙ ap (λ o. and_value (Some (x ∷ [])) o) second
+
+pub read_two : (v w : Value) (b : Assignment) (ns : List ℕ) → read_all (listed (listed no_values v) w) b ≡ Some ns → (x : ℕ) × (y : ℕ) × (v b ≡ Some x) × (w b ≡ Some y) × (ns ≡ x ∷ y ∷ [])
+read_two v w b ns is =
+    let parts = and_some (read_all (listed no_values v) b) (w b) ns is in
+    let first = read_one v b parts.0 parts.2 in
+    (first.0, parts.1, first.1, parts.3, sym parts.4 ∙ ap (λ xs. xs ++ parts.1 ∷ []) first.2)
+
+-- what a sum or a difference says of three numbers
+sum_there : (m : Meanings) (s : Name) (sign : Sign) (x y z : Track) (b : Numbers) → Means m (sum_relation s sign x y z) b → by_sign sign (b x) (b y) ≡ Some (b z)
+sum_there m s plus x y z b h = ap Some h
+sum_there m s minus x y z b h = difference_back (b x) (b y) (b z) h
+
+sum_back : (m : Meanings) (s : Name) (sign : Sign) (x y z : Track) (b : Numbers) → by_sign sign (b x) (b y) ≡ Some (b z) → Means m (sum_relation s sign x y z) b
+sum_back m s plus x y z b h = same_Some (b x + b y) (b z) h
+sum_back m s minus x y z b h = difference_there (b x) (b y) (b z) h
+
+addend_stands : (m : Meanings) (s : Name) (sign : Sign) (v w : Value) (p q : TermPlan) (k : ℕ) → Stands m v p.placed k p.next → Stands m w q.placed p.next q.next
+    → Stands m (λ b. both (by_sign sign) (v b) (w b)) (with_addend s sign p q).placed k (with_addend s sign p q).next
+addend_stands m s sign v w p q k first second = record {
+  there = λ a h.
+      let read = list_there m vs ps k q.next stand base (Says a) a (says_there a) h in
+      let two = read_two v w (of_variables a) read.0 read.1 in
+      both_at (by_sign sign) (v (of_variables a)) (w (of_variables a)) two.0 two.1 two.2 two.3
+      ∙ subst (λ ns. Says a ns) two.4 read.2;
+  back = λ a is.
+      let parts = both_some (by_sign sign) (v (of_variables a)) (w (of_variables a)) (a (fresh q.next)) is in
+      list_back m vs ps k q.next stand base (Says a) a (says_back a) (parts.0 ∷ parts.1 ∷ []) (two_read v w (of_variables a) parts.0 parts.1 parts.2 parts.3) parts.4;
+  placed = (
+    let one = placed_up p.placed.track p.placed.relation k p.next first.placed in
+        let two = placed_up q.placed.track q.placed.relation p.next q.next second.placed in omega (arith, one, two),
+    omega arith,
+  );
+}
+  where
+    vs : Values
+    vs = listed (listed no_values v) w
+
+    ps : Places
+    ps = places (places no_places p.placed) q.placed
+
+    base : Plan
+    base = sum_relation s sign p.placed.track q.placed.track (fresh q.next)
+
+    stand : StandAll m vs ps k q.next
+    stand = (p.next, (k, omega arith, first), second)
+
+    Says : Numbers → List ℕ → Type 0
+    Says a ns = by_sign sign (slice_index_or ns 0 0) (slice_index_or ns 1 0) ≡ Some (a (fresh q.next))
+
+    says_there : (a b : Numbers) → Reads vs ps a b → Means m base b → Says a (map b (tracks_of ps))
+    says_there a b reads h = sum_there m s sign p.placed.track q.placed.track (fresh q.next) b h ∙ ap Some (reads_outside m vs ps k q.next stand a b reads q.next (omega arith))
+
+    says_back : (a b : Numbers) → Reads vs ps a b → Says a (map b (tracks_of ps)) → Means m base b
+    says_back a b reads h = sum_back m s sign p.placed.track q.placed.track (fresh q.next) b (h ∙ ap Some (sym (reads_outside m vs ps k q.next stand a b reads q.next (omega arith))))
+
+placed_below : (t : Track) (r : Option Plan) (k next : ℕ) → IsPlaced t r k next → IsBelow t (next + 1)
+placed_below (own n) None k next is = tt
+placed_below (fresh j) (Some r) k next is = omega (arith, is.1)
+placed_below (own n) (Some r) k next is = absurd is
+placed_below (fresh j) None k next is = absurd is
+
+if_next : (b : Bool) (p q : Made) (k : ℕ) → k ≤ p.next → k ≤ q.next → k ≤ (if b then p else q).next
+if_next true p q k first second = first
+if_next false p q k first second = second
+
+multiple_next : (most : ℕ) (s : Name) (c : ℕ) (x y : Track) (k : ℕ) → k ≤ (multiple most s c x y k).next
+multiple_next zero s c x y k = omega arith
+multiple_next (suc most) s c x y k =
+    if_next (c == 0) (no_times s x y k) (if c == 1 then one else (if c == 2 then two else (if c % 2 == 0 then even else odd))) k (omega arith)
+    (if_next (c == 1) one (if c == 2 then two else (if c % 2 == 0 then even else odd)) k (omega arith)
+    (if_next (c == 2) two (if c % 2 == 0 then even else odd) k (omega arith)
+    (if_next (c % 2 == 0) even odd k
+    (let up = multiple_next most s (c / 2) x (fresh k) (k + 1) in omega (arith, up))
+    (let up = multiple_next most s (c - 1) x (fresh k) (k + 1) in omega (arith, up)))))
+  where
+    one : Made
+    one = record { steps = []; last = compared s equal x y; next = k }
+
+    two : Made
+    two = record { steps = []; last = added s x x y; next = k }
+
+    even : Made
+    even = linked (multiple most s (c / 2) x (fresh k) (k + 1)) (fresh k) (added s (fresh k) (fresh k) y)
+
+    odd : Made
+    odd = linked (multiple most s (c - 1) x (fresh k) (k + 1)) (fresh k) (added s (fresh k) x y)
+
+times_stands : (m : Meanings) (s : Name) (v : Value) (p : TermPlan) (c k : ℕ) → Stands m v p.placed k p.next
+    → Stands m (λ b. both multiplied (v b) (Some c)) (times_numeral s p c).placed k (times_numeral s p c).next
+times_stands m s v p c k stands = record {
+  there = λ a h.
+      let read = list_there m vs ps k p.next stand base (Says a) a (says_there a) h in
+      let one = read_one v (of_variables a) read.0 read.1 in
+      both_at multiplied (v (of_variables a)) (Some c) one.0 c one.1 refl ∙ ap Some (sym (subst (λ ns. Says a ns) one.2 read.2));
+  back = λ a is.
+      let parts = both_some multiplied (v (of_variables a)) (Some c) (a (fresh p.next)) is in
+      let same : c ≡ parts.1 = same_Some c parts.1 parts.3 in
+      list_back m vs ps k p.next stand base (Says a) a (says_back a) (parts.0 ∷ []) (one_read v (of_variables a) parts.0 parts.2)
+      (sym (same_Some (parts.0 * parts.1) (a (fresh p.next)) parts.4) ∙ ap (λ n. parts.0 * n) (sym same));
+  placed = (
+    placed_up p.placed.track p.placed.relation k p.next stands.placed,
+    let up = multiple_next c s c p.placed.track (fresh p.next) (p.next + 1) in omega (arith, up),
+  );
+}
+  where
+    vs : Values
+    vs = listed no_values v
+
+    ps : Places
+    ps = places no_places p.placed
+
+    base : Plan
+    base = (multiple c s c p.placed.track (fresh p.next) (p.next + 1)).last
+
+    stand : StandAll m vs ps k p.next
+    stand = (k, omega arith, stands)
+
+    Says : Numbers → List ℕ → Type 0
+    Says a ns = a (fresh p.next) ≡ slice_index_or ns 0 0 * c
+
+    base_is : (b : Numbers) → Means m base b ↔ (b (fresh p.next) ≡ b p.placed.track * c)
+    base_is = multiple_is m c s c p.placed.track (fresh p.next) (p.next + 1) (omega arith) (placed_below p.placed.track p.placed.relation k p.next stands.placed) (omega arith)
+
+    says_there : (a b : Numbers) → Reads vs ps a b → Means m base b → Says a (map b (tracks_of ps))
+    says_there a b reads h = sym (reads_outside m vs ps k p.next stand a b reads p.next (omega arith)) ∙ (base_is b).0 h
+
+    says_back : (a b : Numbers) → Reads vs ps a b → Says a (map b (tracks_of ps)) → Means m base b
+    says_back a b reads h = (base_is b).1 (reads_outside m vs ps k p.next stand a b reads p.next (omega arith) ∙ h)
+
+-- a value times some numbers, in their order
+abbrev pub times_all : Option ℕ → List ℕ → Option ℕ
+times_all x [] = x
+times_all x (c ∷ cs) = times_all (both multiplied x (Some c)) cs
+
+times_all_more : (x : Option ℕ) (cs : List ℕ) (c : ℕ) → times_all x (cs ++ c ∷ []) ≡ both multiplied (times_all x cs) (Some c)
+times_all_more x [] c = refl
+times_all_more x (d ∷ cs) c = times_all_more (both multiplied x (Some d)) cs c
+
+numerals_stand : (m : Meanings) (s : Name) (cs : List ℕ) (v : Value) (p : TermPlan) (k : ℕ) → Stands m v p.placed k p.next
+    → Stands m (λ b. times_all (v b) cs) (times_numerals s p cs).placed k (times_numerals s p cs).next
+numerals_stand m s [] v p k stands = stands
+numerals_stand m s (c ∷ cs) v p k stands = numerals_stand m s cs (λ b. both multiplied (v b) (Some c)) (times_numeral s p c) k (times_stands m s v p c k stands)
+
+times_swapped : (n c : ℕ) (x : Option ℕ) → both multiplied (Some (n * c)) x ≡ both multiplied (both multiplied (Some n) x) (Some c)
+times_swapped n c None = refl
+times_swapped n c (Some x) = ap Some (swapped n c x)
+  where
+    swapped : (n c x : ℕ) → n * c * x ≡ n * x * c
+    swapped n c x = grind arith
+
+-- a factor after some numbers may stand before them
+times_all_swapped : (cs : List ℕ) (n : ℕ) (x : Option ℕ) → both multiplied (times_all (Some n) cs) x ≡ times_all (both multiplied (Some n) x) cs
+times_all_swapped [] n x = refl
+times_all_swapped (c ∷ cs) n x = times_all_swapped cs (n * c) x ∙ ap (λ y. times_all y cs) (times_swapped n c x)
+
+once : (x : Option ℕ) → both multiplied (Some 1) x ≡ x
+once None = refl
+once (Some x) = ap Some (one x)
+  where
+    one : (n : ℕ) → 1 * n ≡ n
+    one n = omega arith
+
+-- the value is that of the other factor, if there is one, times the numerals
+abbrev IsFactored : Meanings → Option (ℕ → TermPlan) → List ℕ → Value → Type 0
+IsFactored m None cs v = (b : Assignment) → v b ≡ times_all (Some 1) cs
+IsFactored m (Some plan) cs v = (w : Value) × ((k : ℕ) → Stands m w (plan k).placed k (plan k).next) × ((b : Assignment) → v b ≡ times_all (w b) cs)
+
+begun_stands : (m : Meanings) (s : Name) (other : Option (ℕ → TermPlan)) (cs : List ℕ) (v : Value) → IsFactored m other cs v
+    → (k : ℕ) → Stands m v (begun s other cs k).placed k (begun s other cs k).next
+begun_stands m s (Some plan) cs v is k =
+    stands_same m (λ b. times_all (is.0 b) cs) v (times_numerals s (plan k) cs).placed k (times_numerals s (plan k) cs).next
+    (λ b. sym (is.2 b)) (numerals_stand m s cs is.0 (plan k) k (is.1 k))
+begun_stands m s None [] v is k =
+    stands_same m (λ b. Some 1) v (numeral_plan s 1 k).placed k (numeral_plan s 1 k).next (λ b. sym (is b)) (numeral_stands m s 1 k)
+begun_stands m s None (c ∷ cs) v is k =
+    stands_same m (λ b. times_all (Some c) cs) v (times_numerals s (numeral_plan s c k) cs).placed k (times_numerals s (numeral_plan s c k) cs).next
+    (λ b. ap (λ x. times_all x cs) (sym (once (Some c))) ∙ sym (is b)) (numerals_stand m s cs (λ b. Some c) (numeral_plan s c k) k (numeral_stands m s c k))
+
+numeral_factored : (m : Meanings) (other : Option (ℕ → TermPlan)) (cs : List ℕ) (v : Value) (c : ℕ) → IsFactored m other cs v
+    → IsFactored m other (cs ++ c ∷ []) (λ b. both multiplied (v b) (Some c))
+numeral_factored m None cs v c is = λ b. ap (λ x. both multiplied x (Some c)) (is b) ∙ sym (times_all_more (Some 1) cs c)
+numeral_factored m (Some plan) cs v c is = (is.0, is.1, λ b. ap (λ x. both multiplied x (Some c)) (is.2 b) ∙ sym (times_all_more (is.0 b) cs c))
+
+-- where all factors are numerals, the next one may be another
+other_factored : (m : Meanings) (other : Option (ℕ → TermPlan)) (cs : List ℕ) (v w : Value) (plan : ℕ → TermPlan) → other ≡ None → IsFactored m other cs v
+    → ((k : ℕ) → Stands m w (plan k).placed k (plan k).next) → IsFactored m (Some plan) cs (λ b. both multiplied (v b) (w b))
+other_factored m None cs v w plan none is stands = (w, stands, λ b. ap (λ x. both multiplied x (w b)) (is b) ∙ times_all_swapped cs 1 (w b) ∙ ap (λ x. times_all x cs) (once (w b)))
+other_factored m (Some other) cs v w plan none is stands = absurd (none-some other (sym none))
+
+no_other : (s : Name) (fs : Factors) → others fs ≡ 0 → (factor_plans s fs).other ≡ None
+no_other s no_factors none = refl
+no_other s (factors fs (times (numeral c))) none = no_other s fs none
+no_other s (factors fs (times (variable n))) none = absurd (omega (arith, none))
+no_other s (factors fs (times (product gs))) none = absurd (omega (arith, none))
+no_other s (factors fs (times (sum ss t))) none = absurd (omega (arith, none))
+
+mutual
+  pub term_stands : (m : Meanings) (s : Name) (t : Term) → IsLinear t → (k : ℕ) → Stands m (value t) (term_plan s t k).placed k (term_plan s t k).next
+  term_stands m s (variable n) linear k = record { there = λ a h. refl; back = λ a is. tt; placed = omega arith }
+  term_stands m s (numeral c) linear k = numeral_stands m s c k
+  term_stands m s (product fs) linear k = begun_stands m s (factor_plans s fs).other (factor_plans s fs).numerals (product_value fs) (factors_are m s fs linear.0 linear.1) k
+  term_stands m s (sum ss t) linear k = sum_stands m s ss linear.0 (value t) (term_plan s t) (term_stands m s t linear.1) k
+
+  factors_are : (m : Meanings) (s : Name) (fs : Factors) → others fs ≤ 1 → AreLinearFactors fs → IsFactored m (factor_plans s fs).other (factor_plans s fs).numerals (product_value fs)
+  factors_are m s no_factors few linear = λ b. refl
+  factors_are m s (factors fs (times (numeral c))) few linear = numeral_factored m (factor_plans s fs).other (factor_plans s fs).numerals (product_value fs) c (factors_are m s fs few linear.0)
+  factors_are m s (factors fs (times (variable n))) few linear =
+      other_factored m (factor_plans s fs).other (factor_plans s fs).numerals (product_value fs) (value (variable n)) (term_plan s (variable n)) (no_other s fs (omega (arith, few)))
+      (factors_are m s fs (omega (arith, few)) linear.0) (term_stands m s (variable n) linear.1)
+  factors_are m s (factors fs (times (product gs))) few linear =
+      other_factored m (factor_plans s fs).other (factor_plans s fs).numerals (product_value fs) (value (product gs)) (term_plan s (product gs)) (no_other s fs (omega (arith, few)))
+      (factors_are m s fs (omega (arith, few)) linear.0) (term_stands m s (product gs) linear.1)
+  factors_are m s (factors fs (times (sum ss t))) few linear =
+      other_factored m (factor_plans s fs).other (factor_plans s fs).numerals (product_value fs) (value (sum ss t)) (term_plan s (sum ss t)) (no_other s fs (omega (arith, few)))
+      (factors_are m s fs (omega (arith, few)) linear.0) (term_stands m s (sum ss t) linear.1)
+
+  sum_stands : (m : Meanings) (s : Name) (ss : Addends) → AreLinearAddends ss → (w : Value) (last : ℕ → TermPlan)
+      → ((k : ℕ) → Stands m w (last k).placed k (last k).next) → (k : ℕ)
+      → Stands m (λ b. sum_value ss b (w b)) (sum_plan s ss last k).placed k (sum_plan s ss last k).next
+  sum_stands m s no_addends linear w last stands k = stands k
+  sum_stands m s (addends ss t sign) linear w last stands k =
+      let p = sum_plan s ss (term_plan s t) k in
+      addend_stands m s sign (λ b. sum_value ss b (value t b)) w p (last p.next) k
+      (sum_stands m s ss linear.0 (value t) (term_plan s t) (term_stands m s t linear.1) k) (stands p.next)
+
+-- the values of some terms
+abbrev pub values_of : Terms → Values
+values_of no_terms = no_values
+values_of (terms ts t) = listed (values_of ts) (value t)
+
+pub values_are : (ts : Terms) (b : Assignment) → read_all (values_of ts) b ≡ values ts b
+values_are no_terms b = refl
+values_are (terms ts t) b = ap (λ o. and_value o (value t b)) (values_are ts b)
+
+pub arguments_stand : (m : Meanings) (ss : List Name) (ts : Terms) → AreLinear ts → (k : ℕ) → StandAll m (values_of ts) (argument_plans ss ts k).placed k (argument_plans ss ts k).next
+arguments_stand m ss no_terms linear k = omega arith
+arguments_stand m ss (terms ts t) linear k =
+    ((argument_plans ss ts k).next, arguments_stand m ss ts linear.0 k, term_stands m (slice_index_or ss (count ts) []) t linear.1 (argument_plans ss ts k).next)

@@ -1,0 +1,134 @@
+-- The plans of what atoms say.
+use Rattle.std.specs.Prelude.{ℕ, ℤ, suc, Bool, true, false, List, [], ◌∷◌, ◌++◌, Option, None, Some, slice_index_or}
+use Rattle.formula_parse.specs.Tokens.{Name, Relation, equal, unequal, less, greater, at_most, at_least}
+use Rattle.formula_parse.specs.Trees.{Term, variable, numeral, product, sum, Terms, no_terms, terms, Index, Fact, compare, words, word_letter, letter_word, call}
+use Rattle.formula_plan.specs.Tracks.{Track, own}
+use Rattle.formula_plan.specs.Plans.{Plan, compared, called, lettered, renamed, paired, Made}
+use Rattle.formula_plan.specs.TermPlans.{Placed, TermPlan, closed, closing, term_plan}
+
+-- the systems of the tracks of each automaton and of each word
+pub record Headers : Type 0 where
+  pub of_automaton : Name → List Name
+  pub of_word : Name → List Name
+
+-- where the values of some terms are placed, in their order
+pub data Places : Type 0 where
+  no_places : Places
+  places : Places → Placed → Places
+
+abbrev pub tracks_of : Places → List Track
+tracks_of no_places = []
+tracks_of (places ps p) = tracks_of ps ++ p.track ∷ []
+
+abbrev pub all_places : Places → Places → Places
+all_places ps no_places = ps
+all_places ps (places qs q) = places (all_places ps qs) q
+
+-- a base with all their tracks closed, the first first
+abbrev pub closed_all : Places → Plan → Plan
+closed_all no_places base = base
+closed_all (places ps p) base = closed p (closed_all ps base)
+
+abbrev pub closing_all : Places → Plan → List Plan
+closing_all no_places base = []
+closing_all (places ps p) base = closing_all ps base ++ closing p (closed_all ps base)
+
+-- the plans of some terms, one after another
+pub record TermPlans : Type 0 where
+  pub steps : List Plan
+  pub placed : Places
+  pub next : ℕ
+
+abbrev pub and_term : TermPlans → TermPlan → TermPlans
+and_term ps p = record { steps = ps.steps ++ p.steps; placed = places ps.placed p.placed; next = p.next }
+
+-- a base over the values of these terms, and after its own steps their tracks closed
+abbrev pub over_terms : TermPlans → List Plan → Plan → Made
+over_terms ps own_steps base = record {
+  steps = ps.steps ++ (own_steps ++ closing_all ps.placed base);
+  last = closed_all ps.placed base;
+  next = ps.next;
+}
+
+abbrev pub count : Terms → ℕ
+count no_terms = 0
+count (terms ts t) = suc (count ts)
+
+-- the arguments of an automaton or the indices of a word, whose tracks have these systems
+abbrev pub argument_plans : List Name → Terms → ℕ → TermPlans
+argument_plans ss no_terms k = record { steps = []; placed = no_places; next = k }
+argument_plans ss (terms ts t) k =
+    let front = argument_plans ss ts k in
+    and_term front (term_plan (slice_index_or ss (count ts) []) t front.next)
+
+abbrev pub as_variable : Term → Option Name
+as_variable (variable n) = Some n
+as_variable (numeral c) = None
+as_variable (product fs) = None
+as_variable (sum ss t) = None
+
+abbrev pub is_equal : Relation → Bool
+is_equal equal = true
+is_equal unequal = false
+is_equal less = false
+is_equal greater = false
+is_equal at_most = false
+is_equal at_least = false
+
+-- an equation of a variable and a term that is none is short: the term's relation, its track under the variable's name
+pub data Form : Type 0 where
+  long : Form
+  variable_left : Name → Form
+  variable_right : Name → Form
+
+abbrev pub form_by : Bool → Option Name → Option Name → Form
+form_by true (Some n) None = variable_left n
+form_by true None (Some n) = variable_right n
+form_by true None None = long
+form_by true (Some m) (Some n) = long
+form_by false x y = long
+
+abbrev pub named_by : Name → Name → Track → Option Plan → Plan
+named_by s n t None = compared s equal t (own n)
+named_by s n t (Some r) = renamed t (own n) r
+
+abbrev pub named : Name → Name → TermPlan → Made
+named s n p = record { steps = p.steps; last = named_by s n p.placed.track p.placed.relation; next = p.next }
+
+-- two values compared
+abbrev pub compared_values : Name → Relation → TermPlan → TermPlan → Made
+compared_values s r p q =
+    over_terms (record { steps = p.steps ++ q.steps; placed = places (places no_places p.placed) q.placed; next = q.next }) [] (compared s r p.placed.track q.placed.track)
+
+abbrev pub compare_by : Form → Name → Term → Relation → Term → ℕ → Made
+compare_by long s t r u k = let p = term_plan s t k in compared_values s r p (term_plan s u p.next)
+compare_by (variable_left n) s t r u k = named s n (term_plan s u k)
+compare_by (variable_right n) s t r u k = named s n (term_plan s t k)
+
+-- the relation with its sides exchanged
+abbrev pub mirrored : Relation → Relation
+mirrored equal = equal
+mirrored unequal = unequal
+mirrored less = greater
+mirrored greater = less
+mirrored at_most = at_least
+mirrored at_least = at_most
+
+abbrev pub letter_plan : Headers → Index → Relation → ℤ → ℕ → Made
+letter_plan h x r l k = let ps = argument_plans (h.of_word x.word) x.places k in over_terms ps [] (lettered x.word (tracks_of ps.placed) r l)
+
+-- the letters of two words: the step of their product comes after the steps of all indices
+abbrev pub words_plan : Headers → Index → Relation → Index → ℕ → Made
+words_plan h x r y k =
+    let ps = argument_plans (h.of_word x.word) x.places k in
+    let qs = argument_plans (h.of_word y.word) y.places ps.next in
+    let base = paired x.word (tracks_of ps.placed) r y.word (tracks_of qs.placed) in
+    over_terms (record { steps = ps.steps ++ qs.steps; placed = all_places ps.placed qs.placed; next = qs.next }) (base ∷ []) base
+
+-- what an atom of a system says, with fresh tracks from a number on
+abbrev pub fact_plan : Headers → Name → Fact → ℕ → Made
+fact_plan h s (compare t r u) k = compare_by (form_by (is_equal r) (as_variable t) (as_variable u)) s t r u k
+fact_plan h s (call n ts) k = let ps = argument_plans (h.of_automaton n) ts k in over_terms ps [] (called n (tracks_of ps.placed))
+fact_plan h s (word_letter x r l) k = letter_plan h x r l k
+fact_plan h s (letter_word l r x) k = letter_plan h x (mirrored r) l k
+fact_plan h s (words x r y) k = words_plan h x r y k
