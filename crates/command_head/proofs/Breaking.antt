@@ -263,7 +263,7 @@ unfolding reg_at
 reg_broken text at refusal short h = broken (length text + 1) (length text) AtWord (parts_of text) at refusal (omega arith) (few_parts text) tt h
 
 -- the fault that is read is where the parts of the text break the grammar
-pub syntax_breaks : (text : List ℕ) (at : ℕ) → length text < 2 ^ 32 → reg_at text ≡ Err (Syntax at) → IsSyntaxAt text at
+pub syntax_breaks : (text : List ℕ) (at : ℕ) → length text < 2 ^ 32 → reg_at text ≡ Err (Syntax at) → IsSyntaxAt SpellsReg text at
 syntax_breaks text at short h =
     let b = reg_broken text at Form short h in
     record {
@@ -271,7 +271,7 @@ syntax_breaks text at short h =
       form = λ exceeds. b.kind (exceeds_reg (texts_of (parts_of text)) b.count exceeds);
     }
 
-pub number_breaks : (text : List ℕ) (at : ℕ) → length text < 2 ^ 32 → reg_at text ≡ Err (Number at) → IsNumberAt text at
+pub number_breaks : (text : List ℕ) (at : ℕ) → length text < 2 ^ 32 → reg_at text ≡ Err (Number at) → IsNumberAt SpellsReg text at
 number_breaks text at short h =
     let b = reg_broken text at Range short h in
     record {

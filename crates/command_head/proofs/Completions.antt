@@ -10,7 +10,7 @@ use Rattle.command_head.specs.Readings.{Form}
 use Rattle.command_head.specs.Numbers.{unsigned, all_in, is_number}
 use Rattle.command_head.specs.Members.{put}
 use Rattle.command_head.specs.Parts.{is_name, is_system, is_quoted, unquoted}
-use Rattle.command_head.specs.Heads.{Tracks, Sets, Systems, RegHead, Stage, AtWord, AtName, BehindName, AtNumber, BehindNumber, BehindSet, BehindSystem, AtEnd, body_step, step}
+use Rattle.command_head.specs.Heads.{Alphabets, Sets, Systems, RegHead, Stage, AtWord, AtName, BehindName, AtNumber, BehindNumber, BehindSet, BehindSystem, AtEnd, body_step, step}
 use Rattle.command_head.proofs.ReadingSteps.{then_ok}
 use Rattle.command_head.proofs.PartShape.{letter-high, all_in-all, system_read, direction_is}
 use Rattle.command_head.proofs.Numerals.{number_part, fresh}
@@ -38,7 +38,7 @@ IsAtNumber (BehindSet name sets) = ⊥
 IsAtNumber (BehindSystem name names) = ⊥
 IsAtNumber (AtEnd head) = ⊥
 
-set_ends : (name : List ℕ) (sets : List (List ℤ)) → goes (BehindSet name sets) (empty ∷ []) ≡ Ok (record { name = name; tracks = Sets sets; body = [] })
+set_ends : (name : List ℕ) (sets : List (List ℤ)) → goes (BehindSet name sets) (empty ∷ []) ≡ Ok (record { name = name; alphabets = Sets sets; body = [] })
 unfolding step body_step
 set_ends name sets = refl
 
@@ -59,7 +59,7 @@ allowed limit (AtNumber name sets members) room low sane at_number =
       number = number.1.number;
       begins = (
         codes "}" ∷ empty ∷ [],
-        record { name = name; tracks = Sets (sets ++ more ∷ []); body = [] },
+        record { name = name; alphabets = Sets (sets ++ more ∷ []); body = [] },
         last_number name sets members more number.0 (empty ∷ []) (member_read members number.0 (pos new.k) number.1 new.new) ∙ set_ends name (sets ++ more ∷ []),
       );
     }
@@ -74,20 +74,20 @@ allowed limit (AtEnd head) room low sane at_number = absurd at_number
 -- each stage leads to a head
 pub completes : (limit : ℕ) (stage : Stage) → spent stage ≤ limit → limit ≤ 2 ^ 32 → Sane limit stage → Begins (GoesAs stage) []
 unfolding step body_step
-completes limit AtWord room low sane = (codes "reg" ∷ codes "a" ∷ codes "msd_2" ∷ empty ∷ [], record { name = codes "a"; tracks = Systems (codes "msd_2" ∷ []); body = [] }, refl)
-completes limit AtName room low sane = (codes "a" ∷ codes "msd_2" ∷ empty ∷ [], record { name = codes "a"; tracks = Systems (codes "msd_2" ∷ []); body = [] }, refl)
-completes limit (BehindName name) room low sane = (codes "msd_2" ∷ empty ∷ [], record { name = name; tracks = Systems (codes "msd_2" ∷ []); body = [] }, refl)
+completes limit AtWord room low sane = (codes "reg" ∷ codes "a" ∷ codes "msd_2" ∷ empty ∷ [], record { name = codes "a"; alphabets = Systems (codes "msd_2" ∷ []); body = [] }, refl)
+completes limit AtName room low sane = (codes "a" ∷ codes "msd_2" ∷ empty ∷ [], record { name = codes "a"; alphabets = Systems (codes "msd_2" ∷ []); body = [] }, refl)
+completes limit (BehindName name) room low sane = (codes "msd_2" ∷ empty ∷ [], record { name = name; alphabets = Systems (codes "msd_2" ∷ []); body = [] }, refl)
 completes limit (AtNumber name sets members) room low sane =
     let a = allowed limit (AtNumber name sets members) room low sane tt in
     let b = a.begins in
     (a.other ∷ b.0, b.1, b.2)
-completes limit (BehindNumber name sets members) room low sane = (codes "}" ∷ empty ∷ [], record { name = name; tracks = Sets (sets ++ members ∷ []); body = [] }, refl)
-completes limit (BehindSet name sets) room low sane = (empty ∷ [], record { name = name; tracks = Sets sets; body = [] }, refl)
-completes limit (BehindSystem name names) room low sane = (empty ∷ [], record { name = name; tracks = Systems names; body = [] }, refl)
+completes limit (BehindNumber name sets members) room low sane = (codes "}" ∷ empty ∷ [], record { name = name; alphabets = Sets (sets ++ members ∷ []); body = [] }, refl)
+completes limit (BehindSet name sets) room low sane = (empty ∷ [], record { name = name; alphabets = Sets sets; body = [] }, refl)
+completes limit (BehindSystem name names) room low sane = (empty ∷ [], record { name = name; alphabets = Systems names; body = [] }, refl)
 completes limit (AtEnd head) room low sane = ([], head, refl)
 
 -- the first byte of a number
-abbrev FirstOfNumber : List ℕ → Type 0
+abbrev pub FirstOfNumber : List ℕ → Type 0
 FirstOfNumber [] = ⊥
 FirstOfNumber (b ∷ bs) = (45 ≤ b) × (b ≤ 57)
 
@@ -97,7 +97,7 @@ digit_first b h =
     let from : 48 ≤ b = leb-true 48 b p.0 in
     (omega arith, leb-true b 57 p.1)
 
-number_first : (part : List ℕ) → is_number part ≡ true → FirstOfNumber part
+pub number_first : (part : List ℕ) → is_number part ≡ true → FirstOfNumber part
 number_first [] h = absurd (false≢true h)
 number_first (b ∷ bs) h = by_sign (b == 45) refl
   where
@@ -110,7 +110,7 @@ number_first (b ∷ bs) h = by_sign (b == 45) refl
     by_sign true e = let sign = eqb-true b 45 e in (omega arith, omega arith)
     by_sign false e = plain _ (unsigned (b ∷ bs)) (rw e refl) h
 
-name_first : (part : List ℕ) → is_name part ≡ true → FirstOfNumber part → ⊥
+pub name_first : (part : List ℕ) → is_name part ≡ true → FirstOfNumber part → ⊥
 name_first [] h first = first
 name_first (b ∷ bs) h first =
     let high = letter-high b (and_parts (is_letter b) (all_in NameByte (b ∷ bs) && nat_le (length (b ∷ bs)) 64) h).0 in
@@ -123,7 +123,7 @@ system_first (b ∷ bs) h first =
     ⊎_elim (λ e. let is : b ≡ 109 = ap (λ (l : List ℕ). get_or l 0 0) e in omega arith) (λ e. let is : b ≡ 108 = ap (λ (l : List ℕ). get_or l 0 0) e in omega arith)
     (direction_is (take 4 (b ∷ bs)) (system_read (b ∷ bs) h).direction)
 
-quoted_first : (part : List ℕ) → is_quoted part ≡ true → FirstOfNumber part → ⊥
+pub quoted_first : (part : List ℕ) → is_quoted part ≡ true → FirstOfNumber part → ⊥
 quoted_first [] h first = first
 quoted_first (b ∷ bs) h first =
     let is = eqb-true b 34 (and_parts (b == 34) (bytes_eq (behind_front Unquoted (drop 1 (b ∷ bs))) (codes "\"")) h).0 in
@@ -132,10 +132,10 @@ quoted_first (b ∷ bs) h first =
 text_first : (part text : List ℕ) → part ≡ text → is_number text ≡ false → is_number part ≡ true → ⊥
 text_first part text e h g = false≢true (sym h ∙ subst (λ (l : List ℕ). is_number l ≡ true) e g)
 
-body_first : (name : List ℕ) (tracks : Tracks) (part : List ℕ) (next : Stage) → body_step name tracks part ≡ Ok next → FirstOfNumber part → ⊥
+body_first : (name : List ℕ) (alphabets : Alphabets) (part : List ℕ) (next : Stage) → body_step name alphabets part ≡ Ok next → FirstOfNumber part → ⊥
 unfolding body_step
-body_first name tracks part next h first =
-    quoted_first part (then_ok (is_quoted part) Form (Ok (AtEnd (record { name = name; tracks = tracks; body = unquoted part }))) next h).0 first
+body_first name alphabets part next h first =
+    quoted_first part (then_ok (is_quoted part) Form (Ok (AtEnd (record { name = name; alphabets = alphabets; body = unquoted part }))) next h).0 first
 
 pub number_stage : (stage : Stage) (part : List ℕ) (next : Stage) → is_number part ≡ true → step stage part ≡ Ok next → IsAtNumber stage
 number_stage AtWord part next number h = text_first part (codes "reg") (word_step part next h).0 refl number

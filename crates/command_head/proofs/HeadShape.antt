@@ -35,7 +35,7 @@ pub word_stage : (at : ℕ) (word : List ℕ) (stage : Stage) → placed at (ste
 word_stage at word stage h = ok_is (came AtName) AtName stage refl (word_step word stage (placed_ok at (step AtWord word) stage h)).1
 
 -- the tracks of a head are well formed
-pub reg_formed : (text : List ℕ) (head : RegHead) → reg_at text ≡ Ok head → AreFormed (length text) head.tracks
+pub reg_formed : (text : List ℕ) (head : RegHead) → reg_at text ≡ Ok head → AreFormed (length text) head.alphabets
 unfolding run reg_at parts_of
 reg_formed text head h =
     let rest = parts_of_rest (length text) (length text) (behind_word text) in

@@ -1,5 +1,5 @@
 -- The parts of a head, divided by blanks, make a text that has just these parts.
-use Rattle.std.proofs.Common.{◌≡◌, ◌≢◌, ℕ, zero, suc, ◌+◌, ◌≤◌, Bool, true, false, not, cond, ◌==◌, ◌||◌, ◌&&◌, nat_le, List, [], ◌∷◌, ◌++◌, ℤ, length, take, drop, get_or, refl, sym, ◌∙◌, ap, subst, arith, codes, ⊎_elim, length-append}
+use Rattle.std.proofs.Common.{◌≡◌, ◌≢◌, ℕ, zero, suc, ◌+◌, ◌≤◌, Bool, true, false, not, cond, ◌==◌, ◌||◌, ◌&&◌, nat_le, List, [], ◌∷◌, ◌++◌, ℤ, length, take, drop, get_or, refl, sym, ◌∙◌, ap, subst, arith, tests, codes, ⊎_elim, length-append}
 use Rattle.std.specs.List.{AllByRecursion}
 use Rattle.std.proofs.lemmas.List.{take_at, drop_at, append_assoc, take-append-drop}
 use Rattle.std.proofs.lemmas.Bool.{ne_eqb, or_from, or_cases, and_parts, lt-leb, leb-true, eqb-true, false≢true}
@@ -7,9 +7,9 @@ use Rattle.text_grammar.specs.declared.class.Class.TheVariants.{Blank, Digit, Na
 use Rattle.text_grammar.specs.Bytes.{is_blank, is_letter, is_digit, is_name_byte}
 use Rattle.text_grammar.specs.Fronts.{is_in, front_len, behind_front}
 use Rattle.command_head.specs.Numbers.{unsigned, all_in, is_number}
-use Rattle.command_head.specs.Parts.{behind_blanks, ending_len, part_len, parts_of_rest, parts_of, texts_of, is_name, is_system, all_alphanumeric}
-use Rattle.command_head.specs.Heads.{Tracks, Sets, Systems, RegHead}
-use Rattle.command_head.specs.Grammar.{SpellsMentions, SpellsSet, SpellSets, SpellTracks, AreUnquoted, quoted, SpellsReg}
+use Rattle.command_head.specs.Parts.{begins_with_letter, behind_blanks, ending_len, part_len, parts_of_rest, parts_of, texts_of, is_name, is_system, all_alphanumeric}
+use Rattle.command_head.specs.Heads.{Alphabets, Sets, Systems, RegHead, NamedHead}
+use Rattle.command_head.specs.Grammar.{SpellsMentions, SpellsSet, SpellSets, SpellAlphabets, AreUnquoted, quoted, SpellsReg, SpellsNamed}
 use Rattle.command_head.proofs.FrontSteps.{Stops, front_len-append, front_of-append, behind_front-append}
 use Rattle.command_head.proofs.PartShape.{AllByRecursion-weaker, all-append, all_in-all, letter-high, letter-name_byte, unquoted_in, system_read, direction_is}
 
@@ -212,27 +212,43 @@ stand_systems : (names : List (List ℕ)) → AllByRecursion (λ n. is_system n 
 stand_systems [] all = tt
 stand_systems (n ∷ ns) all = (stands_system n all.0, stand_systems ns all.1)
 
-stand_tracks : (tracks : Tracks) (parts : List (List ℕ)) → SpellTracks parts tracks → AllByRecursion Stands parts
-stand_tracks (Sets sets) parts spelled = stand_sets sets parts spelled.1
-stand_tracks (Systems names) parts spelled = subst (AllByRecursion Stands) (sym spelled.1) (stand_systems names spelled.2)
+stand_alphabets : (alphabets : Alphabets) (parts : List (List ℕ)) → SpellAlphabets parts alphabets → AllByRecursion Stands parts
+stand_alphabets (Sets sets) parts spelled = stand_sets sets parts spelled.1
+stand_alphabets (Systems names) parts spelled = subst (AllByRecursion Stands) (sym spelled.1) (stand_systems names spelled.2)
 
-unfoldable text_of : List (List ℕ) → List ℕ
-text_of parts = codes "reg" ++ 32 ∷ join parts
+unfoldable text_of : List ℕ → List (List ℕ) → List ℕ
+text_of word parts = word ++ 32 ∷ join parts
 
-word_first : (parts : List (List ℕ)) → AllByRecursion Stands parts → texts_of (parts_of (text_of parts)) ≡ codes "reg" ∷ parts
+word_first : (word : List ℕ) (parts : List (List ℕ)) → AllByRecursion (λ b. is_in Word b ≡ true) word → AllByRecursion Stands parts → texts_of (parts_of (text_of word parts)) ≡ word ∷ parts
 unfolding parts_of text_of
-word_first parts all =
+word_first word parts of_word all =
     let rest = 32 ∷ join parts in
-    let text = codes "reg" ++ rest in
-    let few : length (join parts) ≤ length text = omega (arith, length-append (codes "reg") rest) in
-    ap (λ (l : List ℕ). l ∷ texts_of (parts_of_rest (length text) (length text) (behind_blanks (behind_front Word text)))) (front_of-append Word (codes "reg") rest (refl, (refl, (refl, tt))) refl)
-    ∙ ap (λ (l : List ℕ). codes "reg" ∷ texts_of (parts_of_rest (length text) (length text) (behind_blanks l))) (behind_front-append Word (codes "reg") rest (refl, (refl, (refl, tt))) refl)
-    ∙ ap (λ (l : List ℕ). codes "reg" ∷ texts_of (parts_of_rest (length text) (length text) l)) (solid_join parts all)
-    ∙ ap (λ (l : List (List ℕ)). codes "reg" ∷ l) (parts_join parts (length text) (length text) all few)
+    let text = word ++ rest in
+    let few : length (join parts) ≤ length text = omega (arith, length-append word rest) in
+    ap (λ (l : List ℕ). l ∷ texts_of (parts_of_rest (length text) (length text) (behind_blanks (behind_front Word text)))) (front_of-append Word word rest of_word refl)
+    ∙ ap (λ (l : List ℕ). word ∷ texts_of (parts_of_rest (length text) (length text) (behind_blanks l))) (behind_front-append Word word rest of_word refl)
+    ∙ ap (λ (l : List ℕ). word ∷ texts_of (parts_of_rest (length text) (length text) l)) (solid_join parts all)
+    ∙ ap (λ (l : List (List ℕ)). word ∷ l) (parts_join parts (length text) (length text) all few)
 
--- parts that spell a head are those of a text
-pub spelled_text : (parts : List (List ℕ)) (head : RegHead) → SpellsReg parts head → (text : List ℕ) × (texts_of (parts_of text) ≡ parts)
-spelled_text parts head s =
-    let others = head.name ∷ (s.tracks ++ quoted head.body ∷ []) in
-    let all : AllByRecursion Stands others = (stands_name head.name s.name, all_of Stands s.tracks (quoted head.body ∷ []) (stand_tracks head.tracks s.tracks s.spelled) (stands_quoted head.body s.body, tt)) in
-    (text_of others, word_first others all ∙ sym s.parts_are)
+-- parts that spell a `reg` are those of a text
+pub reg_text : (parts : List (List ℕ)) (head : RegHead) → SpellsReg parts head → (text : List ℕ) × (texts_of (parts_of text) ≡ parts)
+reg_text parts head s =
+    let others = head.name ∷ (s.alphabets ++ quoted head.body ∷ []) in
+    let all : AllByRecursion Stands others = (stands_name head.name s.name, all_of Stands s.alphabets (quoted head.body ∷ []) (stand_alphabets head.alphabets s.alphabets s.spelled) (stands_quoted head.body s.body, tt)) in
+    (text_of (codes "reg") others, word_first (codes "reg") others (refl, (refl, (refl, tt))) all ∙ sym s.parts_are)
+
+name_byte-word : (b : ℕ) → is_in NameByte b ≡ true → is_in Word b ≡ true
+name_byte-word b h = grind (arith, tests)
+
+-- a name has neither a blank nor a quote
+word_bytes : (word : List ℕ) → is_name word ≡ true → AllByRecursion (λ b. is_in Word b ≡ true) word
+word_bytes word h =
+    let p = and_parts (begins_with_letter word) (all_in NameByte word && nat_le (length word) 64) h in
+    let q = and_parts (all_in NameByte word) (nat_le (length word) 64) p.1 in
+    AllByRecursion-weaker (λ b. is_in NameByte b ≡ true) (λ b. is_in Word b ≡ true) name_byte-word word (all_in-all NameByte word q.0)
+
+-- and parts that spell a word, a name and a quoted text
+pub named_text : (word : List ℕ) (parts : List (List ℕ)) (head : NamedHead) → is_name word ≡ true → SpellsNamed word parts head → (text : List ℕ) × (texts_of (parts_of text) ≡ parts)
+named_text word parts head h s =
+    let others = head.name ∷ quoted head.body ∷ [] in
+    (text_of word others, word_first word others (word_bytes word h) (stands_name head.name s.name, (stands_quoted head.body s.body, tt)) ∙ sym s.parts_are)

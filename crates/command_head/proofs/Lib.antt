@@ -13,6 +13,7 @@ pub mod Sane
 pub mod HeadShape
 pub mod Numerals
 pub mod Completions
+pub mod NamedHeads
 pub mod Breaking
 pub mod OneFault
 pub mod JoinedParts

@@ -9,37 +9,38 @@ use Rattle.command_head.specs.Readings.{Refusal, Form, Range, placed, ◌>>=◌}
 use Rattle.command_head.specs.Parts.{Part, texts_of, parts_of}
 use Rattle.command_head.specs.Heads.{RegHead, Stage, AtWord, step, ended, run, reg_at}
 use Rattle.command_head.specs.Grammar.{SpellsReg}
-use Rattle.command_head.specs.Breaks.{ExceedsAt, IsSyntaxAt, IsNumberAt, place_of}
-use Rattle.command_head.proofs.Walks.{run_goes}
+use Rattle.command_head.specs.Breaks.{ExceedsAt, BreaksIn, IsSyntaxAt, IsNumberAt, HasOneHead, place_of}
+use Rattle.command_head.proofs.ReadingSteps.{ok_is}
+use Rattle.command_head.proofs.Walks.{goes, run_goes}
 use Rattle.command_head.proofs.ReadHeads.{reg_spelled}
+use Rattle.command_head.proofs.SpelledHeads.{reg_goes}
 use Rattle.command_head.proofs.Breaking.{syntax_breaks, number_breaks}
 
-module _ (grammar : List (List ℕ) → RegHead → Type 0) (parts : List (List ℕ)) where
-  -- what begins a text is begun by each front of it
-  shorter_begins : (a b : ℕ) → a + 1 ≤ b → Begins grammar (take b parts) → Begins grammar (take (a + 1) parts)
-  shorter_begins a b less begins =
-      let front : take b parts ≡ take (a + 1) parts ++ drop (a + 1) (take b parts) = sym (take-append-drop (a + 1) (take b parts)) ∙ ap (λ (l : List (List ℕ)). l ++ drop (a + 1) (take b parts)) (take-take (a + 1) b parts less) in
-      let split : take b parts ++ begins.0 ≡ take (a + 1) parts ++ (drop (a + 1) (take b parts) ++ begins.0) = ap (λ (l : List (List ℕ)). l ++ begins.0) front ∙ append_assoc (take (a + 1) parts) (drop (a + 1) (take b parts)) begins.0 in
-      (drop (a + 1) (take b parts) ++ begins.0, begins.1, subst (λ (l : List (List ℕ)). grammar l begins.1) split begins.2)
+-- what begins a text is begun by each front of it
+shorter_begins : {H : Type 0} (grammar : List (List ℕ) → H → Type 0) (parts : List (List ℕ)) (a b : ℕ) → a + 1 ≤ b → Begins grammar (take b parts) → Begins grammar (take (a + 1) parts)
+shorter_begins grammar parts a b less begins =
+    let front : take b parts ≡ take (a + 1) parts ++ drop (a + 1) (take b parts) = sym (take-append-drop (a + 1) (take b parts)) ∙ ap (λ (l : List (List ℕ)). l ++ drop (a + 1) (take b parts)) (take-take (a + 1) b parts less) in
+    let split : take b parts ++ begins.0 ≡ take (a + 1) parts ++ (drop (a + 1) (take b parts) ++ begins.0) = ap (λ (l : List (List ℕ)). l ++ begins.0) front ∙ append_assoc (take (a + 1) parts) (drop (a + 1) (take b parts)) begins.0 in
+    (drop (a + 1) (take b parts) ++ begins.0, begins.1, subst (λ (l : List (List ℕ)). grammar l begins.1) split begins.2)
 
-  before_another : (a b : ℕ) → a < b → BreaksAt grammar parts a → BreaksAt grammar parts b → ⊥
-  before_another a b less breaks other =
-      let within = other.within in
-      breaks.there (omega arith) (shorter_begins a b (omega arith) other.before)
+before_another : {H : Type 0} (grammar : List (List ℕ) → H → Type 0) (parts : List (List ℕ)) (a b : ℕ) → a < b → BreaksAt grammar parts a → BreaksAt grammar parts b → ⊥
+before_another grammar parts a b less breaks other =
+    let within = other.within in
+    breaks.there (omega arith) (shorter_begins grammar parts a b (omega arith) other.before)
 
-  -- there is one such place
-  breaks_once : (a b : ℕ) → BreaksAt grammar parts a → BreaksAt grammar parts b → a ≡ b
-  breaks_once a b breaks other =
-      ⊎_elim (λ less. absurd (before_another a b less breaks other))
-      (λ high. ⊎_elim (λ less. absurd (before_another b a less other breaks)) (λ low. let one : a ≡ b = omega arith in one) (cases_lt b a))
-      (cases_lt a b)
+-- there is one such place
+breaks_once : {H : Type 0} (grammar : List (List ℕ) → H → Type 0) (parts : List (List ℕ)) (a b : ℕ) → BreaksAt grammar parts a → BreaksAt grammar parts b → a ≡ b
+breaks_once grammar parts a b breaks other =
+    ⊎_elim (λ less. absurd (before_another grammar parts a b less breaks other))
+    (λ high. ⊎_elim (λ less. absurd (before_another grammar parts b a less other breaks)) (λ low. let one : a ≡ b = omega arith in one) (cases_lt b a))
+    (cases_lt a b)
 
-  -- and none in a text of the grammar
-  no_break : (head : RegHead) (a : ℕ) → grammar parts head → BreaksAt grammar parts a → ⊥
-  no_break head a spells breaks =
-      ⊎_elim (λ inside. breaks.there inside (drop (a + 1) parts, head, subst (λ (l : List (List ℕ)). grammar l head) (sym (take-append-drop (a + 1) parts)) spells))
-      (λ high. let within = breaks.within in breaks.end (omega arith) head spells)
-      (cases_lt a (length parts))
+-- and none in a text of the grammar
+no_break : {H : Type 0} (grammar : List (List ℕ) → H → Type 0) (parts : List (List ℕ)) (head : H) (a : ℕ) → grammar parts head → BreaksAt grammar parts a → ⊥
+no_break grammar parts head a spells breaks =
+    ⊎_elim (λ inside. breaks.there inside (drop (a + 1) parts, head, subst (λ (l : List (List ℕ)). grammar l head) (sym (take-append-drop (a + 1) parts)) spells))
+    (λ high. let within = breaks.within in breaks.end (omega arith) head spells)
+    (cases_lt a (length parts))
 
 placed_told : {A : Type 0} (at : ℕ) (r : Result A Refusal) → placed at r ≡ Err Memory → ⊥
 placed_told at (Ok x) h = cc
@@ -69,7 +70,7 @@ same_place : (text : List ℕ) (a b at byte : ℕ) → a ≡ b → place_of text
 same_place text a b at byte one here there = sym here ∙ ap (place_of text) one ∙ there
 
 -- the fault that breaks the grammar is the one that is read
-pub syntax_read : (text : List ℕ) (at : ℕ) → length text < 2 ^ 32 → IsSyntaxAt text at → reg_at text ≡ Err (Syntax at)
+pub syntax_read : (text : List ℕ) (at : ℕ) → length text < 2 ^ 32 → IsSyntaxAt SpellsReg text at → reg_at text ≡ Err (Syntax at)
 syntax_read text at short is = by_reading (reg_at text) refl
   where
     by_reading : (r : Result RegHead HeadFault) → reg_at text ≡ r → reg_at text ≡ Err (Syntax at)
@@ -84,7 +85,7 @@ syntax_read text at short is = by_reading (reg_at text) refl
         absurd (is.form (subst (ExceedsAt SpellsReg (texts_of (parts_of text))) one other.exceeds))
     by_reading (Err Memory) e = absurd (reg_told text e)
 
-pub number_read : (text : List ℕ) (at : ℕ) → length text < 2 ^ 32 → IsNumberAt text at → reg_at text ≡ Err (Number at)
+pub number_read : (text : List ℕ) (at : ℕ) → length text < 2 ^ 32 → IsNumberAt SpellsReg text at → reg_at text ≡ Err (Number at)
 number_read text at short is = by_reading (reg_at text) refl
   where
     by_reading : (r : Result RegHead HeadFault) → reg_at text ≡ r → reg_at text ≡ Err (Number at)
@@ -98,3 +99,33 @@ number_read text at short is = by_reading (reg_at text) refl
         let one = breaks_once SpellsReg (texts_of (parts_of text)) other.first.count is.first.count other.first.breaks is.first.breaks in
         e ∙ ap (λ (n : ℕ). Err (Number n)) (same_place text other.first.count is.first.count byte at one other.first.place is.first.place)
     by_reading (Err Memory) e = absurd (reg_told text e)
+
+-- a break and another of one text, by their kinds
+one_kind : {H : Type 0} (grammar : List (List ℕ) → H → Type 0) (text : List ℕ) (at byte : ℕ) → IsSyntaxAt grammar text at → IsNumberAt grammar text byte → ⊥
+one_kind grammar text at byte form number =
+    let one = breaks_once grammar (texts_of (parts_of text)) number.first.count form.first.count number.first.breaks form.first.breaks in
+    form.form (subst (ExceedsAt grammar (texts_of (parts_of text))) one number.exceeds)
+
+one_break : {H : Type 0} (grammar : List (List ℕ) → H → Type 0) (text : List ℕ) (at byte : ℕ) → BreaksIn grammar text at → BreaksIn grammar text byte → at ≡ byte
+one_break grammar text at byte here there =
+    same_place text here.count there.count at byte (breaks_once grammar (texts_of (parts_of text)) here.count there.count here.breaks there.breaks) here.place there.place
+
+-- a text has one head or one fault by a grammar whose parts spell one head
+pub one_head : {H : Type 0} (grammar : List (List ℕ) → H → Type 0) → ((parts : List (List ℕ)) (head other : H) → grammar parts head → grammar parts other → head ≡ other) → HasOneHead grammar
+one_head {H} grammar single text (Ok head) (Ok other) a b known known' = ap (λ (h : H). let r : Result H HeadFault = Ok h in r) (single (texts_of (parts_of text)) head other a b)
+one_head {H} grammar single text (Ok head) (Err (Syntax at)) a b known known' = absurd (no_break grammar (texts_of (parts_of text)) head b.first.count a b.first.breaks)
+one_head {H} grammar single text (Ok head) (Err (Number at)) a b known known' = absurd (no_break grammar (texts_of (parts_of text)) head b.first.count a b.first.breaks)
+one_head {H} grammar single text (Err (Syntax at)) (Ok other) a b known known' = absurd (no_break grammar (texts_of (parts_of text)) other a.first.count b a.first.breaks)
+one_head {H} grammar single text (Err (Number at)) (Ok other) a b known known' = absurd (no_break grammar (texts_of (parts_of text)) other a.first.count b a.first.breaks)
+one_head {H} grammar single text (Err (Syntax at)) (Err (Syntax byte)) a b known known' = ap (λ (n : ℕ). let r : Result H HeadFault = Err (Syntax n) in r) (one_break grammar text at byte a.first b.first)
+one_head {H} grammar single text (Err (Number at)) (Err (Number byte)) a b known known' = ap (λ (n : ℕ). let r : Result H HeadFault = Err (Number n) in r) (one_break grammar text at byte a.first b.first)
+one_head {H} grammar single text (Err (Syntax at)) (Err (Number byte)) a b known known' = absurd (one_kind grammar text at byte a b)
+one_head {H} grammar single text (Err (Number at)) (Err (Syntax byte)) a b known known' = absurd (one_kind grammar text byte at b a)
+one_head {H} grammar single text (Err Memory) result a b known known' = absurd (known refl)
+one_head {H} grammar single text (Ok head) (Err Memory) a b known known' = absurd (known' refl)
+one_head {H} grammar single text (Err (Syntax at)) (Err Memory) a b known known' = absurd (known' refl)
+one_head {H} grammar single text (Err (Number at)) (Err Memory) a b known known' = absurd (known' refl)
+
+-- parts that spell a `reg` spell one
+pub one_reg : (parts : List (List ℕ)) (head other : RegHead) → SpellsReg parts head → SpellsReg parts other → head ≡ other
+one_reg parts head other a b = ok_is (goes AtWord parts) head other (reg_goes parts head a) (reg_goes parts other b)

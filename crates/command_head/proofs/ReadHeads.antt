@@ -7,8 +7,8 @@ use Rattle.command_head.specs.Readings.{Refusal, Form, Range}
 use Rattle.command_head.specs.Numbers.{is_number, is_short, number_of}
 use Rattle.command_head.specs.Members.{has, put, with_member}
 use Rattle.command_head.specs.Parts.{is_name, is_system, is_quoted, unquoted}
-use Rattle.command_head.specs.Heads.{Tracks, Sets, Systems, RegHead, Stage, AtWord, AtName, BehindName, AtNumber, BehindNumber, BehindSet, BehindSystem, AtEnd, body_step, step}
-use Rattle.command_head.specs.Grammar.{SpellsNumber, SpellsMentions, SpellsSet, SpellSets, SpellTracks, AreUnquoted, quoted, SpellsReg}
+use Rattle.command_head.specs.Heads.{Alphabets, Sets, Systems, RegHead, Stage, AtWord, AtName, BehindName, AtNumber, BehindNumber, BehindSet, BehindSystem, AtEnd, body_step, step}
+use Rattle.command_head.specs.Grammar.{SpellsNumber, SpellsMentions, SpellsSet, SpellSets, SpellAlphabets, AreUnquoted, quoted, SpellsReg}
 use Rattle.command_head.proofs.ReadingSteps.{bind_ok, then_ok, else_ok, chosen, ok_is}
 use Rattle.command_head.proofs.PartShape.{is_quoted-part}
 use Rattle.command_head.proofs.Gathering.{Gathers, gathered_set}
@@ -38,16 +38,16 @@ unfolding step
 end_spelled [] end head h = (refl, ok_is _ _ _ refl h)
 end_spelled (part ∷ parts) end head h = cc
 
-record IsBodyRead (name : List ℕ) (tracks : Tracks) (parts : List (List ℕ)) (head : RegHead) : Type 0 where
+record IsBodyRead (name : List ℕ) (alphabets : Alphabets) (parts : List (List ℕ)) (head : RegHead) : Type 0 where
   body : List ℕ
   parts_are : parts ≡ quoted body ∷ []
   all : AreUnquoted body
-  head_is : record { name = name; tracks = tracks; body = body } ≡ head
+  head_is : record { name = name; alphabets = alphabets; body = body } ≡ head
 
-body_spelled : (name : List ℕ) (tracks : Tracks) (part : List ℕ) (parts : List (List ℕ)) (head : RegHead) (next : Stage) → body_step name tracks part ≡ Ok next → goes next parts ≡ Ok head → IsBodyRead name tracks (part ∷ parts) head
+body_spelled : (name : List ℕ) (alphabets : Alphabets) (part : List ℕ) (parts : List (List ℕ)) (head : RegHead) (next : Stage) → body_step name alphabets part ≡ Ok next → goes next parts ≡ Ok head → IsBodyRead name alphabets (part ∷ parts) head
 unfolding body_step
-body_spelled name tracks part parts head next step_is h =
-    let end : RegHead = record { name = name; tracks = tracks; body = unquoted part } in
+body_spelled name alphabets part parts head next step_is h =
+    let end : RegHead = record { name = name; alphabets = alphabets; body = unquoted part } in
     let t = then_ok (is_quoted part) Form (Ok (AtEnd end)) next step_is in
     let q = is_quoted-part part t.0 in
     let e = end_spelled parts end head (goes_at (AtEnd end) next parts head t.1 h) in
@@ -59,7 +59,7 @@ record AreSystemsRead (name : List ℕ) (names : List (List ℕ)) (parts : List 
   parts_are : parts ≡ more ++ quoted body ∷ []
   systems : AllByRecursion (λ n. is_system n ≡ true) more
   all : AreUnquoted body
-  head_is : record { name = name; tracks = Systems (names ++ more); body = body } ≡ head
+  head_is : record { name = name; alphabets = Systems (names ++ more); body = body } ≡ head
 
 pub system_step : (name : List ℕ) (names : List (List ℕ)) (part : List ℕ) (next : Stage) → step (BehindSystem name names) part ≡ Ok next →
     ((is_system part ≡ true) × (came (BehindSystem name (names ++ part ∷ [])) ≡ Ok next)) ⊎ ((is_system part ≡ false) × (body_step name (Systems names) part ≡ Ok next))
@@ -78,7 +78,7 @@ systems_spelled (part ∷ parts) name names head h =
       parts_are = ap (λ (l : List (List ℕ)). part ∷ l) read.parts_are;
       systems = (g.0, read.systems);
       all = read.all;
-      head_is = ap (λ (l : List (List ℕ)). record { name = name; tracks = Systems l; body = read.body }) (sym (append_assoc names (part ∷ []) read.more)) ∙ read.head_is;
+      head_is = ap (λ (l : List (List ℕ)). record { name = name; alphabets = Systems l; body = read.body }) (sym (append_assoc names (part ∷ []) read.more)) ∙ read.head_is;
     })
     (λ g. let read = body_spelled name (Systems names) part parts head f.0 g.1 f.2 in
     record {
@@ -87,7 +87,7 @@ systems_spelled (part ∷ parts) name names head h =
       parts_are = read.parts_are;
       systems = tt;
       all = read.all;
-      head_is = ap (λ (l : List (List ℕ)). record { name = name; tracks = Systems l; body = read.body }) (append_nil names) ∙ read.head_is;
+      head_is = ap (λ (l : List (List ℕ)). record { name = name; alphabets = Systems l; body = read.body }) (append_nil names) ∙ read.head_is;
     })
     (system_step name names part f.0 f.1)
   where
@@ -173,13 +173,13 @@ set_is : (name : List ℕ) (sets : List (List ℤ)) (parts : List (List ℕ)) (h
 set_is name sets parts head read = record { inside = read.inside; mentions = read.mentions; parts_are = refl; spelled = read.spelled; members = gathered_set read.mentions read.out read.gathers }
 
 record AreSetsRead (name : List ℕ) (sets : List (List ℤ)) (parts : List (List ℕ)) (head : RegHead) : Type 0 where
-  tracks : List (List ℕ)
+  alphabets : List (List ℕ)
   more : List (List ℤ)
   body : List ℕ
-  parts_are : parts ≡ tracks ++ quoted body ∷ []
-  spelled : SpellSets tracks more
+  parts_are : parts ≡ alphabets ++ quoted body ∷ []
+  spelled : SpellSets alphabets more
   all : AreUnquoted body
-  head_is : record { name = name; tracks = Sets (sets ++ more); body = body } ≡ head
+  head_is : record { name = name; alphabets = Sets (sets ++ more); body = body } ≡ head
 
 pub set_step : (name : List ℕ) (sets : List (List ℤ)) (part : List ℕ) (next : Stage) → step (BehindSet name sets) part ≡ Ok next →
     ((part ≡ codes "{") × (came (AtNumber name sets []) ≡ Ok next)) ⊎ (body_step name (Sets sets) part ≡ Ok next)
@@ -187,11 +187,11 @@ unfolding step
 set_step name sets part next h = ⊎_elim (λ g. inl (is_part part (codes "{") g.0, g.1)) (λ g. inr g.1) (chosen (bytes_eq part (codes "{")) _ _ _ h)
 
 -- the parts of a set, and then those of others
-regrouped : (parts rest inside tracks end : List (List ℕ)) → parts ≡ inside ++ codes "}" ∷ rest → rest ≡ tracks ++ end →
-    codes "{" ∷ parts ≡ ((codes "{" ∷ (inside ++ codes "}" ∷ [])) ++ tracks) ++ end
-regrouped parts rest inside tracks end parts_are rest_is =
-    ap (λ (l : List (List ℕ)). codes "{" ∷ l) (parts_are ∙ ap (λ (l : List (List ℕ)). inside ++ codes "}" ∷ l) rest_is ∙ sym (append_assoc inside (codes "}" ∷ []) (tracks ++ end)))
-    ∙ sym (append_assoc (codes "{" ∷ (inside ++ codes "}" ∷ [])) tracks end)
+regrouped : (parts rest inside alphabets end : List (List ℕ)) → parts ≡ inside ++ codes "}" ∷ rest → rest ≡ alphabets ++ end →
+    codes "{" ∷ parts ≡ ((codes "{" ∷ (inside ++ codes "}" ∷ [])) ++ alphabets) ++ end
+regrouped parts rest inside alphabets end parts_are rest_is =
+    ap (λ (l : List (List ℕ)). codes "{" ∷ l) (parts_are ∙ ap (λ (l : List (List ℕ)). inside ++ codes "}" ∷ l) rest_is ∙ sym (append_assoc inside (codes "}" ∷ []) (alphabets ++ end)))
+    ∙ sym (append_assoc (codes "{" ∷ (inside ++ codes "}" ∷ [])) alphabets end)
 
 sets_spelled : (bound : ℕ) (parts : List (List ℕ)) (name : List ℕ) (sets : List (List ℤ)) (head : RegHead) → length parts ≤ bound → goes (BehindSet name sets) parts ≡ Ok head → AreSetsRead name sets parts head
 sets_spelled bound [] name sets head room h = cc
@@ -202,23 +202,23 @@ sets_spelled (suc bound) (part ∷ parts) name sets head room h =
     (λ g. let set = set_spelled parts name sets [] head (goes_at (AtNumber name sets []) f.0 parts head g.1 f.2) in
     let others = sets_spelled bound set.rest name (sets ++ set.out ∷ []) head (let less = set.shorter in omega arith) set.goes_on in
     record {
-      tracks = (codes "{" ∷ (set.inside ++ codes "}" ∷ [])) ++ others.tracks;
+      alphabets = (codes "{" ∷ (set.inside ++ codes "}" ∷ [])) ++ others.alphabets;
       more = set.out ∷ others.more;
       body = others.body;
-      parts_are = ap (λ (l : List ℕ). l ∷ parts) g.0 ∙ regrouped parts set.rest set.inside others.tracks (quoted others.body ∷ []) set.parts_are others.parts_are;
-      spelled = (codes "{" ∷ (set.inside ++ codes "}" ∷ []), others.tracks, refl, set_is name sets parts head set, others.spelled);
+      parts_are = ap (λ (l : List ℕ). l ∷ parts) g.0 ∙ regrouped parts set.rest set.inside others.alphabets (quoted others.body ∷ []) set.parts_are others.parts_are;
+      spelled = (codes "{" ∷ (set.inside ++ codes "}" ∷ []), others.alphabets, refl, set_is name sets parts head set, others.spelled);
       all = others.all;
-      head_is = ap (λ (l : List (List ℤ)). record { name = name; tracks = Sets l; body = others.body }) (sym (append_assoc sets (set.out ∷ []) others.more)) ∙ others.head_is;
+      head_is = ap (λ (l : List (List ℤ)). record { name = name; alphabets = Sets l; body = others.body }) (sym (append_assoc sets (set.out ∷ []) others.more)) ∙ others.head_is;
     })
     (λ g. let read = body_spelled name (Sets sets) part parts head f.0 g f.2 in
     record {
-      tracks = [];
+      alphabets = [];
       more = [];
       body = read.body;
       parts_are = read.parts_are;
       spelled = refl;
       all = read.all;
-      head_is = ap (λ (l : List (List ℤ)). record { name = name; tracks = Sets l; body = read.body }) (append_nil sets) ∙ read.head_is;
+      head_is = ap (λ (l : List (List ℤ)). record { name = name; alphabets = Sets l; body = read.body }) (append_nil sets) ∙ read.head_is;
     })
     (set_step name sets part f.0 f.1)
   where
@@ -227,13 +227,13 @@ sets_spelled (suc bound) (part ∷ parts) name sets head room h =
     append_nil (x ∷ xs) = ap (λ (l : List (List ℤ)). x ∷ l) (append_nil xs)
 
 record AreTracksRead (name : List ℕ) (parts : List (List ℕ)) (head : RegHead) : Type 0 where
-  tracks : List (List ℕ)
-  over : Tracks
+  alphabets : List (List ℕ)
+  over : Alphabets
   body : List ℕ
-  parts_are : parts ≡ tracks ++ quoted body ∷ []
-  spelled : SpellTracks tracks over
+  parts_are : parts ≡ alphabets ++ quoted body ∷ []
+  spelled : SpellAlphabets alphabets over
   all : AreUnquoted body
-  head_is : record { name = name; tracks = over; body = body } ≡ head
+  head_is : record { name = name; alphabets = over; body = body } ≡ head
 
 pub name_step : (name part : List ℕ) (next : Stage) → step (BehindName name) part ≡ Ok next →
     ((part ≡ codes "{") × (came (AtNumber name [] []) ≡ Ok next)) ⊎ ((is_system part ≡ true) × (came (BehindSystem name (part ∷ [])) ≡ Ok next))
@@ -245,25 +245,25 @@ name_step name part next h =
 some : {X : Type 0} (x : X) (xs : List X) → x ∷ xs ≢ []
 some x xs e = cc
 
-tracks_spelled : (parts : List (List ℕ)) (name : List ℕ) (head : RegHead) → goes (BehindName name) parts ≡ Ok head → AreTracksRead name parts head
-tracks_spelled [] name head h = cc
-tracks_spelled (part ∷ parts) name head h =
+alphabets_spelled : (parts : List (List ℕ)) (name : List ℕ) (head : RegHead) → goes (BehindName name) parts ≡ Ok head → AreTracksRead name parts head
+alphabets_spelled [] name head h = cc
+alphabets_spelled (part ∷ parts) name head h =
     let f = goes_first (BehindName name) part parts head h in
     ⊎_elim
     (λ g. let set = set_spelled parts name [] [] head (goes_at (AtNumber name [] []) f.0 parts head g.1 f.2) in
     let others = sets_spelled (length set.rest) set.rest name (set.out ∷ []) head (omega arith) set.goes_on in
     record {
-      tracks = (codes "{" ∷ (set.inside ++ codes "}" ∷ [])) ++ others.tracks;
+      alphabets = (codes "{" ∷ (set.inside ++ codes "}" ∷ [])) ++ others.alphabets;
       over = Sets (set.out ∷ others.more);
       body = others.body;
-      parts_are = ap (λ (l : List ℕ). l ∷ parts) g.0 ∙ regrouped parts set.rest set.inside others.tracks (quoted others.body ∷ []) set.parts_are others.parts_are;
-      spelled = (some set.out others.more, (codes "{" ∷ (set.inside ++ codes "}" ∷ []), others.tracks, refl, set_is name [] parts head set, others.spelled));
+      parts_are = ap (λ (l : List ℕ). l ∷ parts) g.0 ∙ regrouped parts set.rest set.inside others.alphabets (quoted others.body ∷ []) set.parts_are others.parts_are;
+      spelled = (some set.out others.more, (codes "{" ∷ (set.inside ++ codes "}" ∷ []), others.alphabets, refl, set_is name [] parts head set, others.spelled));
       all = others.all;
       head_is = others.head_is;
     })
     (λ g. let read = systems_spelled parts name (part ∷ []) head (goes_at (BehindSystem name (part ∷ [])) f.0 parts head g.1 f.2) in
     record {
-      tracks = part ∷ read.more;
+      alphabets = part ∷ read.more;
       over = Systems (part ∷ read.more);
       body = read.body;
       parts_are = ap (λ (l : List (List ℕ)). part ∷ l) read.parts_are;
@@ -283,22 +283,22 @@ first_name_step part next h = then_ok (is_name part) Form (Ok (BehindName part))
 
 record IsNameRead (parts : List (List ℕ)) (head : RegHead) : Type 0 where
   name : List ℕ
-  tracks : List (List ℕ)
-  over : Tracks
+  alphabets : List (List ℕ)
+  over : Alphabets
   body : List ℕ
-  parts_are : parts ≡ name ∷ (tracks ++ quoted body ∷ [])
+  parts_are : parts ≡ name ∷ (alphabets ++ quoted body ∷ [])
   name_is : is_name name ≡ true
-  spelled : SpellTracks tracks over
+  spelled : SpellAlphabets alphabets over
   all : AreUnquoted body
-  head_is : record { name = name; tracks = over; body = body } ≡ head
+  head_is : record { name = name; alphabets = over; body = body } ≡ head
 
 name_spelled : (parts : List (List ℕ)) (head : RegHead) → goes AtName parts ≡ Ok head → IsNameRead parts head
 name_spelled [] head h = cc
 name_spelled (part ∷ parts) head h =
     let f = goes_first AtName part parts head h in
     let n = first_name_step part f.0 f.1 in
-    let t = tracks_spelled parts part head (goes_at (BehindName part) f.0 parts head n.1 f.2) in
-    record { name = part; tracks = t.tracks; over = t.over; body = t.body; parts_are = ap (λ (l : List (List ℕ)). part ∷ l) t.parts_are; name_is = n.0; spelled = t.spelled; all = t.all; head_is = t.head_is }
+    let t = alphabets_spelled parts part head (goes_at (BehindName part) f.0 parts head n.1 f.2) in
+    record { name = part; alphabets = t.alphabets; over = t.over; body = t.body; parts_are = ap (λ (l : List (List ℕ)). part ∷ l) t.parts_are; name_is = n.0; spelled = t.spelled; all = t.all; head_is = t.head_is }
 
 -- parts that lead to a head spell it
 pub reg_spelled : (parts : List (List ℕ)) (head : RegHead) → goes AtWord parts ≡ Ok head → SpellsReg parts head
@@ -308,7 +308,7 @@ reg_spelled (part ∷ parts) head h =
     let w = word_step part f.0 f.1 in
     let n = name_spelled parts head (goes_at AtName f.0 parts head w.1 f.2) in
     subst (SpellsReg (part ∷ parts)) n.head_is record {
-      tracks = n.tracks;
+      alphabets = n.alphabets;
       parts_are = ap (λ (l : List ℕ). l ∷ parts) w.0 ∙ ap (λ (l : List (List ℕ)). codes "reg" ∷ l) n.parts_are;
       name = n.name_is;
       spelled = n.spelled;

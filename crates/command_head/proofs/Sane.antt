@@ -6,7 +6,7 @@ use Rattle.std.specs.Ordering.{int_cmp}
 use Rattle.command_head.specs.Readings.{Form, placed}
 use Rattle.command_head.specs.Numbers.{is_short}
 use Rattle.command_head.specs.Parts.{Part, is_system, is_quoted, unquoted}
-use Rattle.command_head.specs.Heads.{Tracks, Sets, Systems, RegHead, Stage, AtWord, AtName, BehindName, AtNumber, BehindNumber, BehindSet, BehindSystem, AtEnd, body_step, step, ended, run}
+use Rattle.command_head.specs.Heads.{Alphabets, Sets, Systems, RegHead, Stage, AtWord, AtName, BehindName, AtNumber, BehindNumber, BehindSet, BehindSystem, AtEnd, body_step, step, ended, run}
 use Rattle.command_head.specs.Formed.{IsSmallSet, IsSystemName, AreFormed}
 use Rattle.command_head.proofs.ReadingSteps.{bind_ok, then_ok, ok_is}
 use Rattle.command_head.proofs.PartShape.{IsAscii-system}
@@ -37,7 +37,7 @@ Sane limit (AtNumber name sets members) = AllByRecursion (IsSmallSet limit) sets
 Sane limit (BehindNumber name sets members) = AllByRecursion (IsSmallSet limit) sets × AreMembers members × (0 < length members)
 Sane limit (BehindSet name sets) = AreFormed limit (Sets sets)
 Sane limit (BehindSystem name names) = AreFormed limit (Systems names)
-Sane limit (AtEnd head) = AreFormed limit head.tracks
+Sane limit (AtEnd head) = AreFormed limit head.alphabets
 Sane limit AtWord = Unit {0}
 Sane limit AtName = Unit {0}
 Sane limit (BehindName name) = Unit {0}
@@ -56,10 +56,10 @@ all_more P (y ∷ ys) x all h = (all.0, all_more P ys x all.1 h)
 at_next : (limit : ℕ) (stage known next : Stage) → came known ≡ Ok next → Keeps limit stage known → Keeps limit stage next
 at_next limit stage known next e keeps = subst (Keeps limit stage) (ok_is (came known) known next refl e) keeps
 
-body_keeps : (limit : ℕ) (stage : Stage) (name : List ℕ) (tracks : Tracks) (part : List ℕ) (next : Stage) → AreFormed limit tracks → body_step name tracks part ≡ Ok next → Keeps limit stage next
+body_keeps : (limit : ℕ) (stage : Stage) (name : List ℕ) (alphabets : Alphabets) (part : List ℕ) (next : Stage) → AreFormed limit alphabets → body_step name alphabets part ≡ Ok next → Keeps limit stage next
 unfolding body_step
-body_keeps limit stage name tracks part next formed h =
-    let end : RegHead = record { name = name; tracks = tracks; body = unquoted part } in
+body_keeps limit stage name alphabets part next formed h =
+    let end : RegHead = record { name = name; alphabets = alphabets; body = unquoted part } in
     let t = then_ok (is_quoted part) Form (Ok (AtEnd end)) next h in
     at_next limit stage (AtEnd end) next t.1 record { spends = omega arith; sane = formed }
 
@@ -119,8 +119,8 @@ step_keeps limit (BehindSystem name names) part next room sane h =
     (system_step name names part next h)
 step_keeps limit (AtEnd head) part next room sane h = absurd (end_refused head part next h)
 
-ended_sane : (limit : ℕ) (stage : Stage) (head : RegHead) → Sane limit stage → ended stage ≡ Ok head → AreFormed limit head.tracks
-ended_sane limit (AtEnd end) head sane h = subst (λ (r : RegHead). AreFormed limit r.tracks) (ok_is (ended (AtEnd end)) end head refl h) sane
+ended_sane : (limit : ℕ) (stage : Stage) (head : RegHead) → Sane limit stage → ended stage ≡ Ok head → AreFormed limit head.alphabets
+ended_sane limit (AtEnd end) head sane h = subst (λ (r : RegHead). AreFormed limit r.alphabets) (ok_is (ended (AtEnd end)) end head refl h) sane
 ended_sane limit (AtNumber name sets members) head sane h = cc
 ended_sane limit (BehindNumber name sets members) head sane h = cc
 ended_sane limit AtWord head sane h = cc
@@ -130,7 +130,7 @@ ended_sane limit (BehindSet name sets) head sane h = cc
 ended_sane limit (BehindSystem name names) head sane h = cc
 
 -- the tracks of a head that was read are well formed
-pub run_sane : (limit whole : ℕ) (stage : Stage) (parts : List Part) (head : RegHead) → spent stage + length parts ≤ limit → Sane limit stage → run whole stage parts ≡ Ok head → AreFormed limit head.tracks
+pub run_sane : (limit whole : ℕ) (stage : Stage) (parts : List Part) (head : RegHead) → spent stage + length parts ≤ limit → Sane limit stage → run whole stage parts ≡ Ok head → AreFormed limit head.alphabets
 unfolding run
 run_sane limit whole stage [] head room sane h = ended_sane limit stage head sane (placed_ok whole (ended stage) head h)
 run_sane limit whole stage (part ∷ parts) head room sane h =

@@ -5,8 +5,8 @@ use Rattle.std.proofs.lemmas.List.{append-nil, append_assoc}
 use Rattle.command_head.specs.Numbers.{is_number, is_short, number_of}
 use Rattle.command_head.specs.Members.{has, put, with_member}
 use Rattle.command_head.specs.Parts.{is_name, is_system, is_quoted}
-use Rattle.command_head.specs.Heads.{Tracks, Sets, Systems, RegHead, AtWord, AtName, BehindName, AtNumber, BehindSet, BehindSystem, AtEnd, body_step, step}
-use Rattle.command_head.specs.Grammar.{SpellsNumber, SpellsMentions, SpellSets, SpellTracks, AreUnquoted, quoted, SpellsReg}
+use Rattle.command_head.specs.Heads.{Alphabets, Sets, Systems, RegHead, AtWord, AtName, BehindName, AtNumber, BehindSet, BehindSystem, AtEnd, body_step, step}
+use Rattle.command_head.specs.Grammar.{SpellsNumber, SpellsMentions, SpellSets, SpellAlphabets, AreUnquoted, quoted, SpellsReg}
 use Rattle.command_head.proofs.PartShape.{quoted_is, quoted-system, system-brace}
 use Rattle.command_head.proofs.Gathering.{Gathers, set_gathered}
 use Rattle.command_head.proofs.Walks.{goes, goes_step}
@@ -46,10 +46,10 @@ mentions_read (n ∷ m ∷ ns) name sets members out inside parts spelled gather
     ∙ mentions_read (m ∷ ns) name sets (put members n) out spelled.1 parts spelled.4 gathers.1
 
 -- the text in quotes
-body_read : (name : List ℕ) (tracks : Tracks) (body : List ℕ) → AreUnquoted body → body_step name tracks (quoted body) ≡ Ok (AtEnd (record { name = name; tracks = tracks; body = body }))
+body_read : (name : List ℕ) (alphabets : Alphabets) (body : List ℕ) → AreUnquoted body → body_step name alphabets (quoted body) ≡ Ok (AtEnd (record { name = name; alphabets = alphabets; body = body }))
 unfolding body_step
-body_read name tracks body all = let q = quoted_is body all in
-    taken (is_quoted (quoted body)) _ _ q.test ∙ ap (λ (l : List ℕ). Ok (AtEnd (record { name = name; tracks = tracks; body = l }))) q.inside
+body_read name alphabets body all = let q = quoted_is body all in
+    taken (is_quoted (quoted body)) _ _ q.test ∙ ap (λ (l : List ℕ). Ok (AtEnd (record { name = name; alphabets = alphabets; body = l }))) q.inside
   where
     taken : {A : Type 0} (a : Bool) (x y : A) → a ≡ true → cond a x y ≡ x
     taken a x y h = rw h refl
@@ -74,11 +74,11 @@ regrouped first others parts inside first_is =
     ∙ ap (λ (l : List (List ℕ)). codes "{" ∷ l) (append_assoc inside (codes "}" ∷ []) (others ++ parts))
 
 sets_read : (more : List (List ℤ)) (name : List ℕ) (sets : List (List ℤ)) (parts : List (List ℕ)) (body : List ℕ) → SpellSets parts more → AreUnquoted body →
-    goes (BehindSet name sets) (parts ++ quoted body ∷ []) ≡ Ok (record { name = name; tracks = Sets (sets ++ more); body = body })
+    goes (BehindSet name sets) (parts ++ quoted body ∷ []) ≡ Ok (record { name = name; alphabets = Sets (sets ++ more); body = body })
 sets_read [] name sets parts body spelled all =
     ap (λ (l : List (List ℕ)). goes (BehindSet name sets) (l ++ quoted body ∷ [])) spelled
     ∙ goes_step (BehindSet name sets) _ (quoted body) [] (set_closes name sets body ∙ body_read name (Sets sets) body all)
-    ∙ ap (λ (l : List (List ℤ)). Ok (record { name = name; tracks = Sets l; body = body })) (sym (append-nil sets))
+    ∙ ap (λ (l : List (List ℤ)). Ok (record { name = name; alphabets = Sets l; body = body })) (sym (append-nil sets))
 sets_read (set ∷ more) name sets parts body spelled all =
     let s = spelled.3 in
     ap (λ (l : List (List ℕ)). goes (BehindSet name sets) (l ++ quoted body ∷ [])) spelled.2
@@ -86,7 +86,7 @@ sets_read (set ∷ more) name sets parts body spelled all =
     ∙ set_opens name sets (s.inside ++ codes "}" ∷ (spelled.1 ++ quoted body ∷ []))
     ∙ mentions_read s.mentions name sets [] set s.inside (spelled.1 ++ quoted body ∷ []) s.spelled (set_gathered s.mentions set s.members)
     ∙ sets_read more name (sets ++ set ∷ []) spelled.1 body spelled.4 all
-    ∙ ap (λ (l : List (List ℤ)). Ok (record { name = name; tracks = Sets l; body = body })) (append_assoc sets (set ∷ []) more)
+    ∙ ap (λ (l : List (List ℤ)). Ok (record { name = name; alphabets = Sets l; body = body })) (append_assoc sets (set ∷ []) more)
 
 system_more : (name : List ℕ) (names : List (List ℕ)) (part : List ℕ) → is_system part ≡ true → step (BehindSystem name names) part ≡ Ok (BehindSystem name (names ++ part ∷ []))
 unfolding step
@@ -110,19 +110,19 @@ systems_close name names body = passed (is_system (quoted body)) _ _ (quoted-sys
     passed a x y h = rw h refl
 
 systems_read : (more : List (List ℕ)) (name : List ℕ) (names : List (List ℕ)) (body : List ℕ) → AllByRecursion (λ n. is_system n ≡ true) more → AreUnquoted body →
-    goes (BehindSystem name names) (more ++ quoted body ∷ []) ≡ Ok (record { name = name; tracks = Systems (names ++ more); body = body })
+    goes (BehindSystem name names) (more ++ quoted body ∷ []) ≡ Ok (record { name = name; alphabets = Systems (names ++ more); body = body })
 systems_read [] name names body systems all =
     goes_step (BehindSystem name names) _ (quoted body) [] (systems_close name names body ∙ body_read name (Systems names) body all)
-    ∙ ap (λ (l : List (List ℕ)). Ok (record { name = name; tracks = Systems l; body = body })) (sym (append-nil names))
+    ∙ ap (λ (l : List (List ℕ)). Ok (record { name = name; alphabets = Systems l; body = body })) (sym (append-nil names))
 systems_read (part ∷ more) name names body systems all =
     goes_step (BehindSystem name names) _ part (more ++ quoted body ∷ []) (system_more name names part systems.0)
     ∙ systems_read more name (names ++ part ∷ []) body systems.1 all
-    ∙ ap (λ (l : List (List ℕ)). Ok (record { name = name; tracks = Systems l; body = body })) (append_assoc names (part ∷ []) more)
+    ∙ ap (λ (l : List (List ℕ)). Ok (record { name = name; alphabets = Systems l; body = body })) (append_assoc names (part ∷ []) more)
 
-tracks_read : (name : List ℕ) (tracks : Tracks) (parts : List (List ℕ)) (body : List ℕ) → SpellTracks parts tracks → AreUnquoted body →
-    goes (BehindName name) (parts ++ quoted body ∷ []) ≡ Ok (record { name = name; tracks = tracks; body = body })
-tracks_read name (Sets []) parts body spelled all = absurd (spelled.0 refl)
-tracks_read name (Sets (set ∷ sets)) parts body spelled all =
+alphabets_read : (name : List ℕ) (alphabets : Alphabets) (parts : List (List ℕ)) (body : List ℕ) → SpellAlphabets parts alphabets → AreUnquoted body →
+    goes (BehindName name) (parts ++ quoted body ∷ []) ≡ Ok (record { name = name; alphabets = alphabets; body = body })
+alphabets_read name (Sets []) parts body spelled all = absurd (spelled.0 refl)
+alphabets_read name (Sets (set ∷ sets)) parts body spelled all =
     let sets_are = spelled.1 in
     let s = sets_are.3 in
     ap (λ (l : List (List ℕ)). goes (BehindName name) (l ++ quoted body ∷ [])) sets_are.2
@@ -130,8 +130,8 @@ tracks_read name (Sets (set ∷ sets)) parts body spelled all =
     ∙ first_set_opens name (s.inside ++ codes "}" ∷ (sets_are.1 ++ quoted body ∷ []))
     ∙ mentions_read s.mentions name [] [] set s.inside (sets_are.1 ++ quoted body ∷ []) s.spelled (set_gathered s.mentions set s.members)
     ∙ sets_read sets name (set ∷ []) sets_are.1 body sets_are.4 all
-tracks_read name (Systems []) parts body spelled all = absurd (spelled.0 refl)
-tracks_read name (Systems (first ∷ more)) parts body spelled all =
+alphabets_read name (Systems []) parts body spelled all = absurd (spelled.0 refl)
+alphabets_read name (Systems (first ∷ more)) parts body spelled all =
     ap (λ (l : List (List ℕ)). goes (BehindName name) (l ++ quoted body ∷ [])) spelled.1
     ∙ goes_step (BehindName name) _ first (more ++ quoted body ∷ []) (first_system name first spelled.2.0)
     ∙ systems_read more name (first ∷ []) body spelled.2.1 all
@@ -151,6 +151,6 @@ name_read name h = taken (is_name name) _ _ h
 pub reg_goes : (parts : List (List ℕ)) (head : RegHead) → SpellsReg parts head → goes AtWord parts ≡ Ok head
 reg_goes parts head s =
     ap (goes AtWord) s.parts_are
-    ∙ word_read (head.name ∷ (s.tracks ++ quoted head.body ∷ []))
-    ∙ goes_step AtName _ head.name (s.tracks ++ quoted head.body ∷ []) (name_read head.name s.name)
-    ∙ tracks_read head.name head.tracks s.tracks head.body s.spelled s.body
+    ∙ word_read (head.name ∷ (s.alphabets ++ quoted head.body ∷ []))
+    ∙ goes_step AtName _ head.name (s.alphabets ++ quoted head.body ∷ []) (name_read head.name s.name)
+    ∙ alphabets_read head.name head.alphabets s.alphabets head.body s.spelled s.body

@@ -1,10 +1,11 @@
--- Where a text first breaks the grammar, by its parts.
-use Rattle.std.specs.Prelude.{◌≡◌, ℕ, ◌<◌, ◌^◌, true, false, List, [], ◌∷◌, ◌++◌, length, take, map, slice_index_or, ◌↔◌, Err}
+-- Where a text first breaks a grammar of heads, by its parts.
+use Rattle.std.specs.Prelude.{◌≡◌, ◌≢◌, ℕ, ◌<◌, ◌^◌, true, false, List, [], ◌∷◌, ◌++◌, length, take, map, slice_index_or, ◌↔◌, Result, Ok, Err, ⊤}
 use Rattle.text_grammar.specs.Faults.{Begins, BreaksAt}
-use Rattle.command_head.specs.declared.fault.HeadFault.TheVariants.{Syntax, Number}
+use Rattle.command_head.specs.declared.fault.HeadFault.{HeadFault}
+use Rattle.command_head.specs.declared.fault.HeadFault.TheVariants.{Syntax, Number, Memory}
 use Rattle.command_head.specs.Numbers.{is_number, number_of, is_short}
 use Rattle.command_head.specs.Parts.{Part, parts_of, texts_of}
-use Rattle.command_head.specs.Heads.{RegHead, reg_at}
+use Rattle.command_head.specs.Heads.{reg_at}
 use Rattle.command_head.specs.Grammar.{SpellsReg}
 
 -- the byte at which a part of a text begins, the parts counted from 0; behind the last it is the text's length
@@ -12,7 +13,7 @@ abbrev pub place_of : List ℕ → ℕ → ℕ
 place_of text count = slice_index_or (map (λ (p : Part). p.at) (parts_of text)) count (length text)
 
 -- At this part a number stands that does not fit 32 bits, signed, and behind the parts before it another number goes on.
-pub record ExceedsAt (grammar : List (List ℕ) → RegHead → Type 0) (parts : List (List ℕ)) (count : ℕ) : Type 0 where
+pub record ExceedsAt {H : Type 0} (grammar : List (List ℕ) → H → Type 0) (parts : List (List ℕ)) (count : ℕ) : Type 0 where
   pub within : count < length parts
   pub number : is_number (slice_index_or parts count []) ≡ true
   pub long : is_short (number_of (slice_index_or parts count [])) ≡ false
@@ -20,23 +21,35 @@ pub record ExceedsAt (grammar : List (List ℕ) → RegHead → Type 0) (parts :
   pub other_number : is_number other ≡ true
   pub allowed : Begins grammar (take count parts ++ other ∷ [])
 
--- The first part with which no head of a `reg` goes on begins at this byte. Where all parts of the text begin a head and are
+-- The first part with which no head of the grammar goes on begins at this byte. Where all parts of the text begin a head and are
 -- none, the byte is the text's length.
-pub record BreaksIn (text : List ℕ) (at : ℕ) : Type 0 where
+pub record BreaksIn {H : Type 0} (grammar : List (List ℕ) → H → Type 0) (text : List ℕ) (at : ℕ) : Type 0 where
   pub count : ℕ
-  pub breaks : BreaksAt SpellsReg (texts_of (parts_of text)) count
+  pub breaks : BreaksAt grammar (texts_of (parts_of text)) count
   pub place : place_of text count ≡ at
 
 -- The text breaks the grammar at this byte, and not by a number that does not fit.
-pub record IsSyntaxAt (text : List ℕ) (at : ℕ) : Type 0 where
-  pub first : BreaksIn text at
-  pub form : ExceedsAt SpellsReg (texts_of (parts_of text)) first.count → ⊥
+pub record IsSyntaxAt {H : Type 0} (grammar : List (List ℕ) → H → Type 0) (text : List ℕ) (at : ℕ) : Type 0 where
+  pub first : BreaksIn grammar text at
+  pub form : ExceedsAt grammar (texts_of (parts_of text)) first.count → ⊥
 
 -- The text breaks the grammar at this byte by a number that does not fit.
-pub record IsNumberAt (text : List ℕ) (at : ℕ) : Type 0 where
-  pub first : BreaksIn text at
-  pub exceeds : ExceedsAt SpellsReg (texts_of (parts_of text)) first.count
+pub record IsNumberAt {H : Type 0} (grammar : List (List ℕ) → H → Type 0) (text : List ℕ) (at : ℕ) : Type 0 where
+  pub first : BreaksIn grammar text at
+  pub exceeds : ExceedsAt grammar (texts_of (parts_of text)) first.count
+
+-- what a text has by a grammar of heads: a head, seen by view, that its parts spell, or where they first break the grammar
+abbrev pub HasHead : {X H : Type 0} → (List (List ℕ) → H → Type 0) → (X → H) → List ℕ → Result X HeadFault → Type 0
+HasHead grammar view text (Ok head) = grammar (texts_of (parts_of text)) (view head)
+HasHead grammar view text (Err (Syntax at)) = IsSyntaxAt grammar text at
+HasHead grammar view text (Err (Number at)) = IsNumberAt grammar text at
+HasHead grammar view text (Err Memory) = ⊤
+
+-- a text has one head or one fault by a grammar, beside want of memory
+abbrev pub HasOneHead : {H : Type 0} → (List (List ℕ) → H → Type 0) → Type 0
+HasOneHead {H} grammar = (text : List ℕ) (result other : Result H HeadFault) → HasHead grammar (λ head. head) text result → HasHead grammar (λ head. head) text other
+    → result ≢ Err Memory → other ≢ Err Memory → result ≡ other
 
 -- the fault that is read of a text shorter than 2 ^ 32 bytes is where its parts first break the grammar, and no other
 abbrev pub BreaksGrammar : Type 0
-BreaksGrammar = (text : List ℕ) (at : ℕ) → length text < 2 ^ 32 → ((reg_at text ≡ Err (Syntax at)) ↔ IsSyntaxAt text at) × ((reg_at text ≡ Err (Number at)) ↔ IsNumberAt text at)
+BreaksGrammar = (text : List ℕ) (at : ℕ) → length text < 2 ^ 32 → ((reg_at text ≡ Err (Syntax at)) ↔ IsSyntaxAt SpellsReg text at) × ((reg_at text ≡ Err (Number at)) ↔ IsNumberAt SpellsReg text at)

@@ -4,7 +4,7 @@ use Rattle.std.specs.List.{AllByRecursion}
 use Rattle.digit_tuple.specs.Sets.{IsAscending}
 use Rattle.command_head.specs.Numbers.{is_short}
 use Rattle.command_head.specs.Parts.{is_system}
-use Rattle.command_head.specs.Heads.{Tracks, Sets, Systems}
+use Rattle.command_head.specs.Heads.{Alphabets, Sets, Systems}
 
 -- numbers of 32 bits, signed, in ascending order, one at least, and fewer than a limit
 pub record IsSmallSet (limit : ℕ) (set : List ℤ) : Type 0 where
@@ -19,6 +19,6 @@ pub record IsSystemName (name : List ℕ) : Type 0 where
   pub ascii : IsAscii name
 
 -- one track at least, each over such a set, or each over a system
-abbrev pub AreFormed : ℕ → Tracks → Type 0
+abbrev pub AreFormed : ℕ → Alphabets → Type 0
 AreFormed limit (Sets sets) = (0 < length sets) × AllByRecursion (IsSmallSet limit) sets
 AreFormed limit (Systems names) = (0 < length names) × AllByRecursion IsSystemName names

@@ -1,11 +1,11 @@
--- The grammar of a `reg`: which parts, one behind another, spell which head.
+-- The grammars of heads: which parts, one behind another, spell which head.
 use Rattle.std.specs.Prelude.{◌≡◌, ◌≢◌, ℕ, true, List, [], ◌∷◌, ◌++◌, ℤ, codes, ◌↔◌, Ok}
 use Rattle.std.specs.List.{AllByRecursion, AllPairs}
 use Rattle.digit_tuple.specs.Sets.{IsAscending}
 use Rattle.command_head.specs.Numbers.{is_number, number_of, is_short}
 use Rattle.command_head.specs.Members.{has}
 use Rattle.command_head.specs.Parts.{parts_of, texts_of, is_name, is_system}
-use Rattle.command_head.specs.Heads.{Tracks, Sets, Systems, RegHead, reg_at}
+use Rattle.command_head.specs.Heads.{Alphabets, Sets, Systems, RegHead, NamedHead, reg_at}
 
 -- a part spells a number of 32 bits, signed
 pub record SpellsNumber (part : List ℕ) (n : ℤ) : Type 0 where
@@ -39,9 +39,9 @@ SpellSets parts [] = parts ≡ []
 SpellSets parts (set ∷ sets) = (first : List (List ℕ)) × (others : List (List ℕ)) × (parts ≡ first ++ others) × SpellsSet first set × SpellSets others sets
 
 -- one or more sets, or one or more systems
-abbrev pub SpellTracks : List (List ℕ) → Tracks → Type 0
-SpellTracks parts (Sets sets) = (sets ≢ []) × SpellSets parts sets
-SpellTracks parts (Systems names) = (names ≢ []) × (parts ≡ names) × AllByRecursion (λ name. is_system name ≡ true) names
+abbrev pub SpellAlphabets : List (List ℕ) → Alphabets → Type 0
+SpellAlphabets parts (Sets sets) = (sets ≢ []) × SpellSets parts sets
+SpellAlphabets parts (Systems names) = (names ≢ []) × (parts ≡ names) × AllByRecursion (λ name. is_system name ≡ true) names
 
 -- any bytes but a quote
 abbrev pub AreUnquoted : List ℕ → Type 0
@@ -53,16 +53,22 @@ quoted body = 34 ∷ (body ++ 34 ∷ [])
 
 -- the word `reg`, the name, the sets or systems of the tracks, and a text in quotes
 pub record SpellsReg (parts : List (List ℕ)) (head : RegHead) : Type 0 where
-  pub tracks : List (List ℕ)
-  pub parts_are : parts ≡ codes "reg" ∷ head.name ∷ (tracks ++ quoted head.body ∷ [])
+  pub alphabets : List (List ℕ)
+  pub parts_are : parts ≡ codes "reg" ∷ head.name ∷ (alphabets ++ quoted head.body ∷ [])
   pub name : is_name head.name ≡ true
-  pub spelled : SpellTracks tracks head.tracks
+  pub spelled : SpellAlphabets alphabets head.alphabets
+  pub body : AreUnquoted head.body
+
+-- a word, a name, and a text in quotes
+pub record SpellsNamed (word : List ℕ) (parts : List (List ℕ)) (head : NamedHead) : Type 0 where
+  pub parts_are : parts ≡ word ∷ head.name ∷ quoted head.body ∷ []
+  pub name : is_name head.name ≡ true
   pub body : AreUnquoted head.body
 
 -- what is read of a text is what its parts spell
 abbrev pub ReadsGrammar : Type 0
 ReadsGrammar = (text : List ℕ) (head : RegHead) → (reg_at text ≡ Ok head) ↔ SpellsReg (texts_of (parts_of text)) head
 
--- The parts that spell a head are those of a text. So a law of parts is a law of texts.
-abbrev pub PartsOfTexts : Type 0
-PartsOfTexts = (parts : List (List ℕ)) (head : RegHead) → SpellsReg parts head → (text : List ℕ) × (texts_of (parts_of text) ≡ parts)
+-- The parts that spell a head of a grammar are those of a text. So a law of parts is a law of texts.
+abbrev pub ArePartsOfTexts : {H : Type 0} → (List (List ℕ) → H → Type 0) → Type 0
+ArePartsOfTexts {H} grammar = (parts : List (List ℕ)) (head : H) → grammar parts head → (text : List ℕ) × (texts_of (parts_of text) ≡ parts)

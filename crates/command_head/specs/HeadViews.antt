@@ -2,17 +2,21 @@
 use Rattle.command_head.specs.declared.head.Alphabets.{Alphabets}
 use Rattle.command_head.specs.declared.head.Alphabets.TheVariants as alphabets
 use Rattle.command_head.specs.declared.head.RegParts.{RegParts}
+use Rattle.command_head.specs.declared.head.NamedParts.{NamedParts}
 use Rattle.command_head.specs.declared.stage.Stage.{Stage}
 use Rattle.command_head.specs.declared.stage.Stage.TheVariants as stages
 use Rattle.command_head.specs.Heads as heads
-use Rattle.command_head.specs.Heads.{RegHead, Tracks, Sets, Systems}
+use Rattle.command_head.specs.Heads.{RegHead, NamedHead, Sets, Systems}
 
-abbrev pub tracks_of : Alphabets → Tracks
-tracks_of (alphabets.Sets sets) = Sets sets
-tracks_of (alphabets.Systems names) = Systems names.items
+abbrev pub alphabets_of : Alphabets → heads.Alphabets
+alphabets_of (alphabets.Sets sets) = Sets sets
+alphabets_of (alphabets.Systems names) = Systems names.items
 
 abbrev pub head_view : RegParts → RegHead
-head_view parts = record { name = parts.name; tracks = tracks_of parts.alphabets; body = parts.body.now }
+head_view parts = record { name = parts.name; alphabets = alphabets_of parts.alphabets; body = parts.body.now }
+
+abbrev pub named_view : NamedParts → NamedHead
+named_view parts = record { name = parts.name; body = parts.body.now }
 
 abbrev pub stage_view : Stage → heads.Stage
 stage_view stages.AtWord = heads.AtWord

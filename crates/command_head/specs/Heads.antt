@@ -7,14 +7,19 @@ use Rattle.command_head.specs.Members.{with_member}
 use Rattle.command_head.specs.Parts.{Part, parts_of, is_name, is_system, is_quoted, unquoted}
 
 -- what the tracks of a `reg` are over: a set each, or a system each
-pub data Tracks : Type 0 where
-  Sets : List (List ℤ) → Tracks
-  Systems : List (List ℕ) → Tracks
+pub data Alphabets : Type 0 where
+  Sets : List (List ℤ) → Alphabets
+  Systems : List (List ℕ) → Alphabets
 
 -- the parts of a `reg`: the name, the tracks, and the text in quotes
 pub record RegHead : Type 0 where
   pub name : List ℕ
-  pub tracks : Tracks
+  pub alphabets : Alphabets
+  pub body : List ℕ
+
+-- the parts of a head that is a word, a name and a quoted text: the name, and the text in quotes
+pub record NamedHead : Type 0 where
+  pub name : List ℕ
   pub body : List ℕ
 
 -- What was read of a `reg`, by the place in it.
@@ -48,8 +53,8 @@ open_count (BehindSystem name names) = 0
 open_count (AtEnd head) = 0
 
 -- a text in quotes, which ends the head
-unfoldable pub body_step : List ℕ → Tracks → List ℕ → Result Stage Refusal
-body_step name tracks part = if is_quoted part then Ok (AtEnd (record { name = name; tracks = tracks; body = unquoted part })) else Err Form
+unfoldable pub body_step : List ℕ → Alphabets → List ℕ → Result Stage Refusal
+body_step name alphabets part = if is_quoted part then Ok (AtEnd (record { name = name; alphabets = alphabets; body = unquoted part })) else Err Form
 
 -- the stage behind a part
 unfoldable pub step : Stage → List ℕ → Result Stage Refusal

@@ -10,6 +10,15 @@ pub enum Alphabets {
     Systems(Vec<Name>),
 }
 
+/// The parts of a head that is a word, a name and a quoted text.
+#[derive(Drop)]
+pub struct NamedParts<'a> {
+    /// The name.
+    pub name: Name,
+    /// What stands in the quotes.
+    pub body: &'a [u8],
+}
+
 /// The parts of a `reg`.
 #[derive(Drop)]
 pub struct RegParts<'a> {

@@ -2,7 +2,7 @@ ghost use Rattle.std.specs.Prelude.{◌≡◌, ◌<◌, ◌^◌, length, IfOk};
 ghost use Rattle.command_head.specs.Readings.{Reads};
 ghost use Rattle.command_head.specs.Parts.{first_word_of};
 ghost use Rattle.command_head.specs.Heads.{reg_at};
-ghost use Rattle.command_head.specs.HeadViews.{tracks_of, head_view};
+ghost use Rattle.command_head.specs.HeadViews.{alphabets_of, head_view};
 ghost use Rattle.command_head.specs.Formed.{AreFormed};
 
 use crate::bytes::{behind_blanks, place};
@@ -31,7 +31,7 @@ pub fn reg_parts(alloc: Global, text: &[u8]) -> Result<RegParts<'_>, HeadFault>
     ensures read { Reads head_view result (reg_at text.now) }
     // There is a track at least. Each set has a member at least, and fewer than the text has bytes, in ascending
     // order; each system has a name of ASCII letters and digits behind `msd_` or `lsd_`.
-    ensures formed { IfOk result (λ parts. AreFormed (length text.now) (tracks_of parts.alphabets)) }
+    ensures formed { IfOk result (λ parts. AreFormed (length text.now) (alphabets_of parts.alphabets)) }
 {
     let whole = text.len();
     let (word, behind) = text.split_at(front_len(Class::Word, text));

@@ -1,6 +1,8 @@
-//! Laws of the grammar.
-ghost use Rattle.command_head.specs.Grammar.{ReadsGrammar, PartsOfTexts};
-ghost use Rattle.command_head.specs.Breaks.{BreaksGrammar};
+//! Laws of the grammars.
+ghost use Rattle.std.specs.Prelude.{◌≡◌, ℕ, List, true};
+ghost use Rattle.command_head.specs.Parts.{is_name};
+ghost use Rattle.command_head.specs.Grammar.{ReadsGrammar, SpellsReg, SpellsNamed, ArePartsOfTexts};
+ghost use Rattle.command_head.specs.Breaks.{BreaksGrammar, HasOneHead};
 
 /// Reading a text gives the parts of a `reg` exactly where the grammar spells these parts so.
 pub fn reads_grammar()
@@ -14,7 +16,14 @@ pub fn breaks_the_grammar()
     ensures { BreaksGrammar }
 {}
 
-/// Parts that the grammar takes are the parts of some text, so that what is said of parts is said of texts.
+/// A text has one head or one fault by a grammar, beside want of memory.
+pub fn one_head()
+    ensures reg { HasOneHead SpellsReg }
+    ensures named { (word : List ℕ) → HasOneHead (SpellsNamed word) }
+{}
+
+/// Parts that a grammar takes are the parts of some text, so that what is said of parts is said of texts.
 pub fn parts_are_of_texts()
-    ensures { PartsOfTexts }
+    ensures reg { ArePartsOfTexts SpellsReg }
+    ensures named { (word : List ℕ) → is_name word ≡ true → ArePartsOfTexts (SpellsNamed word) }
 {}

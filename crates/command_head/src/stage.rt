@@ -9,7 +9,7 @@ ghost use Rattle.command_head.specs.Members.{with_member};
 ghost use Rattle.command_head.specs.Parts.{is_name as is_name_part, is_system as is_system_part};
 ghost use Rattle.command_head.specs.Heads as heads;
 ghost use Rattle.command_head.specs.Heads.{step as step_of, body_step, ended, open_count};
-ghost use Rattle.command_head.specs.HeadViews.{tracks_of, head_view, stage_view};
+ghost use Rattle.command_head.specs.HeadViews.{alphabets_of, head_view, stage_view};
 
 use crate::fault::HeadFault;
 use crate::head::{Alphabets, RegParts};
@@ -52,7 +52,7 @@ pub(crate) enum Stage<'a> {
 }
 
 /// A name of ASCII bytes.
-fn name_of(alloc: Global, bytes: &[u8]) -> Result<Name, HeadFault>
+pub(crate) fn name_of(alloc: Global, bytes: &[u8]) -> Result<Name, HeadFault>
     requires { IsAscii bytes.now }
     ensures { MatchResult result (λ name. name ≡ bytes.now) (λ fault. fault ≡ Memory) }
 {
@@ -209,7 +209,7 @@ fn at_body<'a>(
     alphabets: Alphabets,
     part: &'a [u8],
 ) -> Result<Stage<'a>, HeadFault>
-    ensures { Reads stage_view result (placed at (body_step name (tracks_of alphabets) part.now)) }
+    ensures { Reads stage_view result (placed at (body_step name (alphabets_of alphabets) part.now)) }
 {
     if !is_quoted(part) {
         return Err(HeadFault::Syntax(at));

@@ -2,7 +2,7 @@
 use Rattle.std.proofs.Common.{◌≡◌, ◌⊎◌, ℕ, zero, suc, ◌+◌, ◌<◌, ◌≤◌, List, [], ◌∷◌, ◌++◌, length, map, take, get_or, inl, inr, refl, sym, ap, ◌∙◌, subst, arith}
 use Rattle.std.specs.List.{All, AllByRecursion}
 use Rattle.std.proofs.lemmas.Bool.{cases_lt}
-use Rattle.std.proofs.lemmas.List.{get_or_append_left, get_or_push, get_or-map, length-append, length-map, map-append}
+use Rattle.std.proofs.lemmas.List.{get_or_append_left, get_or_push, get_or-map, length-append}
 use Rattle.digit_tuple.specs.Deterministic.{Automaton}
 use Rattle.digit_tuple.specs.declared.direction.Direction.{Direction}
 use Rattle.digit_tuple.specs.declared.systems.SystemTrack.{SystemTrack}
@@ -16,15 +16,16 @@ use Rattle.base_k.specs.declared.base_k.BaseK.{BaseK}
 use Rattle.base_k.specs.Positional.{base}
 use Rattle.base_k.specs.BaseLaws.{base_is_system}
 use Rattle.reg_steps.specs.Relations.{IsSystemLanguage, AreSystemLanguages}
-use Rattle.system_names.specs.Names.{base_name, IsBase, IsBuiltInName}
-use Rattle.session_cli.specs.Tracks.{NamedSystem, names_of, systems_of, track_of, header_tracks}
-use Rattle.session_cli.specs.Named.{Custom, IsSystemNamed, IsOf, IsKnown, AreNamed, IsFirstWithout, PartInDirection}
+use Rattle.system_names.specs.Names.{IsBase, IsBuiltInName}
+use Rattle.session_cli.specs.Tracks.{names_of, systems_of, track_of, header_tracks}
+use Rattle.session_cli.specs.Named.{Custom, IsSystemNamed, IsOf, IsKnown, AreNamed, AreSystemsOf, IsFirstWithout, PartInDirection}
 use Rattle.command_head.specs.Heads as heads
+use Rattle.session_cli.specs.declared.bases.Bases.{Bases}
 use Rattle.session_cli.specs.declared.fault.Fault.{Fault}
 use Rattle.session_cli.specs.declared.fault.Fault.TheVariants as faults
 use Rattle.session_cli.specs.Checks.{Pure, Fails}
 use Rattle.session_cli.specs.RegOutcomes.{TracksAnswers}
-use Rattle.session_cli.specs.Bases.{name_of, named_of, named_in, IsIn, IsUnknown, IsFirstApart}
+use Rattle.session_cli.specs.Bases.{name_of, named_of, named_in, AreBasesOf, IsIn, IsUnknown, IsFirstApart}
 use Rattle.session_cli.proofs.NameLemmas.{one_direction, known_of, of_known, first_so}
 
 -- the bounds of a base
@@ -117,14 +118,18 @@ pub name_at : (systems : List BaseK) (place : ℕ) (s : BaseK) (d : List ℕ) �
 name_at systems place s d within is =
     ap (λ (ns : List (List ℕ)). get_or ns place d) (sym (names_in systems)) ∙ (get_or-map name_of systems place s d within ∙ ap name_of (sym is))
 
+-- bases are the systems that their names mean
+pub named_so : (custom : Custom) (b : Bases) (names : List (List ℕ)) → AreBasesOf names b → AreSystemsOf custom names b.direction (named_in b.systems.items)
+named_so custom b names (kept, are) = record { names_are = sym kept ∙ are.names_are; are = are.are custom; some = subst (λ (ns : List (List ℕ)). 0 < length ns) kept are.some }
+
 -- a name that is not known is so whatever users defined
 pub unknown_named : (custom : Custom) (names : List (List ℕ)) (fault : Fault) → IsUnknown names fault → Fails (Pure (TracksAnswers custom (heads.Systems names))) fault
 unknown_named custom names (faults.SystemUnknown name) first = first_so IsBuiltInName (IsKnown custom) names name (known_of custom) (of_known custom) first
 unknown_named custom names faults.Memory refused = tt
 unknown_named custom names faults.Command refused = absurd refused
-unknown_named custom names (faults.Syntax part at) refused = absurd refused
-unknown_named custom names (faults.Number part at) refused = absurd refused
-unknown_named custom names (faults.Depth part at) refused = absurd refused
+unknown_named custom names (faults.Syntax grammar at) refused = absurd refused
+unknown_named custom names (faults.Number grammar at) refused = absurd refused
+unknown_named custom names (faults.Depth grammar at) refused = absurd refused
 unknown_named custom names (faults.Long bytes) refused = absurd refused
 unknown_named custom names (faults.Direction first second) refused = absurd refused
 unknown_named custom names (faults.Letters step) refused = absurd refused

@@ -11,7 +11,7 @@ use Rattle.script_cut.specs.declared.cut.Cut.TheVariants as cuts
 use Rattle.script_cut.specs.declared.cut.CutFault.{CutFault}
 use Rattle.script_cut.specs.declared.cut.CutFault.TheVariants as cut_faults
 use Rattle.script_cut.proofs.AskingSteps.{consumes-none, consumes-then}
-use Rattle.session_cli.specs.declared.fault.Part.TheVariants as parts
+use Rattle.session_cli.specs.declared.fault.Grammar.TheVariants as grammars
 use Rattle.session_cli.specs.declared.fault.Fault.TheVariants as faults
 use Rattle.session_cli.specs.declared.tally.Tally.{Tally}
 use Rattle.session_cli.specs.declared.status.Status.{Status}
@@ -119,11 +119,11 @@ between_end limit true from to now kept next old mid held told tally state over 
 -- a text without terminator, or the limit of the script
 pub between_finishes : (limit : ℕ) (from to now : SourceView) (kept next : Kept) (line len : ℕ) (old mid : StoreView) (held told then : SinkView) (tally : Tally) (state : Status)
     → kept.over ≡ false → IsBetween limit from to kept old mid held told tally → HasCut kept to (Err (cut_faults.Syntax line len)) next now → now.faults ≡ to.faults
-    → Finishes told line (faults.Syntax parts.Command len) tally then state
+    → Finishes told line (faults.Syntax grammars.Command len) tally then state
     → HasRun limit from now old mid held then state
 between_finishes limit from to now kept next line len old mid held told then tally state begun b c source ends =
     between_ends limit from to now kept next (Err (cut_faults.Syntax line len)) old mid mid held told then tally state begun b c source
-    (λ gave more place behind stands (text, cut, len_is, short) source'. finishes limit gave more from now old mid held told then place behind tally (record { text = text; line = line; ended = Unterminated }) (faults.Syntax parts.Command len) state stands cut (at_end place text behind cut.before cut.cut) source'
+    (λ gave more place behind stands (text, cut, len_is, short) source'. finishes limit gave more from now old mid held told then place behind tally (record { text = text; line = line; ended = Unterminated }) (faults.Syntax grammars.Command len) state stands cut (at_end place text behind cut.before cut.cut) source'
     (λ ledger. open_step limit ledger mid text line len (omega arith) len_is) ends)
   where
     at_end : (place : Rest) (text : List ℕ) (behind : Rest) (before : List ℕ) → CutsOpen place before text behind → IsAtEnd behind

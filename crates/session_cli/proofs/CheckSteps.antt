@@ -1,12 +1,12 @@
 -- Checks one after another: they have one answer, and what refuses a check refuses all of them.
-use Rattle.std.proofs.Common.{◌≡◌, Bool, List, Result, Ok, Err, MatchResult, sym, ◌∙◌, subst, inl, inr}
+use Rattle.std.proofs.Common.{◌≡◌, Bool, Result, Ok, Err, subst, inl, inr}
 use Rattle.session_cli.specs.declared.fault.Fault.{Fault}
 use Rattle.session_cli.specs.declared.fault.Fault.TheVariants as faults
 use Rattle.session_cli.specs.declared.plan.Made.{Made}
 use Rattle.session_cli.specs.declared.plan.Plan.{Plan}
 use Rattle.session_cli.specs.Checks.{Check, Then, Fails}
 use Rattle.session_cli.specs.Accepting.{Success}
-use Rattle.session_cli.specs.Plans.{IsMade, Makes, IsPlan, Plans}
+use Rattle.session_cli.specs.Plans.{Makes, Plans}
 
 -- a check answers in one way at most
 abbrev pub IsSingle : {Y : Type 0} → Check Y → Type 0
@@ -39,9 +39,9 @@ pub fails_first : {Y Z : Type 0} (first : Check Y) (rest : Y → Check Z) (f : F
 fails_first first rest (faults.Store folder name) refused = inl refused
 fails_first first rest faults.Memory refused = tt
 fails_first first rest faults.Command refused = inl refused
-fails_first first rest (faults.Syntax part at) refused = inl refused
-fails_first first rest (faults.Number part at) refused = inl refused
-fails_first first rest (faults.Depth part at) refused = inl refused
+fails_first first rest (faults.Syntax grammar at) refused = inl refused
+fails_first first rest (faults.Number grammar at) refused = inl refused
+fails_first first rest (faults.Depth grammar at) refused = inl refused
 fails_first first rest (faults.Long bytes) refused = inl refused
 fails_first first rest (faults.SystemUnknown name) refused = inl refused
 fails_first first rest (faults.Direction one other) refused = inl refused
@@ -54,9 +54,9 @@ pub fails_after : {Y Z : Type 0} (first : Check Y) (rest : Y → Check Z) (y : Y
 fails_after first rest y (faults.Store folder name) passed refused = inr (y, passed, refused)
 fails_after first rest y faults.Memory passed refused = tt
 fails_after first rest y faults.Command passed refused = inr (y, passed, refused)
-fails_after first rest y (faults.Syntax part at) passed refused = inr (y, passed, refused)
-fails_after first rest y (faults.Number part at) passed refused = inr (y, passed, refused)
-fails_after first rest y (faults.Depth part at) passed refused = inr (y, passed, refused)
+fails_after first rest y (faults.Syntax grammar at) passed refused = inr (y, passed, refused)
+fails_after first rest y (faults.Number grammar at) passed refused = inr (y, passed, refused)
+fails_after first rest y (faults.Depth grammar at) passed refused = inr (y, passed, refused)
 fails_after first rest y (faults.Long bytes) passed refused = inr (y, passed, refused)
 fails_after first rest y (faults.SystemUnknown name) passed refused = inr (y, passed, refused)
 fails_after first rest y (faults.Direction one other) passed refused = inr (y, passed, refused)

@@ -1,5 +1,5 @@
 -- One command: from what its checks give and what the write did to its answer.
-use Rattle.std.proofs.Common.{◌≡◌, ℕ, Bool, false, List, [], Option, None, Some, Result, Ok, Err, refl, sym, ◌∙◌, ap, inl, inr, arith}
+use Rattle.std.proofs.Common.{◌≡◌, ℕ, Bool, false, List, [], Option, None, Some, Result, Ok, Err, refl, ◌∙◌, inl, inr, arith}
 use Rattle.std.specs.Option.{option_map}
 use Rattle.wal_outside.specs.Files.{Files, put}
 use Rattle.wal_outside.specs.Places.{Place}
@@ -9,7 +9,6 @@ use Rattle.session_cli.specs.declared.fault.Fault.TheVariants as faults
 use Rattle.session_cli.specs.declared.plan.Plan.{Plan}
 use Rattle.session_cli.specs.Checks.{Fails}
 use Rattle.session_cli.specs.Trees.{Ledger}
-use Rattle.session_cli.specs.Accepting.{Success, Answer}
 use Rattle.session_cli.specs.declared.command_word.CommandWord.{CommandWord}
 use Rattle.session_cli.specs.declared.command_word.CommandWord.TheVariants as words
 use Rattle.session_cli.specs.Outcomes.{checks_by, checks_of}
@@ -38,9 +37,9 @@ no_read limit ledger text place (inr (done, short, inr (word, is, read))) = by_w
 -- a fault that is not the store's leaves the file of the last call that failed
 kept_failed : (old : Option (Option Place)) (fault : Fault) → is_store_fault fault ≡ false → old ≡ failed_after old (Err fault)
 kept_failed old faults.Command other = refl
-kept_failed old (faults.Syntax part at) other = refl
-kept_failed old (faults.Number part at) other = refl
-kept_failed old (faults.Depth part at) other = refl
+kept_failed old (faults.Syntax grammar at) other = refl
+kept_failed old (faults.Number grammar at) other = refl
+kept_failed old (faults.Depth grammar at) other = refl
 kept_failed old (faults.Long bytes) other = refl
 kept_failed old (faults.SystemUnknown name) other = refl
 kept_failed old (faults.Direction first second) other = refl
@@ -68,9 +67,9 @@ refused_command limit ledger store text shown fault refused = record {
     answer_of : (f : Fault) → Fails (checks_of limit ledger text) f → IsAnswer (checks_of limit ledger text) (Err f) × (is_store_fault f ≡ false)
     answer_of faults.Memory refused = (tt, refl)
     answer_of faults.Command refused = (refused, refl)
-    answer_of (faults.Syntax part at) refused = (refused, refl)
-    answer_of (faults.Number part at) refused = (refused, refl)
-    answer_of (faults.Depth part at) refused = (refused, refl)
+    answer_of (faults.Syntax grammar at) refused = (refused, refl)
+    answer_of (faults.Number grammar at) refused = (refused, refl)
+    answer_of (faults.Depth grammar at) refused = (refused, refl)
     answer_of (faults.Long bytes) refused = (refused, refl)
     answer_of (faults.SystemUnknown name) refused = (refused, refl)
     answer_of (faults.Direction first other) refused = (refused, refl)
@@ -120,9 +119,9 @@ planned_command limit ledger old new text shown plan (Err faults.Memory) p wrote
   stored = record { files = wrote.files; later = wrote.later; cause = λ is. cc; failed = wrote.cause };
 }
 planned_command limit ledger old new text shown plan (Err faults.Command) p wrote = absurd wrote.cause
-planned_command limit ledger old new text shown plan (Err (faults.Syntax part at)) p wrote = absurd wrote.cause
-planned_command limit ledger old new text shown plan (Err (faults.Number part at)) p wrote = absurd wrote.cause
-planned_command limit ledger old new text shown plan (Err (faults.Depth part at)) p wrote = absurd wrote.cause
+planned_command limit ledger old new text shown plan (Err (faults.Syntax grammar at)) p wrote = absurd wrote.cause
+planned_command limit ledger old new text shown plan (Err (faults.Number grammar at)) p wrote = absurd wrote.cause
+planned_command limit ledger old new text shown plan (Err (faults.Depth grammar at)) p wrote = absurd wrote.cause
 planned_command limit ledger old new text shown plan (Err (faults.Long bytes)) p wrote = absurd wrote.cause
 planned_command limit ledger old new text shown plan (Err (faults.SystemUnknown of)) p wrote = absurd wrote.cause
 planned_command limit ledger old new text shown plan (Err (faults.Direction first other)) p wrote = absurd wrote.cause

@@ -1,6 +1,7 @@
 -- Lemmas, in reading order.
 pub mod StepLines
 pub mod CheckSteps
+pub mod WordSteps
 pub mod CommandSteps
 pub mod RunSteps
 pub mod Standing

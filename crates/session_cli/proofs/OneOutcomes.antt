@@ -1,5 +1,5 @@
 -- A command has one proper outcome.
-use Rattle.std.proofs.Common.{◌≡◌, ◌≢◌, ℕ, ◌<◌, ◌≤◌, ◌^◌, ◌⊎◌, List, [], ◌∷◌, ℤ, length, None, Result, Ok, Err, refl, sym, ap, ◌∙◌, subst, inl, inr, arith}
+use Rattle.std.proofs.Common.{◌≡◌, ◌≢◌, ℕ, ◌<◌, ◌≤◌, ◌⊎◌, List, ℤ, length, None, Result, Ok, Err, refl, sym, ap, ◌∙◌, inl, inr, arith}
 use Rattle.wal_outside.specs.declared.folder.Folder.TheVariants.{Automata, Bases}
 use Rattle.digit_tuple.specs.declared.direction.Direction.{Direction}
 use Rattle.digit_tuple.specs.declared.steps.StepLine.{StepLine}
@@ -18,19 +18,19 @@ use Rattle.regex_build.specs.Expression.{Expression}
 use Rattle.regex_build.specs.Patterns.{Pattern}
 use Rattle.regex_build.specs.Parsing.{Parses}
 use Rattle.regex_build.proofs.OneParse.{one_parse}
-use Rattle.session_cli.specs.declared.fault.Part.TheVariants as parts
+use Rattle.session_cli.specs.declared.fault.Grammar.TheVariants as grammars
 use Rattle.session_cli.specs.declared.fault.Fault.{Fault}
 use Rattle.session_cli.specs.declared.fault.Fault.TheVariants as faults
 use Rattle.session_cli.specs.declared.command_word.CommandWord.{CommandWord}
 use Rattle.session_cli.specs.declared.command_word.CommandWord.TheVariants as words
-use Rattle.session_cli.specs.Checks.{Check, Pure, Then}
+use Rattle.session_cli.specs.Checks.{Check, Pure}
 use Rattle.session_cli.specs.Trees.{File, Regex, Entry, Bytes, Defined, Ledger}
 use Rattle.session_cli.specs.Texts.{HasText}
 use Rattle.session_cli.specs.Tracks.{NamedSystem, Tracks, OverSets, OverSystems, letter_sets}
 use Rattle.session_cli.specs.Named.{Custom, IsKnown, AreTracksOf}
 use Rattle.session_cli.specs.Accepting.{Success, Answer, StoredAnswers, stored}
 use Rattle.session_cli.specs.RegOutcomes.{HeadAnswers, TracksAnswers, ParsedAnswers, StepsAnswers, after_expression, after_tracks, after_head, reg_checks}
-use Rattle.session_cli.specs.Outcomes.{IsShort, LengthAnswers, WordAnswers, word_text, checks_by, after_length, checks_of, Outcome}
+use Rattle.session_cli.specs.Outcomes.{IsShort, LengthAnswers, WordAnswers, word_text, checks_by, after_length, Outcome}
 use Rattle.session_cli.proofs.CheckSteps.{IsSingle, then_single}
 use Rattle.session_cli.proofs.TrackWidths.{one_track_text, one_lines, done_not_letters, done_not_states, letters_not_states, one_excess}
 use Rattle.session_cli.proofs.NameLemmas.{one_first, no_first, one_list_of_systems, not_unknown, not_parted, same_part}
@@ -50,9 +50,9 @@ stored_is : (made : Success) (text : List ℕ) → HasText made.entry text → (
 stored_is made text has (Ok success) (is, (other, has', fits)) = inl (rw (one_text made.entry text other has has') fits, ap (λ (s : Success). let a : Answer = Ok s in a) is)
 stored_is made text has (Err (faults.Long bytes)) (is, (other, has', long)) = inr (rw (one_text made.entry text other has has') long, ap (λ (n : ℕ). let a : Answer = Err (faults.Long n) in a) is)
 stored_is made text has (Err faults.Command) a = absurd a
-stored_is made text has (Err (faults.Syntax part at)) a = absurd a
-stored_is made text has (Err (faults.Number part at)) a = absurd a
-stored_is made text has (Err (faults.Depth part at)) a = absurd a
+stored_is made text has (Err (faults.Syntax grammar at)) a = absurd a
+stored_is made text has (Err (faults.Number grammar at)) a = absurd a
+stored_is made text has (Err (faults.Depth grammar at)) a = absurd a
 stored_is made text has (Err (faults.SystemUnknown name)) a = absurd a
 stored_is made text has (Err (faults.Direction first other)) a = absurd a
 stored_is made text has (Err (faults.Letters step)) a = absurd a
@@ -65,9 +65,9 @@ some_text : (made : Success) (r : Answer) → StoredAnswers made r → (text : L
 some_text made (Ok success) (is, (text, has, fits)) = (text, has)
 some_text made (Err (faults.Long bytes)) (is, (text, has, long)) = (text, has)
 some_text made (Err faults.Command) a = absurd a
-some_text made (Err (faults.Syntax part at)) a = absurd a
-some_text made (Err (faults.Number part at)) a = absurd a
-some_text made (Err (faults.Depth part at)) a = absurd a
+some_text made (Err (faults.Syntax grammar at)) a = absurd a
+some_text made (Err (faults.Number grammar at)) a = absurd a
+some_text made (Err (faults.Depth grammar at)) a = absurd a
 some_text made (Err (faults.SystemUnknown name)) a = absurd a
 some_text made (Err (faults.Direction first other)) a = absurd a
 some_text made (Err (faults.Letters step)) a = absurd a
@@ -95,9 +95,9 @@ steps_is limit tracks e (Ok lines) a = inl (lines, a, refl)
 steps_is limit tracks e (Err (faults.Letters step)) (is, passes) = inr (inl ((refl, passes), ap (λ (n : ℕ). let x : Result (List StepLine) Fault = Err (faults.Letters n) in x) is))
 steps_is limit tracks e (Err (faults.States step)) a = inr (inr (step, a, refl))
 steps_is limit tracks e (Err faults.Command) a = absurd a
-steps_is limit tracks e (Err (faults.Syntax part at)) a = absurd a
-steps_is limit tracks e (Err (faults.Number part at)) a = absurd a
-steps_is limit tracks e (Err (faults.Depth part at)) a = absurd a
+steps_is limit tracks e (Err (faults.Syntax grammar at)) a = absurd a
+steps_is limit tracks e (Err (faults.Number grammar at)) a = absurd a
+steps_is limit tracks e (Err (faults.Depth grammar at)) a = absurd a
 steps_is limit tracks e (Err (faults.Long bytes)) a = absurd a
 steps_is limit tracks e (Err (faults.SystemUnknown name)) a = absurd a
 steps_is limit tracks e (Err (faults.Direction first other)) a = absurd a
@@ -123,9 +123,9 @@ steps_single limit tracks e r s a b = by_step (steps_is limit tracks e r a) (ste
 -- the fault of an expression
 abbrev of_parse : Result Pattern RegexFault → Result Pattern Fault
 of_parse (Ok pattern) = Ok pattern
-of_parse (Err (regexes.Syntax at)) = Err (faults.Syntax parts.Regex at)
-of_parse (Err (regexes.Number at)) = Err (faults.Number parts.Regex at)
-of_parse (Err (regexes.Depth at)) = Err (faults.Depth parts.Regex at)
+of_parse (Err (regexes.Syntax at)) = Err (faults.Syntax grammars.Regex at)
+of_parse (Err (regexes.Number at)) = Err (faults.Number grammars.Regex at)
+of_parse (Err (regexes.Depth at)) = Err (faults.Depth grammars.Regex at)
 of_parse (Err regexes.Memory) = Err faults.Memory
 
 record IsParse (sets : List (List ℤ)) (body : List ℕ) (r : Result Pattern Fault) : Type 0 where
@@ -136,12 +136,12 @@ record IsParse (sets : List (List ℤ)) (body : List ℕ) (r : Result Pattern Fa
 
 parsed_is : (sets : List (List ℤ)) (body : List ℕ) (r : Result Pattern Fault) → ParsedAnswers sets body r → IsParse sets body r
 parsed_is sets body (Ok pattern) a = record { parse = Ok pattern; parses = a; some = λ is. cc; is = refl }
-parsed_is sets body (Err (faults.Syntax parts.Regex at)) a = record { parse = Err (regexes.Syntax at); parses = a; some = λ is. cc; is = refl }
-parsed_is sets body (Err (faults.Number parts.Regex at)) a = record { parse = Err (regexes.Number at); parses = a; some = λ is. cc; is = refl }
-parsed_is sets body (Err (faults.Depth parts.Regex at)) a = record { parse = Err (regexes.Depth at); parses = a; some = λ is. cc; is = refl }
-parsed_is sets body (Err (faults.Syntax parts.Command at)) a = absurd a
-parsed_is sets body (Err (faults.Number parts.Command at)) a = absurd a
-parsed_is sets body (Err (faults.Depth parts.Command at)) a = absurd a
+parsed_is sets body (Err (faults.Syntax grammars.Regex at)) a = record { parse = Err (regexes.Syntax at); parses = a; some = λ is. cc; is = refl }
+parsed_is sets body (Err (faults.Number grammars.Regex at)) a = record { parse = Err (regexes.Number at); parses = a; some = λ is. cc; is = refl }
+parsed_is sets body (Err (faults.Depth grammars.Regex at)) a = record { parse = Err (regexes.Depth at); parses = a; some = λ is. cc; is = refl }
+parsed_is sets body (Err (faults.Syntax grammars.Command at)) a = absurd a
+parsed_is sets body (Err (faults.Number grammars.Command at)) a = absurd a
+parsed_is sets body (Err (faults.Depth grammars.Command at)) a = absurd a
 parsed_is sets body (Err faults.Command) a = absurd a
 parsed_is sets body (Err (faults.Long bytes)) a = absurd a
 parsed_is sets body (Err (faults.SystemUnknown name)) a = absurd a
@@ -170,9 +170,9 @@ names_is custom names (Ok (OverSystems way named)) a = inl (way, named, a, refl)
 names_is custom names (Err (faults.SystemUnknown name)) a = inr (inl (name, a, refl))
 names_is custom names (Err (faults.Direction first other)) a = inr (inr (first, other, a, refl))
 names_is custom names (Err faults.Command) a = absurd a
-names_is custom names (Err (faults.Syntax part at)) a = absurd a
-names_is custom names (Err (faults.Number part at)) a = absurd a
-names_is custom names (Err (faults.Depth part at)) a = absurd a
+names_is custom names (Err (faults.Syntax grammar at)) a = absurd a
+names_is custom names (Err (faults.Number grammar at)) a = absurd a
+names_is custom names (Err (faults.Depth grammar at)) a = absurd a
 names_is custom names (Err (faults.Long bytes)) a = absurd a
 names_is custom names (Err (faults.Letters step)) a = absurd a
 names_is custom names (Err (faults.States step)) a = absurd a
@@ -197,16 +197,16 @@ by_names custom names r s (inr (inr (x, y, part, is))) (inr (inr (x', y', part',
     is ∙ ((λ i. let z : Result Tracks Fault = Err (faults.Direction (same.0 i) (same.1 i)) in z) ∙ sym is')
 
 -- the tracks that a head means, or why it means none
-tracks_single : (custom : Custom) (of_head : heads.Tracks) → IsSingle (Pure (TracksAnswers custom of_head))
+tracks_single : (custom : Custom) (of_head : heads.Alphabets) → IsSingle (Pure (TracksAnswers custom of_head))
 tracks_single custom (heads.Sets sets) r s a b = single_by (Pure (TracksAnswers custom (heads.Sets sets))) (Ok (OverSets sets)) is r s a b
   where
     is : (r : Result Tracks Fault) → TracksAnswers custom (heads.Sets sets) r → r ≡ Ok (OverSets sets)
     is (Ok (OverSets others)) a = ap (λ (ss : List (List ℤ)). let x : Result Tracks Fault = Ok (OverSets ss) in x) a
     is (Ok (OverSystems way named)) a = absurd a
     is (Err faults.Command) a = absurd a
-    is (Err (faults.Syntax part at)) a = absurd a
-    is (Err (faults.Number part at)) a = absurd a
-    is (Err (faults.Depth part at)) a = absurd a
+    is (Err (faults.Syntax grammar at)) a = absurd a
+    is (Err (faults.Number grammar at)) a = absurd a
+    is (Err (faults.Depth grammar at)) a = absurd a
     is (Err (faults.Long bytes)) a = absurd a
     is (Err (faults.SystemUnknown name)) a = absurd a
     is (Err (faults.Direction first other)) a = absurd a
@@ -220,8 +220,8 @@ tracks_single custom (heads.Systems names) r s a b = by_names custom names r s (
 -- what is read of the text is its head
 abbrev of_head : Result RegHead HeadFault → Result RegHead Fault
 of_head (Ok head) = Ok head
-of_head (Err (head_faults.Syntax at)) = Err (faults.Syntax parts.Command at)
-of_head (Err (head_faults.Number at)) = Err (faults.Number parts.Command at)
+of_head (Err (head_faults.Syntax at)) = Err (faults.Syntax grammars.Command at)
+of_head (Err (head_faults.Number at)) = Err (faults.Number grammars.Command at)
 of_head (Err head_faults.Memory) = Err faults.Memory
 
 spelled_read : (text : List ℕ) (head : RegHead) → SpellsReg (texts_of (parts_of text)) head → reg_at text ≡ Ok head
@@ -230,11 +230,11 @@ spelled_read text head spells = goes_run (length text) AtWord (parts_of text) he
 
 head_is : (text : List ℕ) → IsShort text → (r : Result RegHead Fault) → HeadAnswers text r → r ≡ of_head (reg_at text)
 head_is text short (Ok head) a = rw (spelled_read text head a) refl
-head_is text short (Err (faults.Syntax parts.Command at)) a = rw (syntax_read text at (omega (arith, short)) a) refl
-head_is text short (Err (faults.Number parts.Command at)) a = rw (number_read text at (omega (arith, short)) a) refl
-head_is text short (Err (faults.Syntax parts.Regex at)) a = absurd a
-head_is text short (Err (faults.Number parts.Regex at)) a = absurd a
-head_is text short (Err (faults.Depth part at)) a = absurd a
+head_is text short (Err (faults.Syntax grammars.Command at)) a = rw (syntax_read text at (omega (arith, short)) a) refl
+head_is text short (Err (faults.Number grammars.Command at)) a = rw (number_read text at (omega (arith, short)) a) refl
+head_is text short (Err (faults.Syntax grammars.Regex at)) a = absurd a
+head_is text short (Err (faults.Number grammars.Regex at)) a = absurd a
+head_is text short (Err (faults.Depth grammar at)) a = absurd a
 head_is text short (Err faults.Command) a = absurd a
 head_is text short (Err (faults.Long bytes)) a = absurd a
 head_is text short (Err (faults.SystemUnknown name)) a = absurd a
@@ -249,7 +249,7 @@ head_is text short (Err faults.ScriptLimit) a = absurd a
 reg_single : (limit : ℕ) (ledger : Ledger) (text : List ℕ) → IsShort text → IsSingle (reg_checks limit ledger text)
 reg_single limit ledger text short =
     then_single (Pure (HeadAnswers text)) (λ head. after_head limit (ledger Bases) head) (single_by (Pure (HeadAnswers text)) (of_head (reg_at text)) (head_is text short)) (λ head spells.
-    then_single (Pure (TracksAnswers (ledger Bases) head.tracks)) (λ tracks. after_tracks limit head.name head.body tracks) (tracks_single (ledger Bases) head.tracks) (λ tracks means.
+    then_single (Pure (TracksAnswers (ledger Bases) head.alphabets)) (λ tracks. after_tracks limit head.name head.body tracks) (tracks_single (ledger Bases) head.alphabets) (λ tracks means.
     then_single (Pure (ParsedAnswers (letter_sets tracks) head.body)) (λ (pattern : Pattern). after_expression limit head.name tracks pattern.tree) (parsed_single (letter_sets tracks) head.body) (λ pattern parses.
     then_single (Pure (StepsAnswers limit tracks pattern.tree)) (λ lines. stored (record { folder = Automata; name = head.name; entry = Defined (Regex tracks pattern.tree); lines = lines; verdict = None })) (steps_single limit tracks pattern.tree) (λ lines steps.
     stored_single (record { folder = Automata; name = head.name; entry = Defined (Regex tracks pattern.tree); lines = lines; verdict = None })))))
@@ -262,9 +262,9 @@ length_single text r s a b = by_length (length_is r a) (length_is s b)
     length_is (Ok short) a = inl (a, refl)
     length_is (Err (faults.Long bytes)) (is, long) = inr (long, ap (λ (n : ℕ). let x : Result (Unit {0}) Fault = Err (faults.Long n) in x) is)
     length_is (Err faults.Command) a = absurd a
-    length_is (Err (faults.Syntax part at)) a = absurd a
-    length_is (Err (faults.Number part at)) a = absurd a
-    length_is (Err (faults.Depth part at)) a = absurd a
+    length_is (Err (faults.Syntax grammar at)) a = absurd a
+    length_is (Err (faults.Number grammar at)) a = absurd a
+    length_is (Err (faults.Depth grammar at)) a = absurd a
     length_is (Err (faults.SystemUnknown name)) a = absurd a
     length_is (Err (faults.Direction first other)) a = absurd a
     length_is (Err (faults.Letters step)) a = absurd a
@@ -290,9 +290,9 @@ word_single text r s a b = by_word (word_is r a) (word_is s b)
     word_is (Ok word) a = inl (word, a, refl)
     word_is (Err faults.Command) a = inr (a, refl)
     word_is (Err (faults.Long bytes)) a = absurd a
-    word_is (Err (faults.Syntax part at)) a = absurd a
-    word_is (Err (faults.Number part at)) a = absurd a
-    word_is (Err (faults.Depth part at)) a = absurd a
+    word_is (Err (faults.Syntax grammar at)) a = absurd a
+    word_is (Err (faults.Number grammar at)) a = absurd a
+    word_is (Err (faults.Depth grammar at)) a = absurd a
     word_is (Err (faults.SystemUnknown name)) a = absurd a
     word_is (Err (faults.Direction first other)) a = absurd a
     word_is (Err (faults.Letters step)) a = absurd a

@@ -8,7 +8,7 @@ use Rattle.wal_outside.specs.declared.sink.WriteFault.{WriteFault}
 use Rattle.wal_outside.specs.declared.sink.WriteFault.TheVariants as writes
 use Rattle.script_cut.specs.Cuts.{Ended, Terminated, Unterminated, PastLimit, Item, start}
 use Rattle.script_cut.proofs.OneList.{same_lists}
-use Rattle.session_cli.specs.declared.fault.Part.TheVariants as parts
+use Rattle.session_cli.specs.declared.fault.Grammar.TheVariants as grammars
 use Rattle.session_cli.specs.declared.fault.Fault.TheVariants as faults
 use Rattle.session_cli.specs.declared.status.Status.{Status}
 use Rattle.session_cli.specs.declared.status.Status.TheVariants as status
@@ -45,9 +45,9 @@ proper limit ledger text (Err (faults.Store folder name)) is store memory = cc
 proper limit ledger text (Err faults.Memory) is store memory = cc
 proper limit ledger text (Err faults.ScriptLimit) is store memory = is
 proper limit ledger text (Err faults.Command) is store memory = is
-proper limit ledger text (Err (faults.Syntax part at)) is store memory = is
-proper limit ledger text (Err (faults.Number part at)) is store memory = is
-proper limit ledger text (Err (faults.Depth part at)) is store memory = is
+proper limit ledger text (Err (faults.Syntax grammar at)) is store memory = is
+proper limit ledger text (Err (faults.Number grammar at)) is store memory = is
+proper limit ledger text (Err (faults.Depth grammar at)) is store memory = is
 proper limit ledger text (Err (faults.Long bytes)) is store memory = is
 proper limit ledger text (Err (faults.SystemUnknown name)) is store memory = is
 proper limit ledger text (Err (faults.Direction first other)) is store memory = is
@@ -55,16 +55,16 @@ proper limit ledger text (Err (faults.Letters step)) is store memory = is
 proper limit ledger text (Err (faults.States step)) is store memory = is
 
 -- how a text without terminator is refused
-open_is : (text : List ℕ) (answer : Answer) → OpenOutcome text answer → ((65536 < length text) × (answer ≡ Err (faults.Long 65536))) ⊎ ((length text ≤ 65536) × (answer ≡ Err (faults.Syntax parts.Command (length text))))
+open_is : (text : List ℕ) (answer : Answer) → OpenOutcome text answer → ((65536 < length text) × (answer ≡ Err (faults.Long 65536))) ⊎ ((length text ≤ 65536) × (answer ≡ Err (faults.Syntax grammars.Command (length text))))
 open_is text (Err (faults.Long bytes)) (is, long) = inl (long, ap (λ (n : ℕ). let a : Answer = Err (faults.Long n) in a) is)
-open_is text (Err (faults.Syntax parts.Command at)) (short, is) = inr (short, ap (λ (n : ℕ). let a : Answer = Err (faults.Syntax parts.Command n) in a) is)
-open_is text (Err (faults.Syntax parts.Regex at)) is = absurd is
-open_is text (Err (faults.Depth part at)) is = absurd is
+open_is text (Err (faults.Syntax grammars.Command at)) (short, is) = inr (short, ap (λ (n : ℕ). let a : Answer = Err (faults.Syntax grammars.Command n) in a) is)
+open_is text (Err (faults.Syntax grammars.Regex at)) is = absurd is
+open_is text (Err (faults.Depth grammar at)) is = absurd is
 open_is text (Err (faults.SystemUnknown name)) is = absurd is
 open_is text (Err (faults.Direction first other)) is = absurd is
 open_is text (Err (faults.Letters step)) is = absurd is
 open_is text (Err (faults.States step)) is = absurd is
-open_is text (Err (faults.Number part at)) is = absurd is
+open_is text (Err (faults.Number grammar at)) is = absurd is
 open_is text (Err (faults.Store folder name)) is = absurd is
 open_is text (Err faults.Command) is = absurd is
 open_is text (Err faults.Memory) is = absurd is
@@ -74,8 +74,8 @@ open_is text (Ok success) is = absurd is
 same_open : (text : List ℕ) (answer other : Answer) → OpenOutcome text answer → OpenOutcome text other → answer ≡ other
 same_open text answer other a b = by_cases (open_is text answer a) (open_is text other b)
   where
-    by_cases : ((65536 < length text) × (answer ≡ Err (faults.Long 65536))) ⊎ ((length text ≤ 65536) × (answer ≡ Err (faults.Syntax parts.Command (length text))))
-        → ((65536 < length text) × (other ≡ Err (faults.Long 65536))) ⊎ ((length text ≤ 65536) × (other ≡ Err (faults.Syntax parts.Command (length text)))) → answer ≡ other
+    by_cases : ((65536 < length text) × (answer ≡ Err (faults.Long 65536))) ⊎ ((length text ≤ 65536) × (answer ≡ Err (faults.Syntax grammars.Command (length text))))
+        → ((65536 < length text) × (other ≡ Err (faults.Long 65536))) ⊎ ((length text ≤ 65536) × (other ≡ Err (faults.Syntax grammars.Command (length text)))) → answer ≡ other
     by_cases (inl (long, is)) (inl (long', is')) = is ∙ sym is'
     by_cases (inl (long, is)) (inr (short, is')) = absurd (omega arith)
     by_cases (inr (short, is)) (inl (long, is')) = absurd (omega arith)

@@ -1,29 +1,24 @@
 -- From the head of a `reg` to what it stores.
-use Rattle.std.proofs.Common.{◌≡◌, ℕ, ◌<◌, ◌≤◌, ◌^◌, Bool, List, length, Result, Ok, Err, refl, sym, ◌∙◌, ap, arith}
+use Rattle.std.proofs.Common.{◌≡◌, ℕ, ◌≤◌, Bool, List, length, Result, Ok, Err, sym, ◌∙◌, ap, arith}
 use Rattle.wal_outside.specs.declared.folder.Folder.TheVariants.{Automata, Bases}
-use Rattle.command_head.specs.Heads as heads
 use Rattle.command_head.specs.Heads.{RegHead, AtWord, reg_at}
-use Rattle.command_head.specs.Parts.{parts_of, texts_of, first_word_of}
+use Rattle.command_head.specs.Parts.{parts_of, texts_of}
 use Rattle.command_head.specs.Grammar.{SpellsReg}
-use Rattle.command_head.specs.Breaks.{IsSyntaxAt, IsNumberAt}
 use Rattle.command_head.specs.declared.fault.HeadFault.TheVariants as head_faults
 use Rattle.command_head.proofs.Walks.{run_goes}
 use Rattle.command_head.proofs.ReadHeads.{reg_spelled}
 use Rattle.command_head.proofs.Breaking.{syntax_breaks, number_breaks}
-use Rattle.session_cli.specs.declared.fault.Part.TheVariants as parts
+use Rattle.session_cli.specs.declared.fault.Grammar.TheVariants as grammars
 use Rattle.session_cli.specs.declared.fault.Fault.{Fault}
 use Rattle.session_cli.specs.declared.fault.Fault.TheVariants as faults
 use Rattle.session_cli.specs.declared.plan.Made.{Made}
 use Rattle.session_cli.specs.declared.plan.Plan.{Plan}
-use Rattle.session_cli.specs.Checks.{Check, Pure, Fails}
+use Rattle.session_cli.specs.Checks.{Pure, Fails}
 use Rattle.session_cli.specs.Trees.{Ledger}
 use Rattle.session_cli.specs.Tracks.{Tracks}
 use Rattle.session_cli.specs.Named.{Custom, AreTracksOf}
 use Rattle.session_cli.specs.Accepting.{Success}
 use Rattle.session_cli.specs.RegOutcomes.{HeadAnswers, TracksAnswers, after_tracks, after_head, reg_checks}
-use Rattle.session_cli.specs.declared.command_word.CommandWord.{CommandWord}
-use Rattle.session_cli.specs.declared.command_word.CommandWord.TheVariants as words
-use Rattle.session_cli.specs.Outcomes.{LengthAnswers, WordAnswers, word_text, checks_by, after_length, checks_of}
 use Rattle.session_cli.specs.Plans.{Makes, Plans}
 use Rattle.session_cli.proofs.CheckSteps.{fails_first, makes_after, plans_after}
 
@@ -32,18 +27,18 @@ spelled : (text : List ℕ) (head : RegHead) → reg_at text ≡ Ok head → Spe
 unfolding reg_at
 spelled text head read = reg_spelled (texts_of (parts_of text)) head (run_goes (length text) AtWord (parts_of text) head read)
 
-pub head_syntax : (limit : ℕ) (ledger : Ledger) (text : List ℕ) (at : ℕ) → length text ≤ 65536 → reg_at text ≡ Err (head_faults.Syntax at) → Fails (reg_checks limit ledger text) (faults.Syntax parts.Command at)
-head_syntax limit ledger text at short read = fails_first (Pure (HeadAnswers text)) (λ head. after_head limit (ledger Bases) head) (faults.Syntax parts.Command at) (syntax_breaks text at (omega (arith, short)) read)
+pub head_syntax : (limit : ℕ) (ledger : Ledger) (text : List ℕ) (at : ℕ) → length text ≤ 65536 → reg_at text ≡ Err (head_faults.Syntax at) → Fails (reg_checks limit ledger text) (faults.Syntax grammars.Command at)
+head_syntax limit ledger text at short read = fails_first (Pure (HeadAnswers text)) (λ head. after_head limit (ledger Bases) head) (faults.Syntax grammars.Command at) (syntax_breaks text at (omega (arith, short)) read)
 
-pub head_number : (limit : ℕ) (ledger : Ledger) (text : List ℕ) (at : ℕ) → length text ≤ 65536 → reg_at text ≡ Err (head_faults.Number at) → Fails (reg_checks limit ledger text) (faults.Number parts.Command at)
-head_number limit ledger text at short read = fails_first (Pure (HeadAnswers text)) (λ head. after_head limit (ledger Bases) head) (faults.Number parts.Command at) (number_breaks text at (omega (arith, short)) read)
+pub head_number : (limit : ℕ) (ledger : Ledger) (text : List ℕ) (at : ℕ) → length text ≤ 65536 → reg_at text ≡ Err (head_faults.Number at) → Fails (reg_checks limit ledger text) (faults.Number grammars.Command at)
+head_number limit ledger text at short read = fails_first (Pure (HeadAnswers text)) (λ head. after_head limit (ledger Bases) head) (faults.Number grammars.Command at) (number_breaks text at (omega (arith, short)) read)
 
 -- what is made over the tracks of a head
-pub tracks_made : (limit : ℕ) (custom : Custom) (head : RegHead) (tracks : Tracks) (shown : Bool) (result : Result Made Fault) → AreTracksOf custom head.tracks tracks → Makes (after_tracks limit head.name head.body tracks) shown result → Makes (after_head limit custom head) shown result
-tracks_made limit custom head tracks shown result means makes = makes_after (Pure (TracksAnswers custom head.tracks)) (λ ts. after_tracks limit head.name head.body ts) tracks shown result means makes
+pub tracks_made : (limit : ℕ) (custom : Custom) (head : RegHead) (tracks : Tracks) (shown : Bool) (result : Result Made Fault) → AreTracksOf custom head.alphabets tracks → Makes (after_tracks limit head.name head.body tracks) shown result → Makes (after_head limit custom head) shown result
+tracks_made limit custom head tracks shown result means makes = makes_after (Pure (TracksAnswers custom head.alphabets)) (λ ts. after_tracks limit head.name head.body ts) tracks shown result means makes
 
-pub tracks_fail : (limit : ℕ) (custom : Custom) (head : RegHead) (fault : Fault) → Fails (Pure (TracksAnswers custom head.tracks)) fault → Fails (after_head limit custom head) fault
-tracks_fail limit custom head fault refused = fails_first (Pure (TracksAnswers custom head.tracks)) (λ ts. after_tracks limit head.name head.body ts) fault refused
+pub tracks_fail : (limit : ℕ) (custom : Custom) (head : RegHead) (fault : Fault) → Fails (Pure (TracksAnswers custom head.alphabets)) fault → Fails (after_head limit custom head) fault
+tracks_fail limit custom head fault refused = fails_first (Pure (TracksAnswers custom head.alphabets)) (λ ts. after_tracks limit head.name head.body ts) fault refused
 
 -- an accepted `reg` stands under its name among the automata
 record IsAt (head : RegHead) (success : Success) : Type 0 where
@@ -61,12 +56,3 @@ reg_planned limit ledger text shown head plan read folder name made =
 
 pub reg_failed : (limit : ℕ) (ledger : Ledger) (text : List ℕ) (shown : Bool) (head : RegHead) (fault : Fault) → reg_at text ≡ Ok head → Fails (after_head limit (ledger Bases) head) fault → Fails (reg_checks limit ledger text) fault
 reg_failed limit ledger text shown head fault read refused = plans_after (Pure (HeadAnswers text)) (λ h. after_head limit (ledger Bases) h) head shown (Err fault) (spelled text head read) refused
-
--- and whose first word is `reg`
-word_is_reg : (text : List ℕ) (word : CommandWord) → first_word_of text ≡ word_text word → first_word_of text ≡ word_text words.Reg
-word_is_reg text words.Reg is = is
-
-pub reg_by_word : (limit : ℕ) (ledger : Ledger) (text : List ℕ) (shown : Bool) (result : Result Plan Fault) (word : CommandWord) → length text ≤ 65536 → first_word_of text ≡ word_text word → Plans (reg_checks limit ledger text) shown result → Plans (checks_of limit ledger text) shown result
-reg_by_word limit ledger text shown result word short is plans =
-    plans_after (Pure (LengthAnswers text)) (λ done. after_length limit ledger text) tt shown result short
-    (plans_after (Pure (WordAnswers text)) (λ w. checks_by w limit ledger text) words.Reg shown result (word_is_reg text word is) plans)

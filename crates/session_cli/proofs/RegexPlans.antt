@@ -1,11 +1,10 @@
 -- What is made of an expression that was parsed.
-use Rattle.std.proofs.Common.{◌≡◌, ℕ, Bool, List, [], ◌∷◌, ◌++◌, ℤ, None, Result, Ok, Err, inl, inr, refl, sym, ap, ◌∙◌, subst, append-nil}
+use Rattle.std.proofs.Common.{◌≡◌, ℕ, Bool, List, [], ◌∷◌, ℤ, None, Result, Ok, Err, inl, inr, refl, sym, ap, ◌∙◌, subst, append-nil}
 use Rattle.digit_tuple.proofs.SystemLemmas.{length-digit_set}
 use Rattle.digit_tuple.specs.Deterministic.{Automaton}
 use Rattle.digit_tuple.specs.Sets.{sizes_of}
 use Rattle.digit_tuple.specs.Steps.{StepLog}
 use Rattle.digit_tuple.specs.declared.direction.Direction.{Direction}
-use Rattle.digit_tuple.specs.declared.header.Header.{Header}
 use Rattle.digit_tuple.specs.declared.steps.StepLine.{StepLine}
 use Rattle.wal_outside.specs.declared.folder.Folder.TheVariants.{Automata}
 use Rattle.regex_build.specs.Patterns.{Pattern}
@@ -34,8 +33,8 @@ use Rattle.session_cli.specs.Bases.{fault_of}
 use Rattle.session_cli.specs.Lines.{shown_steps}
 use Rattle.session_cli.specs.Tracks.{NamedSystem, systems_of, Tracks, OverSets, OverSystems, letter_sets, header_of}
 use Rattle.session_cli.specs.declared.plan.Made.{Made}
-use Rattle.session_cli.specs.Trees.{Regex, Entry, Defined}
-use Rattle.session_cli.specs.Texts.{HasText, IsTrackText}
+use Rattle.session_cli.specs.Trees.{Regex, Defined}
+use Rattle.session_cli.specs.Texts.{IsTrackText}
 use Rattle.session_cli.specs.TrackSteps.{AreSteps}
 use Rattle.session_cli.specs.Accepting.{Success, stored}
 use Rattle.session_cli.specs.RegOutcomes.{ParsedAnswers, StepsAnswers, after_expression, after_tracks}
@@ -81,9 +80,9 @@ made_by_steps limit name tracks body shown pattern lines printed_lines automaton
     by_text (Err (faults.Long bytes)) (is, long) = (is, (relation_text (header_of tracks) automaton, has, long))
     by_text (Err faults.Memory) refused = tt
     by_text (Err faults.Command) refused = absurd refused
-    by_text (Err (faults.Syntax part at)) refused = absurd refused
-    by_text (Err (faults.Number part at)) refused = absurd refused
-    by_text (Err (faults.Depth part at)) refused = absurd refused
+    by_text (Err (faults.Syntax grammar at)) refused = absurd refused
+    by_text (Err (faults.Number grammar at)) refused = absurd refused
+    by_text (Err (faults.Depth grammar at)) refused = absurd refused
     by_text (Err (faults.SystemUnknown unknown)) refused = absurd refused
     by_text (Err (faults.Direction first other)) refused = absurd refused
     by_text (Err (faults.Letters step)) refused = absurd refused

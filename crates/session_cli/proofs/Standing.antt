@@ -1,10 +1,10 @@
 -- Where a run stands between two items, and how it goes on and ends.
-use Rattle.std.proofs.Common.{◌≡◌, ℕ, ◌<◌, ◌≤◌, ◌⊎◌, Bool, true, false, ◌||◌, List, [], ◌∷◌, ◌++◌, length, Option, Result, Ok, Err, IsErrOf, refl, sym, ap, subst, inl, inr, arith}
+use Rattle.std.proofs.Common.{◌≡◌, ℕ, ◌<◌, ◌≤◌, Bool, true, false, ◌||◌, List, [], ◌∷◌, ◌++◌, length, Result, Ok, Err, refl, sym, ap, subst, inl, inr, arith}
 use Rattle.wal_outside.specs.Sending.{Sends, HasSent}
 use Rattle.wal_outside.specs.declared.sink.WriteFault.{WriteFault}
 use Rattle.wal_outside.proofs.SendingSteps.{none_sent, sends_then}
 use Rattle.script_cut.specs.Cuts.{Ended, Terminated, Unterminated, PastLimit, Item, Rest, Next, start, CutsTo, CutsOff, IsAtEnd}
-use Rattle.session_cli.specs.declared.fault.Part.TheVariants as parts
+use Rattle.session_cli.specs.declared.fault.Grammar.TheVariants as grammars
 use Rattle.session_cli.specs.declared.fault.Fault.{Fault}
 use Rattle.session_cli.specs.declared.fault.Fault.TheVariants as faults
 use Rattle.session_cli.specs.declared.tally.Tally.{Tally}
@@ -17,7 +17,7 @@ use Rattle.session_cli.specs.Runs.{IsAnswerOf, Answers, Run, of_fault, is_refusa
 use Rattle.session_cli.specs.Whole.{stop_status, RanThrough, RanToStop, Ran}
 use Rattle.session_cli.specs.Commands.{Gives, Stored, Commands}
 use Rattle.session_cli.specs.Tallies.{AddsFault, AddsResult, Counts, tally_status}
-use Rattle.session_cli.specs.Handing.{result_text, HasAnswered}
+use Rattle.session_cli.specs.Handing.{result_text}
 use Rattle.session_cli.specs.Ending.{ended_status, Finishes}
 use Rattle.session_cli.proofs.CommandSteps.{own_ledger, kept_store}
 use Rattle.session_cli.proofs.RunSteps.{stores_first, stores_after, run_more, cuts_more, printed_more, some_of-append}
@@ -45,6 +45,15 @@ begins limit script old held = record {
   sent = none_sent held;
   counts = record { refused = refl; store = refl; memory = refl };
 }
+
+-- a command was answered, its answer counted, and its text handed over, or a front of that where the sink stopped
+pub record HasAnswered (limit : ℕ) (ledger : Ledger) (old : StoreView) (text : List ℕ) (shown : Bool) (line : ℕ) (told : SinkView) (tally : Tally) (sent : Result (Unit {0}) WriteFault)
+    (new : StoreView) (now : SinkView) (counted : Tally) : Type 0 where
+  pub result : Result (Unit {0}) Fault
+  pub printed : List ℕ
+  pub commands : Commands limit ledger old text shown result printed new
+  pub sends : Sends told (result_text line printed result) sent now
+  pub adds : AddsResult tally result counted
 
 -- the same text
 text_same : (text : List ℕ) (line : ℕ) (shown : Bool) (result : Result (Unit {0}) Fault) (printed : List ℕ) (answer : Answer) → Gives shown result printed answer → result_text line printed result ≡ line_of (record { text = text; line = line; ended = Terminated shown }) answer
@@ -165,8 +174,8 @@ kept_step limit ledger store item fault other answered =
     record { known = ledger; known_is = own_ledger store.files ledger; answered = answered; files = kept.files; later = kept.later; cause = kept.cause; failed = kept.failed }
 
 pub open_step : (limit : ℕ) (ledger : Ledger) (store : StoreView) (text : List ℕ) (line at : ℕ) → length text ≤ 65536 → at ≡ length text
-    → Answers limit ledger store (record { text = text; line = line; ended = Unterminated }) (Err (faults.Syntax parts.Command at)) store
-open_step limit ledger store text line at short is = kept_step limit ledger store (record { text = text; line = line; ended = Unterminated }) (faults.Syntax parts.Command at) refl (short, is)
+    → Answers limit ledger store (record { text = text; line = line; ended = Unterminated }) (Err (faults.Syntax grammars.Command at)) store
+open_step limit ledger store text line at short is = kept_step limit ledger store (record { text = text; line = line; ended = Unterminated }) (faults.Syntax grammars.Command at) refl (short, is)
 
 -- past the limit nothing is done
 pub limit_step : (limit : ℕ) (ledger : Ledger) (store : StoreView) (line : ℕ) → Answers limit ledger store (record { text = []; line = line; ended = PastLimit }) (Err faults.ScriptLimit) store

@@ -46,12 +46,16 @@ IsUnknown names (faults.SystemUnknown name) = IsFirstWithout IsBuiltInName names
 IsUnknown names faults.Memory = ⊤
 IsUnknown names _ = ⊥
 
--- the systems of tracks, all in one direction
-pub record AreBasesOf (names : List (List ℕ)) (b : Bases) : Type 0 where
-  pub names_are : names ≡ names_of (named_in b.systems.items)
+-- the systems of tracks under their names, all in one direction
+pub record AreBases (b : Bases) : Type 0 where
+  pub names_are : b.names.items ≡ names_of (named_in b.systems.items)
   pub are : (custom : Custom) → AreNamed custom b.direction (named_in b.systems.items)
-  pub some : 0 < length names
+  pub some : 0 < length b.names.items
   pub directions : All (IsIn b.direction) b.systems.items
+
+-- and those of these names
+abbrev pub AreBasesOf : List (List ℕ) → Bases → Type 0
+AreBasesOf names b = (b.names.items ≡ names) × AreBases b
 
 -- why names give no tracks
 abbrev pub AreRefusedNames : List (List ℕ) → Fault → Type 0

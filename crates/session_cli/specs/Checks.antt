@@ -1,5 +1,5 @@
 -- Checks of a command, one after another: the first that refuses decides.
-use Rattle.std.specs.Prelude.{◌≡◌, ◌⊎◌, Result, Ok, Err, ⊤}
+use Rattle.std.specs.Prelude.{◌⊎◌, Result, Ok, Err, ⊤}
 use Rattle.wal_outside.specs.Places.{Place}
 use Rattle.session_cli.specs.declared.fault.Fault.{Fault}
 use Rattle.session_cli.specs.declared.fault.Fault.TheVariants as faults

@@ -3,8 +3,8 @@ use Rattle.std.specs.Prelude.{ℕ, suc, Bool, true, false, List, [], ◌∷◌, 
 use Rattle.digit_tuple.specs.Kinds.{kind_name}
 use Rattle.digit_tuple.specs.declared.steps.StepLine.{StepLine}
 use Rattle.wal_outside.specs.Folders.{folder_text}
-use Rattle.session_cli.specs.declared.fault.Part.{Part}
-use Rattle.session_cli.specs.declared.fault.Part.TheVariants as parts
+use Rattle.session_cli.specs.declared.fault.Grammar.{Grammar}
+use Rattle.session_cli.specs.declared.fault.Grammar.TheVariants as grammars
 use Rattle.session_cli.specs.declared.fault.Fault.{Fault}
 use Rattle.session_cli.specs.declared.fault.Fault.TheVariants as faults
 use Rattle.session_cli.specs.Accepting.{Success}
@@ -33,16 +33,16 @@ verdict_line (Some false) = codes "FALSE\n"
 abbrev pub success_text : Bool → Success → List ℕ
 success_text shown success = shown_steps shown success.lines ++ verdict_line success.verdict
 
-abbrev pub part_name : Part → List ℕ
-part_name parts.Command = codes "command"
-part_name parts.Regex = codes "regex"
+abbrev pub grammar_name : Grammar → List ℕ
+grammar_name grammars.Command = codes "command"
+grammar_name grammars.Regex = codes "regex"
 
 -- the number, name and kept values of a fault
 abbrev pub detail : Fault → List ℕ
 detail faults.Command = codes ": F01 Command"
-detail (faults.Syntax part at) = (codes ": F02 Syntax in " ++ part_name part) ++ (codes " at " ++ decimal at)
-detail (faults.Number part at) = (codes ": F04 Number in " ++ part_name part) ++ (codes " at " ++ decimal at)
-detail (faults.Depth part at) = (codes ": F06 Depth in " ++ part_name part) ++ (codes " at " ++ decimal at)
+detail (faults.Syntax grammar at) = (codes ": F02 Syntax in " ++ grammar_name grammar) ++ (codes " at " ++ decimal at)
+detail (faults.Number grammar at) = (codes ": F04 Number in " ++ grammar_name grammar) ++ (codes " at " ++ decimal at)
+detail (faults.Depth grammar at) = (codes ": F06 Depth in " ++ grammar_name grammar) ++ (codes " at " ++ decimal at)
 detail (faults.Long bytes) = codes ": F07 Long " ++ decimal bytes
 detail (faults.SystemUnknown name) = codes ": F14 SystemUnknown " ++ name
 detail (faults.Direction first other) = (codes ": F17 Direction " ++ first) ++ (codes " " ++ other)

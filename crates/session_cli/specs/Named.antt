@@ -53,7 +53,7 @@ pub record AreSystemsOf (custom : Custom) (names : List (List ℕ)) (way : Direc
   pub some : 0 < length names
 
 -- the tracks that a head means
-abbrev pub AreTracksOf : Custom → heads.Tracks → Tracks → Type 0
+abbrev pub AreTracksOf : Custom → heads.Alphabets → Tracks → Type 0
 AreTracksOf custom (heads.Sets sets) (OverSets others) = others ≡ sets
 AreTracksOf custom (heads.Sets sets) (OverSystems way named) = ⊥
 AreTracksOf custom (heads.Systems names) (OverSets others) = ⊥

@@ -1,7 +1,7 @@
 -- What a command does: the entry that it makes, or the fault by which it is refused.
-use Rattle.std.specs.Prelude.{◌≡◌, ◌≢◌, ◌⊎◌, ℕ, ◌<◌, ◌≤◌, List, length, Result, Ok, Err, codes, ⊤}
+use Rattle.std.specs.Prelude.{◌≡◌, ◌≢◌, ℕ, ◌<◌, ◌≤◌, List, length, Result, Ok, Err, codes}
 use Rattle.command_head.specs.Parts.{first_word_of}
-use Rattle.session_cli.specs.declared.fault.Part.TheVariants as parts
+use Rattle.session_cli.specs.declared.fault.Grammar.TheVariants as grammars
 use Rattle.session_cli.specs.declared.fault.Fault.{Fault}
 use Rattle.session_cli.specs.declared.fault.Fault.TheVariants as faults
 use Rattle.session_cli.specs.declared.command_word.CommandWord.{CommandWord}
@@ -50,5 +50,5 @@ Outcome limit ledger text answer = (checks_of limit ledger text).answers answer
 -- the proper outcome of a text without terminator
 abbrev pub OpenOutcome : List ℕ → Answer → Type 0
 OpenOutcome text (Err (faults.Long bytes)) = (bytes ≡ 65536) × (65536 < length text)
-OpenOutcome text (Err (faults.Syntax parts.Command at)) = IsShort text × (at ≡ length text)
+OpenOutcome text (Err (faults.Syntax grammars.Command at)) = IsShort text × (at ≡ length text)
 OpenOutcome text _ = ⊥

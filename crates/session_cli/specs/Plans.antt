@@ -1,5 +1,5 @@
 -- What a command is to store and to print, from its checks.
-use Rattle.std.specs.Prelude.{◌≡◌, ℕ, ℤ, ◌<◌, Bool, List, length, Result, Ok, Err, ⊤, MatchResult}
+use Rattle.std.specs.Prelude.{◌≡◌, ℕ, ℤ, ◌<◌, Bool, List, length, Result, Ok, ⊤, MatchResult}
 use Rattle.command_head.specs.Heads as heads
 use Rattle.dfa_text.specs.Meaning.{AreTrackSets}
 use Rattle.dfa_text.specs.RelationText.{relation_text}
@@ -57,6 +57,6 @@ abbrev pub Prints : Header → Automaton → Bool → List StepLine → Result M
 Prints header automaton shown lines result = MatchResult result (λ made. IsPrinted header automaton shown lines made.stored.items made.printed) (IsNotPrinted header automaton)
 
 -- tracks of a head: sets of which each has a member, or some systems
-abbrev pub AreFormedTracks : heads.Tracks → Type 0
-AreFormedTracks (heads.Sets sets) = AreTrackSets sets
-AreFormedTracks (heads.Systems names) = 0 < length names
+abbrev pub AreFormedAlphabets : heads.Alphabets → Type 0
+AreFormedAlphabets (heads.Sets sets) = AreTrackSets sets
+AreFormedAlphabets (heads.Systems names) = 0 < length names

@@ -1,6 +1,6 @@
 -- What a `reg` does, by its checks in their order: the shape of its head, its systems, its expression, its steps, and the length of the
 -- text that it is to store.
-use Rattle.std.specs.Prelude.{◌≡◌, ◌≢◌, ◌⊎◌, ℕ, ℤ, List, None, Result, Ok, Err}
+use Rattle.std.specs.Prelude.{◌≡◌, ℕ, ℤ, List, None, Result, Ok, Err}
 use Rattle.wal_outside.specs.declared.folder.Folder.TheVariants.{Automata, Bases}
 use Rattle.digit_tuple.specs.declared.steps.StepLine.{StepLine}
 use Rattle.command_head.specs.Heads as heads
@@ -12,7 +12,7 @@ use Rattle.regex_build.specs.declared.fault.RegexFault.TheVariants as regexes
 use Rattle.regex_build.specs.Expression.{Expression}
 use Rattle.regex_build.specs.Patterns.{Pattern}
 use Rattle.regex_build.specs.Parsing.{Parses}
-use Rattle.session_cli.specs.declared.fault.Part.TheVariants as parts
+use Rattle.session_cli.specs.declared.fault.Grammar.TheVariants as grammars
 use Rattle.session_cli.specs.declared.fault.Fault.{Fault}
 use Rattle.session_cli.specs.declared.fault.Fault.TheVariants as faults
 use Rattle.session_cli.specs.Checks.{Check, Pure, Then}
@@ -25,12 +25,12 @@ use Rattle.session_cli.specs.Accepting.{Success, stored}
 -- the head that the parts of the text spell, or where they first break the grammar
 abbrev pub HeadAnswers : List ℕ → Result RegHead Fault → Type 0
 HeadAnswers text (Ok head) = SpellsReg (texts_of (parts_of text)) head
-HeadAnswers text (Err (faults.Syntax parts.Command at)) = IsSyntaxAt text at
-HeadAnswers text (Err (faults.Number parts.Command at)) = IsNumberAt text at
+HeadAnswers text (Err (faults.Syntax grammars.Command at)) = IsSyntaxAt SpellsReg text at
+HeadAnswers text (Err (faults.Number grammars.Command at)) = IsNumberAt SpellsReg text at
 HeadAnswers text (Err fault) = ⊥
 
 -- the tracks that a head means; or its first system that is not known; or two systems of different directions
-abbrev pub TracksAnswers : Custom → heads.Tracks → Result Tracks Fault → Type 0
+abbrev pub TracksAnswers : Custom → heads.Alphabets → Result Tracks Fault → Type 0
 TracksAnswers custom of_head (Ok tracks) = AreTracksOf custom of_head tracks
 TracksAnswers custom (heads.Systems names) (Err (faults.SystemUnknown name)) = IsFirstWithout (IsKnown custom) names name
 TracksAnswers custom (heads.Systems names) (Err (faults.Direction first other)) = PartInDirection custom names first other
@@ -39,9 +39,9 @@ TracksAnswers custom of_head (Err fault) = ⊥
 -- the expression of a quoted text, or where it breaks the grammar
 abbrev pub ParsedAnswers : List (List ℤ) → List ℕ → Result Pattern Fault → Type 0
 ParsedAnswers sets body (Ok pattern) = Parses sets body (Ok pattern)
-ParsedAnswers sets body (Err (faults.Syntax parts.Regex at)) = Parses sets body (Err (regexes.Syntax at))
-ParsedAnswers sets body (Err (faults.Number parts.Regex at)) = Parses sets body (Err (regexes.Number at))
-ParsedAnswers sets body (Err (faults.Depth parts.Regex at)) = Parses sets body (Err (regexes.Depth at))
+ParsedAnswers sets body (Err (faults.Syntax grammars.Regex at)) = Parses sets body (Err (regexes.Syntax at))
+ParsedAnswers sets body (Err (faults.Number grammars.Regex at)) = Parses sets body (Err (regexes.Number at))
+ParsedAnswers sets body (Err (faults.Depth grammars.Regex at)) = Parses sets body (Err (regexes.Depth at))
 ParsedAnswers sets body (Err fault) = ⊥
 
 -- the lines of the steps, or the number of the first one that passes a limit
@@ -59,7 +59,7 @@ abbrev pub after_tracks : ℕ → List ℕ → List ℕ → Tracks → Check Suc
 after_tracks limit name body tracks = Then (Pure (ParsedAnswers (letter_sets tracks) body)) (λ (pattern : Pattern). after_expression limit name tracks pattern.tree)
 
 abbrev pub after_head : ℕ → Custom → RegHead → Check Success
-after_head limit custom head = Then (Pure (TracksAnswers custom head.tracks)) (λ tracks. after_tracks limit head.name head.body tracks)
+after_head limit custom head = Then (Pure (TracksAnswers custom head.alphabets)) (λ tracks. after_tracks limit head.name head.body tracks)
 
 -- all checks of a `reg`
 abbrev pub reg_checks : ℕ → Ledger → List ℕ → Check Success

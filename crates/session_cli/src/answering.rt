@@ -4,7 +4,8 @@ ghost use Rattle.session_cli.specs.Tallies.{AddsFault, AddsResult};
 ghost use Rattle.session_cli.specs.Lines.{fault_line};
 ghost use Rattle.session_cli.specs.Trees.{Ledger};
 ghost use Rattle.session_cli.specs.Runs.{StoresTold};
-ghost use Rattle.session_cli.specs.Handing.{HasAnswered, result_text};
+ghost use Rattle.session_cli.specs.Commands.{Commands};
+ghost use Rattle.session_cli.specs.Handing.{result_text};
 ghost use Rattle.session_cli.specs.Whole.{stop_status as status_of_stop};
 
 use crate::fault::Fault;
@@ -16,24 +17,56 @@ use crate::tally::Tally;
 use std::alloc::Global;
 use wal_outside::{Sink, Store, WriteFault, send};
 
-/// Hands over what a command prints that begins on `line`, and counts its result: the bytes that it prints, or the line
-/// of its fault.
+/// A command of a script.
+#[derive(Clone, Copy)]
+pub(crate) struct Command<'a> {
+    /// Its text.
+    pub(crate) text: &'a [u8],
+    /// Whether the lines of its steps are shown.
+    pub(crate) shown: bool,
+}
+
+/// What a command answered, and what it prints.
+#[derive(Drop)]
+pub(crate) struct Answered {
+    /// Whether it was accepted, or the fault that refused it.
+    pub(crate) answer: Result<(), Fault>,
+    /// What it prints where it was accepted.
+    pub(crate) printed: Printed,
+}
+
+/// Answers a command, and counts its result.
+pub(crate) fn answer_command<T: Store>(
+    alloc: Global,
+    session: &mut Session,
+    command: &Command<'_>,
+    store: &mut T,
+    tally: &mut Tally,
+) -> Answered
+    ensures session { session.new ≡ session.old }
+    ensures command { (ledger : Ledger) → StoresTold ledger (T.view store.old).files → Commands session.old.limit ledger (T.view store.old) command.now.text.now command.now.shown result.answer result.printed (T.view store.new) }
+    ensures counts { AddsResult tally.old result.answer tally.new }
+{
+    let mut printed = Printed::new(alloc);
+    let answer = session.command(alloc, command.text, command.shown, store, &mut printed);
+    tally.count(&answer);
+    Answered { answer, printed }
+}
+
+/// Hands over what a command answered that begins on `line`: the bytes that it prints, or the line of its fault.
 ///
 /// # Errors
 /// As `send`: what was appended is a front of that.
 pub(crate) fn hand_over<K: Sink>(
     out: &mut K,
     line: u64,
-    printed: &Printed,
-    answered: &Result<(), Fault>,
-    tally: &mut Tally,
+    answered: &Answered,
 ) -> Result<(), WriteFault>
-    ensures sent { Sends (K.view out.old) (result_text line printed.now answered.now) result (K.view out.new) }
-    ensures counts { AddsResult tally.old answered.now tally.new }
+    ensures { Sends (K.view out.old) (result_text line answered.now.printed answered.now.answer) result (K.view out.new) }
 {
-    match answered {
-        Ok(()) => send(out, printed.bytes()),
-        Err(fault) => hand_over_fault(out, line, fault, tally),
+    match &answered.answer {
+        Ok(()) => send(out, answered.printed.bytes()),
+        Err(fault) => send_fault(out, line, fault),
     }
 }
 
@@ -52,29 +85,6 @@ pub(crate) fn hand_over_fault<K: Sink>(
 {
     *tally = tally.with(fault);
     send_fault(out, line, fault)
-}
-
-/// Answers a command that begins on `line`, hands over what it prints, and counts its result.
-///
-/// # Errors
-/// As `send`: the command was answered, and what was appended is a front of what it prints.
-pub(crate) fn answer_command<K: Sink, T: Store>(
-    alloc: Global,
-    session: &mut Session,
-    text: &[u8],
-    shown: bool,
-    line: u64,
-    out: &mut K,
-    store: &mut T,
-    tally: &mut Tally,
-) -> Result<(), WriteFault>
-    ensures session { session.new ≡ session.old }
-    ensures answered { (ledger : Ledger) → StoresTold ledger (T.view store.old).files → HasAnswered session.old.limit ledger (T.view store.old) text.now shown line (K.view out.old) tally.old result
-        (T.view store.new) (K.view out.new) tally.new }
-{
-    let mut printed = Printed::new(alloc);
-    let answered = session.command(alloc, text, shown, store, &mut printed);
-    hand_over(out, line, &printed, &answered, tally)
 }
 
 /// How a run ends that the sink stopped.

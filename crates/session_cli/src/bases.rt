@@ -5,7 +5,7 @@ ghost use Rattle.std.specs.Rc.{rc_value};
 ghost use Rattle.reg_steps.specs.Relations.{AreSystemLanguages};
 ghost use Rattle.system_names.specs.Names.{IsBuiltInName};
 ghost use Rattle.session_cli.specs.Tracks.{header_tracks, systems_of};
-ghost use Rattle.session_cli.specs.Bases.{AreNames, IsUnknown, AreBasesOf, AreRefusedNames, IsFirstApart, IsIn, named_in, name_of};
+ghost use Rattle.session_cli.specs.Bases.{AreNames, IsUnknown, AreBases, AreBasesOf, AreRefusedNames, IsFirstApart, IsIn, named_in, name_of};
 
 use crate::fault::Fault;
 use base_k::base_k::BaseK;
@@ -25,6 +25,8 @@ use system_names::built_in;
 pub(crate) struct Bases {
     /// The direction.
     pub(crate) direction: Direction,
+    /// The name of each track's system.
+    pub(crate) names: Vec<Name>,
     /// The system of each track.
     pub(crate) systems: Vec<BaseK>,
 }
@@ -35,26 +37,30 @@ impl Bases {
     /// # Errors
     /// `SystemUnknown` with the first name that is not known; then `Direction` with the first name and the first later one of
     /// the other direction.
-    pub(crate) fn of_names(alloc: Global, names: &[Name]) -> Result<Self, Fault>
-        requires { 0 < length names.now }
-        ensures { MatchResult result (AreBasesOf names.now) (AreRefusedNames names.now) }
+    pub(crate) fn of_names(alloc: Global, names: Vec<Name>) -> Result<Self, Fault>
+        requires { 0 < length names.items }
+        ensures { MatchResult result (AreBasesOf names.items) (AreRefusedNames names.items) }
     {
-        let systems = known_bases(alloc, names)?;
+        let systems = known_bases(alloc, &names)?;
         let direction = systems[0].direction;
         match other_direction(&systems, direction) {
             Some(place) => Err(Fault::Direction(names[0].copy(alloc)?, names[place].copy(alloc)?)),
-            None => Ok(Bases { direction, systems }),
+            None => Ok(Bases {
+                direction,
+                names,
+                systems,
+            }),
         }
     }
 
     /// The tracks of a header over the systems.
-    pub(crate) fn tracks(&self, alloc: Global, names: &[Name]) -> Result<Systems, OutOfMemory>
-        requires { AreBasesOf names.now self.now }
+    pub(crate) fn tracks(&self, alloc: Global) -> Result<Systems, OutOfMemory>
+        requires { AreBases self.now }
         ensures { IfOk result (λ systems. systems ≡ header_tracks (named_in self.now.systems.items)) }
     {
         let mut tracks = Systems::new(alloc);
         for (place, system) in self.systems.iter().enumerate() {
-            tracks.push(names[place].copy(alloc)?, system.base)?;
+            tracks.push(self.names[place].copy(alloc)?, system.base)?;
         }
         Ok(tracks)
     }

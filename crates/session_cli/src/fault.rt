@@ -10,7 +10,7 @@ use wal_outside::Folder;
 
 /// The part of a command that a fault is about. Bytes count from the part's begin.
 #[derive(Clone, Copy, Debug, PartialEq, Eq)]
-pub enum Part {
+pub enum Grammar {
     /// The command itself.
     Command,
     /// The expression in its quotes.
@@ -23,11 +23,11 @@ pub enum Fault {
     /// F01: its first word is none that a command has.
     Command,
     /// F02: no form goes on with what stands at this byte; or the part ends too early, at its length.
-    Syntax(Part, usize),
+    Syntax(Grammar, usize),
     /// F04: the number at this byte is out of its range.
-    Number(Part, usize),
+    Number(Grammar, usize),
     /// F06: the parenthesis at this byte is nested too deeply.
-    Depth(Part, usize),
+    Depth(Grammar, usize),
     /// F07: it has more bytes than this, or so has the text that it was to store.
     Long(usize),
     /// F14: there is no system of this name.

@@ -34,7 +34,7 @@ mod whole;
 // what holds of all runs
 mod laws;
 
-pub use fault::{Fault, Part};
+pub use fault::{Fault, Grammar};
 pub use laws::{one_outcome, one_run, store_faults_counted};
 pub use printed::Printed;
 pub use session::Session;

@@ -1,21 +1,21 @@
 ghost use Rattle.std.specs.Prelude.{◌≡◌, ◌++◌, codes, decimal};
 ghost use Rattle.wal_outside.specs.Folders.{folder_text};
 ghost use Rattle.wal_outside.specs.Sending.{Sends};
-ghost use Rattle.session_cli.specs.Lines.{part_name as part_text, detail, fault_line};
+ghost use Rattle.session_cli.specs.Lines.{grammar_name as grammar_text, detail, fault_line};
 
-use crate::fault::{Fault, Part};
+use crate::fault::{Fault, Grammar};
 use digit_tuple::name::Name;
 use itoa::Buffer;
 use wal_outside::{Folder, Sink, WriteFault, send, send_four, send_two};
 
-impl Part {
+impl Grammar {
     /// The part's name in a line.
     pub(crate) fn name(self) -> &'static str
-        ensures { result.now ≡ part_text self }
+        ensures { result.now ≡ grammar_text self }
     {
         match self {
-            Part::Command => "command",
-            Part::Regex => "regex",
+            Grammar::Command => "command",
+            Grammar::Regex => "regex",
         }
     }
 }
@@ -39,9 +39,9 @@ fn send_detail<K: Sink>(out: &mut K, fault: &Fault) -> Result<(), WriteFault>
 {
     match fault {
         Fault::Command => send(out, b": F01 Command"),
-        Fault::Syntax(part, at) => send_place(out, b": F02 Syntax in ", *part, *at),
-        Fault::Number(part, at) => send_place(out, b": F04 Number in ", *part, *at),
-        Fault::Depth(part, at) => send_place(out, b": F06 Depth in ", *part, *at),
+        Fault::Syntax(grammar, at) => send_place(out, b": F02 Syntax in ", *grammar, *at),
+        Fault::Number(grammar, at) => send_place(out, b": F04 Number in ", *grammar, *at),
+        Fault::Depth(grammar, at) => send_place(out, b": F06 Depth in ", *grammar, *at),
         Fault::Long(bytes) => send_number(out, b": F07 Long ", *bytes as u64),
         Fault::SystemUnknown(name) => send_two(out, b": F14 SystemUnknown ", name.as_bytes()),
         Fault::Direction(first, other) => send_four(
@@ -60,14 +60,19 @@ fn send_detail<K: Sink>(out: &mut K, fault: &Fault) -> Result<(), WriteFault>
 }
 
 /// Hands over a fault's number and name, its part, and the byte in that.
-fn send_place<K: Sink>(out: &mut K, name: &[u8], part: Part, at: usize) -> Result<(), WriteFault>
-    ensures { Sends (K.view out.old) ((name.now ++ part_text part) ++ (codes " at " ++ decimal at)) result (K.view out.new) }
+fn send_place<K: Sink>(
+    out: &mut K,
+    name: &[u8],
+    grammar: Grammar,
+    at: usize,
+) -> Result<(), WriteFault>
+    ensures { Sends (K.view out.old) ((name.now ++ grammar_text grammar) ++ (codes " at " ++ decimal at)) result (K.view out.new) }
 {
     let mut buffer = Buffer::new();
     send_four(
         out,
         name,
-        part.name().as_bytes(),
+        grammar.name().as_bytes(),
         b" at ",
         buffer.format(at).as_bytes(),
     )

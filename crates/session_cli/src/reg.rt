@@ -1,6 +1,6 @@
 //! The command `reg`: an expression over sets or over systems, kept as an automaton.
 ghost use Rattle.std.specs.Prelude.{◌≡◌, ℕ, ◌≤◌, List, length};
-ghost use Rattle.command_head.specs.HeadViews.{tracks_of};
+ghost use Rattle.command_head.specs.HeadViews.{alphabets_of};
 ghost use Rattle.digit_tuple.specs.Headers.{sets_of};
 ghost use Rattle.digit_tuple.specs.Sets.{sizes_of};
 ghost use Rattle.dfa_text.specs.Meaning.{AreTrackSets};
@@ -8,18 +8,17 @@ ghost use Rattle.session_cli.specs.Trees.{Ledger};
 ghost use Rattle.session_cli.specs.Tracks.{OverSystems, OverSets};
 ghost use Rattle.session_cli.specs.Named.{Custom};
 ghost use Rattle.session_cli.specs.RegOutcomes.{reg_checks, after_head, after_tracks};
-ghost use Rattle.session_cli.specs.Bases.{AreBasesOf, named_in};
-ghost use Rattle.session_cli.specs.Plans.{AreFormedTracks, Makes, ParsesTo, Plans, Prints};
+ghost use Rattle.session_cli.specs.Bases.{AreBases, named_in};
+ghost use Rattle.session_cli.specs.Plans.{AreFormedAlphabets, Makes, ParsesTo, Plans, Prints};
 
 use crate::bases::Bases;
-use crate::fault::{Fault, Part};
+use crate::fault::{Fault, Grammar};
 use crate::plan::{Made, Plan};
 use crate::printed::Printed;
 use command_head::{Alphabets, HeadFault, RegParts, reg_parts};
 use dfa_text::print_relation;
 use digit_tuple::dfa::Dfa;
 use digit_tuple::header::Header;
-use digit_tuple::name::Name;
 use digit_tuple::sets::Sets;
 use digit_tuple::steps::Steps;
 use reg_steps::regex_step::regex_step;
@@ -51,8 +50,8 @@ pub(crate) fn plan_reg(alloc: Global, limit: u32, text: &[u8], shown: bool) -> R
             }),
             Err(fault) => Err(fault),
         },
-        Err(HeadFault::Syntax(at)) => Err(Fault::Syntax(Part::Command, at)),
-        Err(HeadFault::Number(at)) => Err(Fault::Number(Part::Command, at)),
+        Err(HeadFault::Syntax(at)) => Err(Fault::Syntax(Grammar::Command, at)),
+        Err(HeadFault::Number(at)) => Err(Fault::Number(Grammar::Command, at)),
         Err(HeadFault::Memory) => Err(Fault::Memory),
     }
 }
@@ -65,14 +64,14 @@ fn made_over(
     body: &[u8],
     shown: bool,
 ) -> Result<Made, Fault>
-    requires { AreFormedTracks (tracks_of alphabets) }
-    ensures { (custom : Custom) (name : List ℕ) → Makes (after_head limit custom (record { name = name; tracks = tracks_of alphabets; body = body.now })) shown result }
+    requires { AreFormedAlphabets (alphabets_of alphabets) }
+    ensures { (custom : Custom) (name : List ℕ) → Makes (after_head limit custom (record { name = name; alphabets = alphabets_of alphabets; body = body.now })) shown result }
 {
     match alphabets {
         Alphabets::Sets(sets) => regex_over(alloc, limit, sets, body, shown),
         Alphabets::Systems(names) => {
-            let bases = Bases::of_names(alloc, &names)?;
-            regex_over_bases(alloc, limit, &bases, &names, body, shown)
+            let bases = Bases::of_names(alloc, names)?;
+            regex_over_bases(alloc, limit, &bases, body, shown)
         }
     }
 }
@@ -100,14 +99,13 @@ fn regex_over_bases(
     alloc: Global,
     limit: u32,
     bases: &Bases,
-    names: &[Name],
     body: &[u8],
     shown: bool,
 ) -> Result<Made, Fault>
-    requires { AreBasesOf names.now bases.now }
+    requires { AreBases bases.now }
     ensures { (name : List ℕ) → Makes (after_tracks limit name body.now (OverSystems bases.now.direction (named_in bases.now.systems.items))) shown result }
 {
-    let header = Header::Systems(bases.tracks(alloc, names)?);
+    let header = Header::Systems(bases.tracks(alloc)?);
     let regex = parsed(alloc, body, &header)?;
     let languages = bases.languages(alloc)?;
     let mut steps = Steps::new(alloc, limit);
@@ -121,9 +119,9 @@ fn parsed(alloc: Global, body: &[u8], header: &Header) -> Result<Regex, Fault>
 {
     match parse(alloc, body, header) {
         Ok(regex) => Ok(regex),
-        Err(RegexFault::Syntax(at)) => Err(Fault::Syntax(Part::Regex, at)),
-        Err(RegexFault::Number(at)) => Err(Fault::Number(Part::Regex, at)),
-        Err(RegexFault::Depth(at)) => Err(Fault::Depth(Part::Regex, at)),
+        Err(RegexFault::Syntax(at)) => Err(Fault::Syntax(Grammar::Regex, at)),
+        Err(RegexFault::Number(at)) => Err(Fault::Number(Grammar::Regex, at)),
+        Err(RegexFault::Depth(at)) => Err(Fault::Depth(Grammar::Regex, at)),
         Err(RegexFault::Memory) => Err(Fault::Memory),
     }
 }

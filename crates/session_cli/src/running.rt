@@ -1,8 +1,8 @@
 ghost use Rattle.session_cli.specs.Whole.{HasRun};
 ghost use Rattle.session_cli.specs.Ending.{Finishes};
 
-use crate::answering::{answer_command, hand_over_fault, stop_status};
-use crate::fault::{Fault, Part};
+use crate::answering::{Command, answer_command, hand_over, hand_over_fault, stop_status};
+use crate::fault::{Fault, Grammar};
 use crate::planning::COMMAND_LIMIT;
 use crate::session::Session;
 use crate::status::Status;
@@ -26,7 +26,9 @@ pub(crate) fn answer_all<S: Source, K: Sink, T: Store>(
     'items: loop {
         match cutter.cut(script) {
             Ok(Cut::Command(text, shown, line)) => {
-                match answer_command(alloc, session, &text, shown, line, out, store, &mut tally) {
+                let command = Command { text: &text, shown };
+                let answered = answer_command(alloc, session, &command, store, &mut tally);
+                match hand_over(out, line, &answered) {
                     Ok(()) => {}
                     Err(fault) => return stop_status(fault),
                 }
@@ -39,7 +41,7 @@ pub(crate) fn answer_all<S: Source, K: Sink, T: Store>(
                 }
             }
             Err(CutFault::Syntax(line, len)) => {
-                return finish(out, line, Fault::Syntax(Part::Command, len), tally);
+                return finish(out, line, Fault::Syntax(Grammar::Command, len), tally);
             }
             Err(CutFault::ScriptLimit(line)) => {
                 return finish(out, line, Fault::ScriptLimit, tally);

@@ -1,5 +1,5 @@
 ghost use Rattle.std.specs.Prelude.{◌≡◌, false};
-ghost use Rattle.session_cli.specs.Tallies.{AddsFault, tally_status};
+ghost use Rattle.session_cli.specs.Tallies.{AddsFault, AddsResult, tally_status};
 
 use crate::fault::Fault;
 use crate::status::Status;
@@ -47,6 +47,15 @@ impl Tally {
                 store: self.store,
                 memory: self.memory,
             },
+        }
+    }
+
+    /// Counts an answer.
+    pub(crate) fn count(&mut self, answer: &Result<(), Fault>)
+        ensures { AddsResult self.old answer.now self.new }
+    {
+        if let Err(fault) = answer {
+            *self = self.with(fault);
         }
     }
 

@@ -4,7 +4,7 @@ use Rattle.command_head.specs.declared.fault.HeadFault.{HeadFault}
 use Rattle.command_head.specs.declared.head.RegParts.{RegParts}
 use Rattle.command_head.specs.Readings.{Reads, placed}
 use Rattle.command_head.specs.Heads.{AtWord, step, reg_at}
-use Rattle.command_head.specs.HeadViews.{tracks_of, head_view, stage_view}
+use Rattle.command_head.specs.HeadViews.{alphabets_of, head_view, stage_view}
 use Rattle.command_head.specs.Formed.{AreFormed}
 use Rattle.command_head.proofs.ReadingSteps.{Fails-handed_on}
 use Rattle.command_head.proofs.HeadShape.{reg_formed, reg_refused, left_first, left_more, left_refused, left_none, few_open}
@@ -47,7 +47,7 @@ returns-clause-read c =
     subst (Reads head_view c.end.result) (sym same) c.end.ensures
 
 -- what is read gives tracks that are well formed
-formed : (result : Result RegParts HeadFault) (text : List ℕ) → Reads head_view result (reg_at text) → IfOk result (λ parts. AreFormed (length text) (tracks_of parts.alphabets))
+formed : (result : Result RegParts HeadFault) (text : List ℕ) → Reads head_view result (reg_at text) → IfOk result (λ parts. AreFormed (length text) (alphabets_of parts.alphabets))
 formed (Ok parts) text h = reg_formed text (head_view parts) h
 formed (Err e) text h = tt
 

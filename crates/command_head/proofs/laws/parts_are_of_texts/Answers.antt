@@ -1,5 +1,8 @@
-use Rattle.command_head.proofs.JoinedParts.{spelled_text}
+use Rattle.command_head.proofs.JoinedParts.{reg_text, named_text}
 use Rattle.command_head.proofs.laws.parts_are_of_texts.Goals as goal
 
-pub returns : goal.returns
-returns c parts head spells = spelled_text parts head spells
+pub returns-clause-reg : goal.returns-clause-reg
+returns-clause-reg c parts head spells = reg_text parts head spells
+
+pub returns-clause-named : goal.returns-clause-named
+returns-clause-named c word named parts head spells = named_text word parts head named spells

@@ -1,6 +1,4 @@
-use Rattle.std.proofs.lemmas.Result.{err_from_is_err_and}
-use Rattle.session_cli.specs.Tracks.{OverSets}
-use Rattle.session_cli.proofs.RegexPlans.{made_over_sets, refused_over_sets, unparsed}
+use Rattle.session_cli.proofs.RegexPlans.{made_over_sets}
 use Rattle.session_cli.proofs.reg.regex_over.Goals as goal
 
 pub returns : goal.returns

@@ -1,4 +1,4 @@
-use Rattle.std.proofs.Common.{◌≡◌, ℕ, true, false, List, Ok, Err, inl, inr, refl, arith, ◌∙◌, ap}
+use Rattle.std.proofs.Common.{◌≡◌, true, false, Ok, Err, inl, inr, refl, ◌∙◌, ap}
 use Rattle.wal_outside.specs.Causes.{CountsFault}
 use Rattle.wal_outside.specs.Views.{SourceView, StoreView, SinkView}
 use Rattle.script_cut.specs.Cutting.{HasCut}
@@ -7,8 +7,7 @@ use Rattle.script_cut.specs.declared.cut.CutFault.TheVariants as cut_faults
 use Rattle.session_cli.specs.declared.fault.Fault.TheVariants as faults
 use Rattle.session_cli.specs.Trees.{Ledger}
 use Rattle.session_cli.specs.Runs.{StoresTold}
-use Rattle.session_cli.specs.Handing.{HasAnswered}
-use Rattle.session_cli.proofs.Standing.{goes_on, stops, long_step, refuses, refuses_stop}
+use Rattle.session_cli.proofs.Standing.{HasAnswered, goes_on, stops, long_step, refuses, refuses_stop}
 use Rattle.session_cli.proofs.Between.{begun_of, between_first, between_next, between_ends, between_end, between_finishes, between_limit, between_failed, between_memory, room_falls, room_falls_long}
 use Rattle.session_cli.proofs.running.answer_all.Goals as goal
 
@@ -34,16 +33,23 @@ items-preserved-in-Ok-Command g c =
     let from : SourceView = g.S.Source.view c.args.script.now in
     let to : SourceView = g.S.Source.view c.items.script in
     let then : SourceView = g.S.Source.view c.cut.new.from in
-    let new : StoreView = g.T.Store.view c.answer_command.new.store in
-    let now : SinkView = g.K.Sink.view c.answer_command.new.out in
+    let new : StoreView = g.T.Store.view c.answer_command-answered.new.store in
+    let now : SinkView = g.K.Sink.view c.hand_over.new.out in
     let cut : HasCut c.items.cutter to (Ok (cuts.Command c.in-Ok-Command.text c.in-Ok-Command.shown c.in-Ok-Command.line)) c.cut.new.self then = rw c.in-Ok-Command.field-0-is at c.in-Ok-Command.ensures.cut in
     let begun : c.items.cutter.over ≡ false = begun_of c.items.cutter.over _ c.in-Ok-Command.ensures.again (λ is. cc) in
     let kept : then.faults ≡ to.faults = c.in-Ok-Command.ensures.faults in
-    let answered : (ledger : Ledger) → StoresTold ledger mid.files → HasAnswered c.args.session.now.limit ledger mid c.in-Ok-Command.text.items c.in-Ok-Command.shown c.in-Ok-Command.line told c.items.tally (Ok tt) new now c.answer_command.new.tally = rw (c.deref.ensures.value, c.items.invariant.session) at c.in-Ok.ensures.answered in
+    let answered : (ledger : Ledger) → StoresTold ledger mid.files → HasAnswered c.args.session.now.limit ledger mid c.in-Ok-Command.text.items c.in-Ok-Command.shown c.in-Ok-Command.line told c.items.tally (Ok tt) new now c.answer_command-answered.new.tally =
+    λ ledger is. record {
+      result = c.answer_command-answered.result.answer;
+      printed = c.answer_command-answered.result.printed;
+      commands = rw (c.deref.ensures.value, c.items.invariant.session) at c.answer_command-answered.ensures.command ledger is;
+      sends = c.in-Ok.ensures;
+      adds = c.answer_command-answered.ensures.counts;
+    } in
     record {
-      between = between_next c.args.session.now.limit from to then c.items.cutter c.cut.new.self (Ok (cuts.Command c.in-Ok-Command.text c.in-Ok-Command.shown c.in-Ok-Command.line)) old mid new held told now c.items.tally c.answer_command.new.tally begun c.items.invariant.between cut kept
-          (λ script place behind stands item. goes_on c.args.session.now.limit script old mid new held told now place behind c.items.tally c.answer_command.new.tally c.in-Ok-Command.text.items c.in-Ok-Command.shown c.in-Ok-Command.line stands item.0 answered);
-      session = c.answer_command.ensures.session ∙ c.items.invariant.session;
+      between = between_next c.args.session.now.limit from to then c.items.cutter c.cut.new.self (Ok (cuts.Command c.in-Ok-Command.text c.in-Ok-Command.shown c.in-Ok-Command.line)) old mid new held told now c.items.tally c.answer_command-answered.new.tally begun c.items.invariant.between cut kept
+          (λ script place behind stands item. goes_on c.args.session.now.limit script old mid new held told now place behind c.items.tally c.answer_command-answered.new.tally c.in-Ok-Command.text.items c.in-Ok-Command.shown c.in-Ok-Command.line stands item.0 answered);
+      session = c.answer_command-answered.ensures.session ∙ c.items.invariant.session;
     }
 
 pub returns-in-Err : goal.returns-in-Err
@@ -55,14 +61,21 @@ returns-in-Err g c =
     let from : SourceView = g.S.Source.view c.args.script.now in
     let to : SourceView = g.S.Source.view c.items.script in
     let then : SourceView = g.S.Source.view c.cut.new.from in
-    let new : StoreView = g.T.Store.view c.answer_command.new.store in
-    let now : SinkView = g.K.Sink.view c.answer_command.new.out in
+    let new : StoreView = g.T.Store.view c.answer_command-answered.new.store in
+    let now : SinkView = g.K.Sink.view c.hand_over.new.out in
     let cut : HasCut c.items.cutter to (Ok (cuts.Command c.in-Ok-Command.text c.in-Ok-Command.shown c.in-Ok-Command.line)) c.cut.new.self then = rw c.in-Ok-Command.field-0-is at c.in-Ok-Command.ensures.cut in
     let begun : c.items.cutter.over ≡ false = begun_of c.items.cutter.over _ c.in-Ok-Command.ensures.again (λ is. cc) in
     let kept : then.faults ≡ to.faults = c.in-Ok-Command.ensures.faults in
-    let answered : (ledger : Ledger) → StoresTold ledger mid.files → HasAnswered c.args.session.now.limit ledger mid c.in-Ok-Command.text.items c.in-Ok-Command.shown c.in-Ok-Command.line told c.items.tally (Err c.in-Err.fault) new now c.answer_command.new.tally = rw (c.deref.ensures.value, c.items.invariant.session) at c.in-Err.ensures.answered in
+    let answered : (ledger : Ledger) → StoresTold ledger mid.files → HasAnswered c.args.session.now.limit ledger mid c.in-Ok-Command.text.items c.in-Ok-Command.shown c.in-Ok-Command.line told c.items.tally (Err c.in-Err.fault) new now c.answer_command-answered.new.tally =
+    λ ledger is. record {
+      result = c.answer_command-answered.result.answer;
+      printed = c.answer_command-answered.result.printed;
+      commands = rw (c.deref.ensures.value, c.items.invariant.session) at c.answer_command-answered.ensures.command ledger is;
+      sends = c.in-Err.ensures;
+      adds = c.answer_command-answered.ensures.counts;
+    } in
     between_ends c.args.session.now.limit from to then c.items.cutter c.cut.new.self (Ok (cuts.Command c.in-Ok-Command.text c.in-Ok-Command.shown c.in-Ok-Command.line)) old mid new held told now c.items.tally c.stop_status.result begun c.items.invariant.between cut kept
-    (λ gave more place behind stands item source. inr (inl (stops c.args.session.now.limit _ from then old mid new held told now place behind c.items.tally c.answer_command.new.tally c.in-Ok-Command.text.items c.in-Ok-Command.shown c.in-Ok-Command.line c.in-Err.fault c.stop_status.result stands item.0 answered source c.stop_status.ensures)))
+    (λ gave more place behind stands item source. inr (inl (stops c.args.session.now.limit _ from then old mid new held told now place behind c.items.tally c.answer_command-answered.new.tally c.in-Ok-Command.text.items c.in-Ok-Command.shown c.in-Ok-Command.line c.in-Err.fault c.stop_status.result stands item.0 answered source c.stop_status.ensures)))
 
 pub returns-in-Ok-End : goal.returns-in-Ok-End
 returns-in-Ok-End g c =

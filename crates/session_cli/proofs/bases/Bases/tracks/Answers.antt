@@ -15,7 +15,7 @@ loop-place-preserved c =
     let is : s ≡ get_or items i s = c.system-item.is ∙ ap (λ xs. get_or xs i s) c.deref-system-items.ensures.value in
     let front : take (i + 1) items ≡ take i items ++ s ∷ [] = take_more items i s within ∙ ap (λ x. take i items ++ x ∷ []) (sym is) in
     let named : c.in_ok-copy.field-0 ≡ name_of s =
-    c.in_ok-copy.ensures ∙ c.index-names-place.is ∙ ap (λ ns. get_or ns i c.index-names-place.result) c.requires.names_are ∙ name_at items i s c.index-names-place.result within is in
+    c.in_ok-copy.ensures ∙ c.index.ensures ∙ ap (λ ns. get_or ns i c.index.result.now) c.requires.names_are ∙ name_at items i s c.index.result.now within is in
     c.in_ok-push.ensures.ok
     ∙ ap (λ ts. ts ++ (let t : SystemTrack = record { name = c.in_ok-copy.field-0; digits = s.base } in t) ∷ []) c.loop-place.invariant
     ∙ ap (λ n. header_tracks (named_in (take i items)) ++ (let t : SystemTrack = record { name = n; digits = s.base } in t) ∷ []) named
