@@ -1,4 +1,10 @@
 pub mod Relations
 pub mod Placed
 pub mod Comparisons
+pub mod Joins
+pub mod Complements
+pub mod Projections
+pub mod Constants
+pub mod Multiples
+pub mod StepLaws
 pub mod Laws

@@ -23,5 +23,26 @@ pub mod comparison;
 /// The comparisons, the sums and the numbers of one system.
 pub mod arithmetic;
 
+/// The systems of a step's tracks.
+mod track_systems;
+
+/// Relations joined by a connective.
+pub mod join;
+
+/// Complements of relations.
+pub mod complement;
+
+/// Projections of relations.
+pub mod projection;
+
+/// Relations that hold of one number alone.
+pub mod constant;
+
+/// Multiples of a number by a factor.
+pub mod multiple;
+
 /// Laws of relations.
 pub mod laws;
+
+/// Laws of steps on relations.
+pub mod step_laws;

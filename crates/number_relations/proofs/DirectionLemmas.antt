@@ -1,0 +1,40 @@
+-- Over no tracks the direction makes no difference.
+use Rattle.std.proofs.Common.{◌≡◌, ℕ, List, [], ◌∷◌, sym, subst, IsTrue}
+use Rattle.std.specs.List.{AllByRecursion}
+use Rattle.digit_tuple.specs.Letters.{IsWord}
+use Rattle.digit_tuple.specs.Paddings.{in_order}
+use Rattle.digit_tuple.specs.Deterministic.{Automaton, accepts_of}
+use Rattle.digit_tuple.specs.declared.direction.Direction.{Direction}
+use Rattle.digit_tuple.specs.declared.direction.Direction.TheVariants.{Msd}
+use Rattle.numeration.specs.Spelling.{Spells, letters_in}
+use Rattle.numeration.specs.Relations.{HoldsOf}
+use Rattle.num_system.specs.Sealed.{SystemValue}
+use Rattle.number_relations.specs.Relations.{way_of, systems_of}
+
+-- over no tracks each word spells what any word spells
+no_tracks : (v w ns : List ℕ) → Spells [] v ns → Spells [] w ns
+no_tracks v w [] spelled = tt
+no_tracks v w (n ∷ ns) spelled = absurd spelled
+
+-- so an automaton that holds of a relation in one direction holds of it in each
+either_way : (v w : Direction) (P : List ℕ → Type 0) (d : Automaton) → HoldsOf v [] P d → HoldsOf w [] P d
+either_way v w P d holds = record { sizes = holds.sizes; accepts = λ u over. (there u over, back u over) }
+  where
+    there : (u : List ℕ) → IsWord (letters_in []) u → IsTrue (accepts_of d u) → (ns : List ℕ) × Spells [] (in_order w u) ns × P ns
+    there u over accepted =
+        let found = (holds.accepts u over).0 accepted in
+        (found.0, no_tracks (in_order v u) (in_order w u) found.0 found.1, found.2)
+
+    back : (u : List ℕ) → IsWord (letters_in []) u → (ns : List ℕ) × Spells [] (in_order w u) ns × P ns → IsTrue (accepts_of d u)
+    back u over (ns, spelled, p) = (holds.accepts u over).1 (ns, no_tracks (in_order w u) (in_order v u) ns spelled, p)
+
+-- where all tracks have this direction, theirs is this one or there is no track
+pub way_to : (w : Direction) (systems : List SystemValue) (P : List ℕ → Type 0) (d : Automaton) → AllByRecursion (λ (s : SystemValue). s.way ≡ w) systems
+    → HoldsOf (way_of systems) (systems_of systems) P d → HoldsOf w (systems_of systems) P d
+way_to w [] P d ways holds = either_way Msd w P d holds
+way_to w (s ∷ systems) P d ways holds = subst (λ way. HoldsOf way (systems_of (s ∷ systems)) P d) ways.0 holds
+
+pub way_from : (w : Direction) (systems : List SystemValue) (P : List ℕ → Type 0) (d : Automaton) → AllByRecursion (λ (s : SystemValue). s.way ≡ w) systems
+    → HoldsOf w (systems_of systems) P d → HoldsOf (way_of systems) (systems_of systems) P d
+way_from w [] P d ways holds = either_way w Msd P d holds
+way_from w (s ∷ systems) P d ways holds = subst (λ way. HoldsOf way (systems_of (s ∷ systems)) P d) (sym ways.0) holds

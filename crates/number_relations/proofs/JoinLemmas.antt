@@ -1,0 +1,96 @@
+-- Joins of relations.
+use Rattle.std.proofs.Common.{◌≡◌, ℕ, List, ◌++◌, length, ap, sym, ◌∙◌, subst, ◌↔◌}
+use Rattle.std.specs.List.{AllByRecursion}
+use Rattle.std.proofs.lemmas.List.{length-map}
+use Rattle.digit_tuple.specs.Names.{AreDistinct, joint_names, places_of}
+use Rattle.digit_tuple.specs.declared.direction.Direction.{Direction}
+use Rattle.digit_tuple.proofs.JointNames.{AreJoint-joint_names}
+use Rattle.product_op.specs.declared.op.Op.{Op}
+use Rattle.product_op.specs.Tracks.{joint_size, joint_sizes}
+use Rattle.product_op.specs.Validity.{AreLanguages}
+use Rattle.product_op.proofs.SizeLemmas.{AreDistinct-ordered}
+use Rattle.numeration.specs.Systems.{System}
+use Rattle.numeration.specs.Relations.{HoldsOf}
+use Rattle.numeration.specs.SomeTracks.{systems_at}
+use Rattle.num_system.specs.Joined.{joined, IsBound}
+use Rattle.num_system.specs.Sealed.{SystemValue, system_of, IsSealed}
+use Rattle.num_system.proofs.NamedLinks.{in_product_holds}
+use Rattle.number_relations.specs.Relations.{RelationValue, HaveOneWay, IsRelation, RelationHolds, named_of, system_under, systems_of, way_of}
+use Rattle.number_relations.specs.Joins.{AgreeOnSystems, HaveOneDirection, IsRelationJoin, joint_systems, languages_of}
+use Rattle.number_relations.proofs.HoldLemmas.{closed_from, holds_spelling, spelling_holds}
+use Rattle.number_relations.proofs.RelationLemmas.{are_systems}
+use Rattle.number_relations.proofs.DirectionLemmas.{way_from, way_to}
+use Rattle.number_relations.proofs.SealedLemmas.{AreAllWay, languages_are, languages_fit, one_way_from}
+use Rattle.number_relations.proofs.JointSystems.{first_systems, first_ways, joint_all, joint_sizes_are, second_systems, second_ways}
+
+module _ (a b : RelationValue) (is_a : IsRelation a) (is_b : IsRelation b) (agree : AgreeOnSystems a b) where
+  abbrev joint : List (List ℕ)
+  joint = joint_names a.names b.names
+
+  abbrev systems : List SystemValue
+  systems = joint_systems a b
+
+  sealed : AllByRecursion IsSealed systems
+  sealed = joint_all a b is_a is_b agree IsSealed is_a.sealed is_b.sealed
+
+  long : length systems ≡ length joint
+  long = length-map joint (system_under (a.names ++ b.names) (a.systems ++ b.systems))
+
+  -- there is a language for each joint track
+  pub joint_languages : AreLanguages (joint_sizes (named_of a) (named_of b)) (languages_of systems)
+  joint_languages = subst (λ (sizes : List ℕ). AreLanguages sizes (languages_of systems)) (sym (joint_sizes_are a b is_a is_b agree)) (languages_fit systems sealed)
+
+  module _ (direction : HaveOneDirection a b) where
+    abbrev way : Direction
+    way = way_of (a.systems ++ b.systems)
+
+    ways_a : AreAllWay way a.systems
+    ways_a = first_ways a.systems b.systems is_a.one_way
+
+    ways_b : AreAllWay way b.systems
+    ways_b = second_ways a.systems b.systems is_b.one_way direction
+
+    ways : AreAllWay way systems
+    ways = joint_all a b is_a is_b agree (λ (s : SystemValue). s.way ≡ way) ways_a ways_b
+
+    holds_a : HoldsOf way (systems_at (places_of joint a.names) (systems_of systems)) (RelationHolds a) a.automaton
+    holds_a = subst (λ (ss : List System). HoldsOf way ss (RelationHolds a) a.automaton) (sym (first_systems a b is_a is_b agree)) (way_to way a.systems (RelationHolds a) a.automaton ways_a is_a.closed)
+
+    holds_b : HoldsOf way (systems_at (places_of joint b.names) (systems_of systems)) (RelationHolds b) b.automaton
+    holds_b = subst (λ (ss : List System). HoldsOf way ss (RelationHolds b) b.automaton) (sym (second_systems a b is_a is_b agree)) (way_to way b.systems (RelationHolds b) b.automaton ways_b is_b.closed)
+
+    -- what the connective says of the relations on the joint tracks
+    abbrev says : Op → List ℕ → Type 0
+    says op = joined op (places_of joint a.names) (RelationHolds a) (places_of joint b.names) (RelationHolds b)
+
+    module _ (op : Op) (c : RelationValue) (bound : IsBound op a.names b.names) (made : IsRelationJoin op a b c) where
+      product_says : HoldsOf (way_of c.systems) (systems_of c.systems) (says op) c.automaton
+      product_says = subst (λ (ss : List SystemValue). HoldsOf (way_of ss) (systems_of ss) (says op) c.automaton) (sym made.systems)
+          (way_from way systems (says op) c.automaton ways
+          (in_product_holds way (systems_of systems) (named_of a) (named_of b) (RelationHolds a) (RelationHolds b) (length-map systems system_of ∙ long) (joint_sizes_are a b is_a is_b agree) holds_a holds_b
+          op (languages_of systems) bound (λ among. languages_are way systems sealed ways) c.automaton made.join.sizes made.join.language))
+
+      sealed_c : AllByRecursion IsSealed c.systems
+      sealed_c = subst (λ (ss : List SystemValue). AllByRecursion IsSealed ss) (sym made.systems) sealed
+
+      count_c : length c.systems ≡ length c.names
+      count_c = ap length made.systems ∙ long ∙ sym (ap length made.join.names)
+
+      pub join_is : IsRelation c
+      join_is = record {
+        tracked = record {
+          count = ap length made.join.names ∙ sym (ap length made.join.sizes ∙ length-map joint (joint_size (named_of a) (named_of b)));
+          distinct = subst (λ (names : List (List ℕ)). AreDistinct names) (sym made.join.names) (AreDistinct-ordered joint (AreJoint-joint_names a.names b.names).ordered);
+          canonical = made.join.canonical;
+        };
+        count = count_c;
+        sealed = sealed_c;
+        one_way = subst (λ (ss : List SystemValue). HaveOneWay ss) (sym made.systems) (one_way_from way systems ways);
+        closed = closed_from (way_of c.systems) (systems_of c.systems) (says op) c.automaton product_says;
+      }
+
+      pub join_holds : (ns : List ℕ) → length ns ≡ length c.names → RelationHolds c ns ↔ joined op (places_of c.names a.names) (RelationHolds a) (places_of c.names b.names) (RelationHolds b) ns
+      join_holds ns count = subst (λ (names : List (List ℕ)). RelationHolds c ns ↔ joined op (places_of names a.names) (RelationHolds a) (places_of names b.names) (RelationHolds b) ns) (sym made.join.names) (
+        spelling_holds (way_of c.systems) (systems_of c.systems) (says op) c.automaton product_says ns,
+        holds_spelling (way_of c.systems) (systems_of c.systems) (says op) c.automaton product_says (are_systems c.systems sealed_c) ns (count ∙ sym (length-map c.systems system_of ∙ count_c)),
+      )
