@@ -2,15 +2,15 @@
 
 ghost use Rattle.std.specs.Prelude.{◌≡◌};
 
+use crate::row_fault::RowFault;
 use digit_tuple::alphabet::Alphabet;
 use digit_tuple::faults::OpFault;
 use digit_tuple::kind::Kind;
 use digit_tuple::letter_parts::letter_parts;
 use digit_tuple::steps::Steps;
-use std::test::Fail;
 
 #[test]
-fn letters_and_digits_are_inverse(rt: HostRuntime) -> Result<(), Fail> {
+fn letters_and_digits_are_inverse(rt: HostRuntime) -> Result<(), RowFault> {
     let alphabet = Alphabet::new(rt.alloc(), &[2, 3])?.copy(rt.alloc())?;
     assert_eq!(rt; alphabet.tracks(), 2);
     assert_eq!(rt; alphabet.size(1), 3);
@@ -34,7 +34,7 @@ const LETTERS: [(&[u32], Option<u32>); 8] = [
 ];
 
 #[test]
-fn sixteen_tracks_and_65536_letters_are_the_most(rt: HostRuntime) -> Result<(), Fail> {
+fn sixteen_tracks_and_65536_letters_are_the_most(rt: HostRuntime) -> Result<(), RowFault> {
     for (sizes, letters) in LETTERS {
         let made = Alphabet::new(rt.alloc(), sizes);
         match letters {
@@ -46,7 +46,7 @@ fn sixteen_tracks_and_65536_letters_are_the_most(rt: HostRuntime) -> Result<(), 
 }
 
 #[test]
-fn parts_are_taken_in_the_order_of_the_places(rt: HostRuntime) -> Result<(), Fail> {
+fn parts_are_taken_in_the_order_of_the_places(rt: HostRuntime) -> Result<(), RowFault> {
     let alphabet = Alphabet::new(rt.alloc(), &[2, 3])?;
     let turned = Alphabet::new(rt.alloc(), &[3, 2])?;
     let parts = letter_parts(rt.alloc(), &alphabet, &[1, 0], &turned)?;
@@ -58,7 +58,7 @@ fn parts_are_taken_in_the_order_of_the_places(rt: HostRuntime) -> Result<(), Fai
 }
 
 #[test]
-fn steps_are_kept_in_order(rt: HostRuntime) -> Result<(), Fail> {
+fn steps_are_kept_in_order(rt: HostRuntime) -> Result<(), RowFault> {
     let mut steps = Steps::new(rt.alloc(), 1000);
     assert_eq!(rt; steps.limit(), 1000);
     steps.done(Kind::Product, 6, 4)?;

@@ -1,67 +1,64 @@
 //! The texts of automata over sets and over systems, and what texts mean.
 
-ghost use Rattle.std.specs.Prelude.{◌≡◌, ◌<◌, ◌^◌, length};
-
-use crate::automata::{automaton, dfa, header_of};
+use crate::headers::header_of;
+use crate::row_fault::RowFault;
+use crate::table_texts::listed;
 use dfa_text::listed::FileFault;
 use dfa_text::{accepts, print_relation, read_listed};
 use digit_tuple::alphabet::Alphabet;
-use digit_tuple::dfa::Dfa;
 use digit_tuple::header::Header;
 use digit_tuple::name::Name;
 use digit_tuple::systems::Systems;
 use std::alloc::Global;
-use std::test::Fail;
 
 // The text of an automaton over the header's tracks.
-fn text_of(alloc: Global, header: &Header, dfa: &Dfa) -> Result<Vec<u8>, Fail> {
+fn text_of(alloc: Global, header: &Header, line: &str) -> Result<Vec<u8>, RowFault> {
     let alphabet = Alphabet::of_header(alloc, header)?;
+    let dfa = listed(alloc, line)?;
     if alphabet.sizes() == dfa.alphabet().sizes() {
-        Ok(print_relation(alloc, header, dfa)?)
+        Ok(print_relation(alloc, header, &dfa)?)
     } else {
-        Err(Fail::from("the tracks of the header"))
+        Err(RowFault::Form)
     }
 }
 
+// Sets, automata over them, and their texts.
+static TEXTS: [(&[&[i32]], &str, &str); 3] = [
+    // words that end in one 1
+    (
+        &[&[0, 1]],
+        "x:2 = / 0>0 1>1/!",
+        "{0,1}\n\n0 0\n0 -> 0\n1 -> 1\n\n1 1\n",
+    ),
+    // pairs of members
+    (
+        &[&[-3, 5], &[5, 7]],
+        "x:2 y:2 = /! 1>0 2>0",
+        "{-3,5} {5,7}\n\n0 1\n-3 7 -> 0\n5 5 -> 0\n",
+    ),
+    // no word
+    (&[&[0, 1]], "x:2 = /", "{0,1}\n\n0 0\n"),
+];
+
 #[test]
-fn words_that_end_in_one(rt: HostRuntime) -> Result<(), Fail> {
-    let header = header_of(rt.alloc(), &[&[0, 1]])?;
-    let made = automaton(rt.alloc(), &[2], "0*1")?;
-    let text = text_of(rt.alloc(), &header, &made)?;
-    let wanted = b"{0,1}\n\n0 0\n0 -> 0\n1 -> 1\n\n1 1\n";
-    assert_eq!(rt; text.as_slice(), wanted.as_slice());
+fn automata_over_sets_have_these_texts(rt: HostRuntime) -> Result<(), RowFault> {
+    for (tracks, line, wanted) in TEXTS {
+        let header = header_of(rt.alloc(), tracks)?;
+        let text = text_of(rt.alloc(), &header, line)?;
+        assert_eq!(rt; text.as_slice(), wanted.as_bytes(), "of {line}");
+    }
     Ok(())
 }
 
 #[test]
-fn pairs_of_members(rt: HostRuntime) -> Result<(), Fail> {
-    let header = header_of(rt.alloc(), &[&[-3, 5], &[5, 7]])?;
-    let made = automaton(rt.alloc(), &[2, 2], "([0,1]|[1,0])*")?;
-    let text = text_of(rt.alloc(), &header, &made)?;
-    let wanted = b"{-3,5} {5,7}\n\n0 1\n-3 7 -> 0\n5 5 -> 0\n";
-    assert_eq!(rt; text.as_slice(), wanted.as_slice());
-    Ok(())
-}
-
-#[test]
-fn no_word(rt: HostRuntime) -> Result<(), Fail> {
-    let header = header_of(rt.alloc(), &[&[0, 1]])?;
-    let nothing = dfa(rt.alloc(), &[2], "0", &[])?;
-    let text = text_of(rt.alloc(), &header, &nothing)?;
-    assert_eq!(rt; text.as_slice(), b"{0,1}\n\n0 0\n".as_slice());
-    Ok(())
-}
-
-#[test]
-fn digits_of_systems(rt: HostRuntime) -> Result<(), Fail> {
+fn automata_over_systems_have_their_digits(rt: HostRuntime) -> Result<(), RowFault> {
     let mut systems = Systems::new(rt.alloc());
     systems.push(Name::new(rt.alloc(), "msd_2")?, 2)?;
     systems.push(Name::new(rt.alloc(), "msd_12")?, 12)?;
     let header = Header::Systems(systems);
-    let made = dfa(rt.alloc(), &[2, 12], "1", &[[0, 0, 0], [0, 23, 0]])?;
-    let text = text_of(rt.alloc(), &header, &made)?;
-    let wanted = b"msd_2 msd_12\n\n0 1\n0 0 -> 0\n1 11 -> 0\n";
-    assert_eq!(rt; text.as_slice(), wanted.as_slice());
+    let text = text_of(rt.alloc(), &header, "x:2 y:12 = /! 0>0 23>0")?;
+    let wanted = "msd_2 msd_12\n\n0 1\n0 0 -> 0\n1 11 -> 0\n";
+    assert_eq!(rt; text.as_slice(), wanted.as_bytes());
     Ok(())
 }
 
@@ -82,7 +79,7 @@ const WORDS: [(&str, &[&[i32]], bool); 7] = [
 ];
 
 // Whether a short file accepts a word.
-fn accepts_word(alloc: Global, text: &[u8], tuples: &[&[i32]]) -> Result<bool, Fail> {
+fn accepts_word(alloc: Global, text: &[u8], tuples: &[&[i32]]) -> Result<bool, RowFault> {
     let mut word = Vec::new(alloc);
     for tuple in tuples {
         word.push(tuple.to_vec(alloc)?)?;
@@ -90,12 +87,12 @@ fn accepts_word(alloc: Global, text: &[u8], tuples: &[&[i32]]) -> Result<bool, F
     if text.len() < 1000 {
         Ok(accepts(alloc, text, &word)?)
     } else {
-        Err(Fail::from("a short file"))
+        Err(RowFault::Form)
     }
 }
 
 #[test]
-fn files_accept_these_words(rt: HostRuntime) -> Result<(), Fail> {
+fn files_accept_these_words(rt: HostRuntime) -> Result<(), RowFault> {
     for (text, tuples, wanted) in WORDS {
         let found = accepts_word(rt.alloc(), text.as_bytes(), tuples)?;
         assert_eq!(rt; found, wanted, "of {text}");
@@ -103,10 +100,11 @@ fn files_accept_these_words(rt: HostRuntime) -> Result<(), Fail> {
     Ok(())
 }
 
-// What stands in a file, of which there are fewer bytes than this: how many states, or the line of the fault.
-fn states_in(alloc: Global, text: &[u8]) -> Result<usize, u64>
-    requires { length text.now < 2 ^ 63 }
-{
+// What stands in a short file: how many states, or the line of the fault.
+fn states_in(alloc: Global, text: &[u8]) -> Result<usize, u64> {
+    if text.len() >= 1000 {
+        return Err(0);
+    }
     match read_listed(alloc, text) {
         Ok(listed) => Ok(listed.states.len()),
         Err(FileFault::File(line)) => Err(line),
@@ -130,12 +128,10 @@ const FILES: [(&str, Result<usize, u64>); 11] = [
 ];
 
 #[test]
-fn files_are_read_or_name_a_line(rt: HostRuntime) -> Result<(), Fail> {
+fn files_are_read_or_name_a_line(rt: HostRuntime) -> Result<(), RowFault> {
     for (text, wanted) in FILES {
-        if text.len() < 1000 {
-            let found = states_in(rt.alloc(), text.as_bytes());
-            assert_eq!(rt; found, wanted, "of {text}");
-        }
+        let found = states_in(rt.alloc(), text.as_bytes());
+        assert_eq!(rt; found, wanted, "of {text}");
     }
     Ok(())
 }

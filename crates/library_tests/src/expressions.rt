@@ -1,6 +1,7 @@
 //! Texts of expressions, with their trees by hand, and texts that are none.
 
-use crate::automata::header_of;
+use crate::headers::header_of;
+use crate::row_fault::RowFault;
 use digit_tuple::header::Header;
 use reference::words::all_words;
 use regex_build::fault::RegexFault;
@@ -8,10 +9,9 @@ use regex_build::parse;
 use regex_build::regex::Regex;
 use regex_build::step::Step;
 use std::alloc::Global;
-use std::test::Fail;
 
 // Writes a step: a letter by its members, and `&` for one after the other.
-fn show_step(alloc: Global, step: &Step, text: &mut String) -> Result<(), Fail> {
+fn show_step(alloc: Global, step: &Step, text: &mut String) -> Result<(), RowFault> {
     match step {
         Step::Empty => text.push_str("()")?,
         Step::Letter(letter) => {
@@ -31,7 +31,7 @@ fn show_step(alloc: Global, step: &Step, text: &mut String) -> Result<(), Fail> 
 }
 
 // The steps in postfix order.
-fn shown(alloc: Global, regex: &Regex) -> Result<String, Fail> {
+fn shown(alloc: Global, regex: &Regex) -> Result<String, RowFault> {
     let mut text = String::new(alloc);
     for step in regex.steps() {
         show_step(alloc, step, &mut text)?;
@@ -55,7 +55,7 @@ const TREES: [(&str, &str); 11] = [
 ];
 
 #[test]
-fn trees_over_one_set(rt: HostRuntime) -> Result<(), Fail> {
+fn trees_over_one_set(rt: HostRuntime) -> Result<(), RowFault> {
     let header = header_of(rt.alloc(), &[&[-1, 0, 1, 7, 10]])?;
     for (text, steps) in TREES {
         let regex = parse(rt.alloc(), text.as_bytes(), &header)?;
@@ -65,7 +65,7 @@ fn trees_over_one_set(rt: HostRuntime) -> Result<(), Fail> {
 }
 
 #[test]
-fn trees_over_two_sets(rt: HostRuntime) -> Result<(), Fail> {
+fn trees_over_two_sets(rt: HostRuntime) -> Result<(), RowFault> {
     let header = header_of(rt.alloc(), &[&[0, 1], &[-2147483648, 2147483647]])?;
     let regex = parse(rt.alloc(), b"[0,-2147483648].|[1,2147483647]*", &header)?;
     let made = shown(rt.alloc(), &regex)?;
@@ -112,7 +112,7 @@ const FAULTS: [(&[&[i32]], &str, Option<RegexFault>); 30] = [
 ];
 
 #[test]
-fn texts_have_these_faults(rt: HostRuntime) -> Result<(), Fail> {
+fn texts_have_these_faults(rt: HostRuntime) -> Result<(), RowFault> {
     for (tracks, text, fault) in FAULTS {
         let header = header_of(rt.alloc(), tracks)?;
         let found = parse(rt.alloc(), text.as_bytes(), &header).err();
@@ -122,7 +122,7 @@ fn texts_have_these_faults(rt: HostRuntime) -> Result<(), Fail> {
 }
 
 // So many parentheses in one another.
-fn nested(alloc: Global, depth: usize) -> Result<Vec<u8>, Fail> {
+fn nested(alloc: Global, depth: usize) -> Result<Vec<u8>, RowFault> {
     let mut text = vec![in alloc; b'('; depth]?;
     for _ in 0..depth {
         text.push(b')')?;
@@ -131,7 +131,7 @@ fn nested(alloc: Global, depth: usize) -> Result<Vec<u8>, Fail> {
 }
 
 #[test]
-fn parentheses_nest_128_deep(rt: HostRuntime) -> Result<(), Fail> {
+fn parentheses_nest_128_deep(rt: HostRuntime) -> Result<(), RowFault> {
     let header = header_of(rt.alloc(), &[&[0]])?;
     let most = parse(rt.alloc(), &nested(rt.alloc(), 128)?, &header);
     assert_eq!(rt; most.err(), None);
@@ -141,14 +141,14 @@ fn parentheses_nest_128_deep(rt: HostRuntime) -> Result<(), Fail> {
 }
 
 // How many texts over these bytes have an expression, up to a length.
-fn read(alloc: Global, header: &Header, bytes: &[u8], longest: usize) -> Result<usize, Fail> {
+fn read(alloc: Global, header: &Header, bytes: &[u8], longest: usize) -> Result<usize, RowFault> {
     let mut count: usize = 0;
     let letters = u32::try_from(bytes.len())?;
     for length in 0..=longest {
         for word in &all_words(alloc, letters, length)? {
             let mut text = Vec::new(alloc);
             for place in word.letters() {
-                text.push(*bytes.get(*place as usize).ok_or("a byte")?)?;
+                text.push(*bytes.get(*place as usize).ok_or(RowFault::Form)?)?;
             }
             count = count.saturating_add(usize::from(parse(alloc, &text, header).is_ok()));
         }
@@ -167,7 +167,7 @@ const READ: [(&[&[i32]], &str, usize, usize); 5] = [
 ];
 
 #[test]
-fn expressions_are_counted(rt: HostRuntime) -> Result<(), Fail> {
+fn expressions_are_counted(rt: HostRuntime) -> Result<(), RowFault> {
     for (tracks, bytes, longest, count) in READ {
         let header = header_of(rt.alloc(), tracks)?;
         let found = read(rt.alloc(), &header, bytes.as_bytes(), longest)?;

@@ -2,18 +2,37 @@
 
 ghost use Rattle.std.specs.Prelude.{◌≡◌};
 
-use crate::automata::{names_of, tracks_of};
+use crate::row_fault::RowFault;
+use crate::table_texts::sets_of;
 use digit_tuple::alphabet::Alphabet;
 use digit_tuple::header::Header;
 use digit_tuple::letter_set::LetterSet;
 use digit_tuple::name::Name;
-use digit_tuple::names::{are_distinct, find_name, joint_names, names_without, places_in};
+use digit_tuple::names::{are_distinct, find_name, joint_names, names_without};
+use digit_tuple::sets::Sets;
 use digit_tuple::systems::Systems;
 use std::alloc::Global;
-use std::test::Fail;
+
+/// Names with these texts.
+pub fn names_of(alloc: Global, texts: &[&str]) -> Result<Vec<Name>, RowFault> {
+    let mut names = Vec::new(alloc);
+    for text in texts {
+        names.push(Name::new(alloc, text)?)?;
+    }
+    Ok(names)
+}
+
+/// The header of these sets.
+pub fn header_of(alloc: Global, tracks: &[&[i32]]) -> Result<Header, RowFault> {
+    let mut sets = Sets::new(alloc);
+    for members in tracks {
+        sets.push(LetterSet::try_new(members.to_vec(alloc)?).ok_or(RowFault::Form)?)?;
+    }
+    Ok(Header::Sets(sets))
+}
 
 #[test]
-fn a_name_keeps_its_text(rt: HostRuntime) -> Result<(), Fail> {
+fn a_name_keeps_its_text(rt: HostRuntime) -> Result<(), RowFault> {
     let name = Name::new(rt.alloc(), "ab")?;
     let copy = name.copy(rt.alloc())?;
     assert_eq!(rt; name.as_str(), "ab");
@@ -22,7 +41,7 @@ fn a_name_keeps_its_text(rt: HostRuntime) -> Result<(), Fail> {
 }
 
 // The texts of names, with a blank between.
-fn texts_of(alloc: Global, names: &[Name]) -> Result<String, Fail> {
+fn texts_of(alloc: Global, names: &[Name]) -> Result<String, RowFault> {
     let mut text = String::new(alloc);
     for name in names {
         text.push_str(name.as_str())?;
@@ -32,7 +51,7 @@ fn texts_of(alloc: Global, names: &[Name]) -> Result<String, Fail> {
 }
 
 #[test]
-fn names_are_found_at_their_places(rt: HostRuntime) -> Result<(), Fail> {
+fn names_are_found_at_their_places(rt: HostRuntime) -> Result<(), RowFault> {
     let names = names_of(rt.alloc(), &["y", "x", "yy"])?;
     assert!(rt; are_distinct(&names));
     assert_eq!(rt; find_name(&names, &Name::new(rt.alloc(), "x")?), Some(1));
@@ -43,7 +62,7 @@ fn names_are_found_at_their_places(rt: HostRuntime) -> Result<(), Fail> {
 }
 
 #[test]
-fn names_are_joined_in_byte_order(rt: HostRuntime) -> Result<(), Fail> {
+fn names_are_joined_in_byte_order(rt: HostRuntime) -> Result<(), RowFault> {
     let alloc = rt.alloc();
     let first = names_of(alloc, &["y", "x", "B"])?;
     let second = names_of(alloc, &["z", "x", "a"])?;
@@ -55,8 +74,8 @@ fn names_are_joined_in_byte_order(rt: HostRuntime) -> Result<(), Fail> {
 }
 
 #[test]
-fn a_set_finds_its_members(rt: HostRuntime) -> Result<(), Fail> {
-    let set = LetterSet::try_new([-3, 0, 7].to_vec(rt.alloc())?).ok_or("ascending")?;
+fn a_set_finds_its_members(rt: HostRuntime) -> Result<(), RowFault> {
+    let set = LetterSet::try_new([-3, 0, 7].to_vec(rt.alloc())?).ok_or(RowFault::Form)?;
     assert_eq!(rt; set.len(), 3);
     assert!(rt; !set.is_empty());
     assert_eq!(rt; set.place_of(7), Some(2));
@@ -66,15 +85,15 @@ fn a_set_finds_its_members(rt: HostRuntime) -> Result<(), Fail> {
 }
 
 #[test]
-fn a_set_has_no_member_twice(rt: HostRuntime) -> Result<(), Fail> {
+fn a_set_has_no_member_twice(rt: HostRuntime) -> Result<(), RowFault> {
     assert!(rt; LetterSet::try_new([1, 1].to_vec(rt.alloc())?).is_none());
     assert!(rt; LetterSet::try_new([2, 1].to_vec(rt.alloc())?).is_none());
     Ok(())
 }
 
 #[test]
-fn a_header_has_the_alphabet_of_its_sets(rt: HostRuntime) -> Result<(), Fail> {
-    let sets = tracks_of(rt.alloc(), &[2, 3])?;
+fn a_header_has_the_alphabet_of_its_sets(rt: HostRuntime) -> Result<(), RowFault> {
+    let sets = sets_of(rt.alloc(), &[2, 3])?;
     assert!(rt; !sets.is_empty());
     let copy = sets.copy(rt.alloc())?;
     assert_eq!(rt; copy.len(), 2);
@@ -86,7 +105,7 @@ fn a_header_has_the_alphabet_of_its_sets(rt: HostRuntime) -> Result<(), Fail> {
 }
 
 // Systems of two and three digits.
-fn two_systems(alloc: Global) -> Result<Systems, Fail> {
+fn two_systems(alloc: Global) -> Result<Systems, RowFault> {
     let mut systems = Systems::new(alloc);
     systems.push(Name::new(alloc, "msd_2")?, 2)?;
     systems.push(Name::new(alloc, "msd_3")?, 3)?;
@@ -94,7 +113,7 @@ fn two_systems(alloc: Global) -> Result<Systems, Fail> {
 }
 
 #[test]
-fn a_header_of_systems_has_their_digits(rt: HostRuntime) -> Result<(), Fail> {
+fn a_header_of_systems_has_their_digits(rt: HostRuntime) -> Result<(), RowFault> {
     let systems = two_systems(rt.alloc())?.copy(rt.alloc())?;
     assert!(rt; !systems.is_empty());
     assert_eq!(rt; systems.len(), 2);

@@ -2,7 +2,7 @@
 
 ghost use Rattle.std.specs.Prelude.{◌<◌, ◌^◌, length};
 
-use command_head::{Alphabets, HeadFault, RegParts, first_word, reg_parts};
+use command_head::{Alphabets, HeadFault, RegParts, first_word, named_parts, reg_parts};
 use digit_tuple::name::Name;
 use digit_tuple::sets::Sets;
 use std::alloc::Global;
@@ -137,6 +137,52 @@ fn faults_are_the_first(rt: HostRuntime) -> Result<(), Fail> {
             Ok(_) => assert!(rt; false, "accepted: {text}"),
             Err(found) => assert_eq!(rt; found, wanted, "of {text}"),
         }
+    }
+    Ok(())
+}
+
+// The name and after `=` the quoted text of a head with the word `def`, or its fault.
+fn read_named(alloc: Global, text: &str) -> Result<Result<String, HeadFault>, Fail> {
+    match named_parts(alloc, b"def", text.as_bytes()) {
+        Ok(parts) => {
+            let body = str::from_utf8(parts.body)?;
+            Ok(Ok(format!(in alloc; "{}={body}", parts.name.as_str())?))
+        }
+        Err(fault) => Ok(Err(fault)),
+    }
+}
+
+// Heads with the word `def`, and what they have.
+const NAMED: [(&str, &str); 4] = [
+    ("def a \"x\"", "a=x"),
+    ("def\tab_1 \n \"E y\"\n", "ab_1=E y"),
+    ("def a\"\"", "a="),
+    ("def def \"a;b\n\" ", "def=a;b\n"),
+];
+
+// Texts that are no such heads, and their first faults.
+const NOT_NAMED: [(&str, HeadFault); 8] = [
+    ("reg a \"x\"", HeadFault::Syntax(0)),
+    ("def", HeadFault::Syntax(3)),
+    ("def 1 \"x\"", HeadFault::Syntax(4)),
+    ("def a", HeadFault::Syntax(5)),
+    ("def a x", HeadFault::Syntax(6)),
+    ("def a {0} \"x\"", HeadFault::Syntax(6)),
+    ("def a \"x", HeadFault::Syntax(6)),
+    ("def a \"x\" y", HeadFault::Syntax(10)),
+];
+
+#[test]
+fn named_heads_are_read(rt: HostRuntime) -> Result<(), Fail> {
+    for (text, wanted) in NAMED {
+        match read_named(rt.alloc(), text)? {
+            Ok(found) => assert_eq!(rt; found.as_str(), wanted),
+            Err(_) => assert!(rt; false, "refused: {text}"),
+        }
+    }
+    for (text, wanted) in NOT_NAMED {
+        let found = read_named(rt.alloc(), text)?.err();
+        assert_eq!(rt; found, Some(wanted), "of {text}");
     }
     Ok(())
 }

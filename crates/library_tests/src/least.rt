@@ -1,179 +1,235 @@
 //! The subset construction, the reversal and the least automaton, worked by hand.
 
-ghost use Rattle.std.specs.Prelude.{◌≡◌};
-ghost use Rattle.minimise.specs.Canonical.{IsCanonical};
-
-use crate::automata::{automaton, dfa, named, names_of, names_shown, nfa, shown};
+use crate::outcomes::{expect, table_outcome, width_of};
+use crate::row_fault::RowFault;
+use crate::table_texts::{language, line_of, listed, table, table_of};
 use determinise::reversal::reverse;
 use determinise::subset_construction::determinise;
 use determinise::trimmed::trimmed;
 use digit_tuple::alphabet::Alphabet;
 use digit_tuple::dfa::Dfa;
 use digit_tuple::dfa_builder::DfaBuilder;
-use digit_tuple::faults::OpFault;
 use digit_tuple::name::Name;
-use digit_tuple::names::are_distinct;
+use digit_tuple::stepped::Stepped;
 use minimise::canonical::canonical;
 use minimise::comparison::{is_canonical, same};
 use minimise::tracked::Tracked;
 use std::alloc::Global;
-use std::test::Fail;
 
 // The words whose third letter from the end is 1.
-const THIRD: [[u32; 3]; 7] = [
-    [0, 0, 0],
-    [0, 1, 0],
-    [0, 1, 1],
-    [1, 0, 2],
-    [1, 1, 2],
-    [2, 0, 3],
-    [2, 1, 3],
+const THIRD: &str = "x:2 = / 0>0 1>0 1>1/ 0>2 1>2/ 0>3 1>3/!";
+
+// Tables, and the automata of their sets of states.
+static SETS: [(&str, &str); 2] = [
+    // Each state has its word's last three letters, of which the first is 1 where it accepts.
+    (
+        THIRD,
+        "8 / 0>0 1>1/ 0>2 1>3/ 0>4 1>5/ 0>6 1>7/! 0>0 1>1/! 0>2 1>3/! 0>4 1>5/! 0>6 1>7",
+    ),
+    // The empty set counts and is not listed.
+    ("x:2 = /! 1>0", "2 /! 1>0"),
 ];
 
-// Each state has its word's last three letters, of which the first is 1 where it accepts.
-#[test]
-fn third_letter_from_the_end_needs_eight_sets(rt: HostRuntime) -> Result<(), Fail> {
-    let table = nfa(rt.alloc(), &[2], "0001", &THIRD)?;
-    let made = determinise(rt.alloc(), &table, 8)?;
-    assert_eq!(rt; made.width, 8);
-    assert_eq!(rt;
-        shown(rt.alloc(), &made.result)?.as_str(),
-        "/ 0>0 1>1/ 0>2 1>3/ 0>4 1>5/ 0>6 1>7/! 0>0 1>1/! 0>2 1>3/! 0>4 1>5/! 0>6 1>7"
-    );
-    let narrow = determinise(rt.alloc(), &table, 7);
-    assert_eq!(rt; narrow.err(), Some(OpFault::States));
-    Ok(())
+// The subset construction under a limit.
+fn of_sets(alloc: Global, line: &str, limit: u32) -> Result<Stepped<Dfa>, RowFault> {
+    let table = table(alloc, line)?;
+    Ok(determinise(alloc, &table, limit)?)
 }
 
 #[test]
-fn the_empty_set_counts_and_is_not_listed(rt: HostRuntime) -> Result<(), Fail> {
-    let table = nfa(rt.alloc(), &[2], "1", &[[0, 1, 0]])?;
-    let made = determinise(rt.alloc(), &table, 2)?;
-    assert_eq!(rt; made.width, 2);
-    assert_eq!(rt; shown(rt.alloc(), &made.result)?.as_str(), "/! 1>0");
-    let narrow = determinise(rt.alloc(), &table, 1);
-    assert_eq!(rt; narrow.err(), Some(OpFault::States));
+fn states_are_sets_of_states(rt: HostRuntime) -> Result<(), RowFault> {
+    for (line, wanted) in SETS {
+        let width = width_of(wanted)?;
+        let made = of_sets(rt.alloc(), line, width);
+        expect(&rt, line, &table_outcome(rt.alloc(), made)?, wanted);
+        let narrow = of_sets(rt.alloc(), line, width.saturating_sub(1));
+        expect(&rt, line, &table_outcome(rt.alloc(), narrow)?, "States");
+    }
     Ok(())
 }
 
-#[test]
-fn third_letter_from_the_start_has_five_residuals(rt: HostRuntime) -> Result<(), Fail> {
-    let third = dfa(rt.alloc(), &[2], "0001", &THIRD)?;
-    let made = reverse(rt.alloc(), &third, 5)?;
-    assert_eq!(rt; made.width, 5);
-    assert_eq!(rt;
-        shown(rt.alloc(), &made.result)?.as_str(),
-        "/ 0>1 1>1/ 0>2 1>2/ 1>3/! 0>3 1>3"
-    );
-    let narrow = reverse(rt.alloc(), &third, 4);
-    assert_eq!(rt; narrow.err(), Some(OpFault::States));
-    Ok(())
+// Tables, and the automata of the words in reverse.
+static REVERSALS: [(&str, &str); 2] = [
+    // The third letter from the start has five residuals.
+    (THIRD, "5 / 0>1 1>1/ 0>2 1>2/ 1>3/! 0>3 1>3"),
+    // Nothing reversed has one.
+    ("x:2 = /", "1 /"),
+];
+
+// The reversal under a limit.
+fn turned(alloc: Global, line: &str, limit: u32) -> Result<Stepped<Dfa>, RowFault> {
+    let dfa = listed(alloc, line)?;
+    Ok(reverse(alloc, &dfa, limit)?)
 }
 
 #[test]
-fn nothing_reversed_has_one_residual(rt: HostRuntime) -> Result<(), Fail> {
-    let nothing = dfa(rt.alloc(), &[2], "0", &[])?;
-    let made = reverse(rt.alloc(), &nothing, 1)?;
-    assert_eq!(rt; made.width, 1);
-    assert_eq!(rt; shown(rt.alloc(), &made.result)?.as_str(), "/");
-    let narrow = reverse(rt.alloc(), &nothing, 0);
-    assert_eq!(rt; narrow.err(), Some(OpFault::States));
+fn states_are_residuals_of_reversed_words(rt: HostRuntime) -> Result<(), RowFault> {
+    for (line, wanted) in REVERSALS {
+        let width = width_of(wanted)?;
+        let made = turned(rt.alloc(), line, width);
+        expect(&rt, line, &table_outcome(rt.alloc(), made)?, wanted);
+        let narrow = turned(rt.alloc(), line, width.saturating_sub(1));
+        expect(&rt, line, &table_outcome(rt.alloc(), narrow)?, "States");
+    }
     Ok(())
 }
 
 // Tables, and the least automata of their languages.
-const LEAST: [(&str, &[[u32; 3]], &str); 4] = [
+static LEAST: [(&str, &str); 4] = [
     // two states of one residual
-    ("11", &[[0, 0, 1], [1, 0, 0]], "/! 0>0"),
+    ("x:2 = /! 0>1/! 0>0", "/! 0>0"),
     // a state from which no word is accepted
-    ("10", &[[0, 0, 1]], "/!"),
+    ("x:2 = /! 0>1/", "/!"),
     // no word
-    ("00", &[[0, 0, 1], [1, 1, 0]], "/"),
+    ("x:2 = / 0>1/ 1>0", "/"),
     // two states alike but for a letter that is missing
-    (
-        "011",
-        &[[0, 0, 1], [0, 1, 2], [1, 0, 1]],
-        "/ 0>1 1>2/! 0>1/!",
-    ),
+    ("x:2 = / 0>1 1>2/! 0>1/!", "/ 0>1 1>2/! 0>1/!"),
 ];
 
 #[test]
-fn states_are_residuals_that_are_not_empty(rt: HostRuntime) -> Result<(), Fail> {
-    for (states, edges, table) in LEAST {
-        let made = dfa(rt.alloc(), &[2], states, edges)?;
-        let least = canonical(rt.alloc(), &made)?;
-        assert_eq!(rt; shown(rt.alloc(), &least)?.as_str(), table);
+fn states_are_residuals_that_are_not_empty(rt: HostRuntime) -> Result<(), RowFault> {
+    for (line, wanted) in LEAST {
+        let least = language(rt.alloc(), line)?;
+        expect(&rt, line, &table_of(rt.alloc(), &least)?, wanted);
     }
     Ok(())
 }
 
-#[test]
-fn states_that_no_word_leads_to_are_left_out(rt: HostRuntime) -> Result<(), Fail> {
-    let mut builder = DfaBuilder::new(rt.alloc(), Alphabet::new(rt.alloc(), &[2])?)?;
-    let first = builder.add_state(false)?;
-    let lost = builder.add_state(true)?;
-    let last = builder.add_state(true)?;
-    builder.set(first, 0, last)?;
-    builder.set(lost, 0, first)?;
-    let made = trimmed(rt.alloc(), &builder.finish()?)?;
-    assert_eq!(rt; shown(rt.alloc(), &made)?.as_str(), "/ 0>1/!");
-    Ok(())
+// An automaton over two letters, of three states and three edges, each its state, letter and target.
+struct BuiltRow {
+    accepting: [bool; 3],
+    edges: [[u32; 3]; 3],
+    table: &'static str,
+    trimmed: &'static str,
+    least: &'static str,
 }
 
-// The empty word leads to the state made first, the letter 0 to that made last, and 1 to that between.
-fn made_out_of_order(alloc: Global) -> Result<Dfa, Fail> {
+static BUILT: [BuiltRow; 3] = [
+    // the last edge by a letter stays
+    BuiltRow {
+        accepting: [false, true, false],
+        edges: [[0, 1, 0], [0, 0, 1], [0, 1, 1]],
+        table: "/ 0>1 1>1/!/",
+        trimmed: "/ 0>1 1>1/!",
+        least: "/ 0>1 1>1/!",
+    },
+    // a state that no word leads to is left out
+    BuiltRow {
+        accepting: [false, true, true],
+        edges: [[0, 0, 2], [1, 0, 0], [1, 1, 2]],
+        table: "/ 0>2/! 0>0 1>2/!",
+        trimmed: "/ 0>1/!",
+        least: "/ 0>1/!",
+    },
+    // The empty word leads to the state made first, the letter 0 to that made last, and 1 to that between.
+    BuiltRow {
+        accepting: [false, true, false],
+        edges: [[0, 1, 1], [0, 0, 2], [2, 0, 1]],
+        table: "/ 0>2 1>1/!/ 0>1",
+        trimmed: "/ 0>1 1>2/ 0>2/!",
+        least: "/ 0>1 1>2/ 0>2/!",
+    },
+];
+
+// The automaton of the row, its states as they were made.
+fn built(alloc: Global, row: &BuiltRow) -> Result<Dfa, RowFault> {
     let mut builder = DfaBuilder::new(alloc, Alphabet::new(alloc, &[2])?)?;
-    let first = builder.add_state(false)?;
-    let middle = builder.add_state(true)?;
-    let last = builder.add_state(false)?;
-    builder.set(first, 1, middle)?;
-    builder.set(first, 0, last)?;
-    builder.set(last, 0, middle)?;
+    builder.add_state(row.accepting[0])?;
+    builder.add_state(row.accepting[1])?;
+    builder.add_state(row.accepting[2])?;
+    let [[from, letter, to], second, third] = row.edges;
+    builder.set(from % 3, letter % 2, to % 3)?;
+    builder.set(second[0] % 3, second[1] % 2, second[2] % 3)?;
+    builder.set(third[0] % 3, third[1] % 2, third[2] % 3)?;
     Ok(builder.finish()?)
 }
 
-#[test]
-fn states_are_numbered_by_first_words(rt: HostRuntime) -> Result<(), Fail> {
-    let made = made_out_of_order(rt.alloc())?;
-    assert_eq!(rt; shown(rt.alloc(), &made)?.as_str(), "/ 0>2 1>1/!/ 0>1");
-    let least = canonical(rt.alloc(), &made)?;
-    assert_eq!(rt; shown(rt.alloc(), &least)?.as_str(), "/ 0>1 1>2/ 0>2/!");
-    Ok(())
+// The automaton without the states that no word leads to.
+fn trimmed_of(alloc: Global, dfa: &Dfa) -> Result<String, RowFault> {
+    table_of(alloc, &trimmed(alloc, dfa)?)
+}
+
+// The least automaton, if it is canonical and the automaton is not.
+fn least_of(alloc: Global, dfa: &Dfa) -> Result<Dfa, RowFault> {
+    let least = canonical(alloc, dfa)?;
+    if is_canonical(alloc, &least)? && !is_canonical(alloc, dfa)? {
+        Ok(least)
+    } else {
+        Err(RowFault::Form)
+    }
 }
 
 #[test]
-fn canonical_automata_are_told_from_others(rt: HostRuntime) -> Result<(), Fail> {
-    let made = made_out_of_order(rt.alloc())?;
-    assert!(rt; !is_canonical(rt.alloc(), &made)?);
-    let least = canonical(rt.alloc(), &made)?;
-    assert!(rt; is_canonical(rt.alloc(), &least)?);
-    let again = canonical(rt.alloc(), &least)?;
-    assert!(rt; same(&least, &again));
+fn states_are_numbered_by_first_words(rt: HostRuntime) -> Result<(), RowFault> {
+    for row in &BUILT {
+        let dfa = built(rt.alloc(), row)?;
+        expect(&rt, row.table, &table_of(rt.alloc(), &dfa)?, row.table);
+        expect(&rt, row.table, &trimmed_of(rt.alloc(), &dfa)?, row.trimmed);
+        let least = least_of(rt.alloc(), &dfa)?;
+        expect(&rt, row.table, &table_of(rt.alloc(), &least)?, row.least);
+    }
     Ok(())
 }
 
+// Lines, and whether they have one language.
+static SAME: [(&str, &str, bool); 3] = [
+    ("x:2 = (0|1)*1", "x:2 = (0*1)+", true),
+    ("x:2 = /! 0>1/! 0>0", "x:2 = 0*", true),
+    ("x:2 = 0*", "x:2 = 0+", false),
+];
+
+// Whether two lines over the same tracks have one language.
+fn are_same(alloc: Global, one: &str, other: &str) -> Result<bool, RowFault> {
+    let first = language(alloc, one)?;
+    let second = language(alloc, other)?;
+    if first.alphabet().sizes() == second.alphabet().sizes() {
+        Ok(same(&first, &second))
+    } else {
+        Err(RowFault::Form)
+    }
+}
+
 #[test]
-fn tracks_have_names(rt: HostRuntime) -> Result<(), Fail> {
-    let made = made_out_of_order(rt.alloc())?;
-    let tracked = named(rt.alloc(), &made, &["x"])?;
-    assert_eq!(rt; names_shown(rt.alloc(), &tracked)?.as_str(), "x");
-    let names = names_of(rt.alloc(), &["y"])?;
-    let other = with_names(tracked.into_dfa(), names).ok_or("one name")?;
-    assert_eq!(rt; names_shown(rt.alloc(), &other)?.as_str(), "y");
-    assert_eq!(rt;
-        shown(rt.alloc(), other.dfa())?.as_str(),
-        "/ 0>1 1>2/ 0>2/!"
+fn canonical_automata_of_one_language_are_equal(rt: HostRuntime) -> Result<(), RowFault> {
+    for (one, other, wanted) in SAME {
+        assert_eq!(rt; are_same(rt.alloc(), one, other)?, wanted, "of {one}");
+    }
+    Ok(())
+}
+
+// The least automaton of a table with one track, under a name.
+fn named(alloc: Global, dfa: &Dfa, name: &str) -> Result<Tracked, RowFault> {
+    let name = Name::new(alloc, name)?;
+    if dfa.alphabet().sizes().len() == 1 {
+        Ok(Tracked::new(alloc, dfa, &[name])?)
+    } else {
+        Err(RowFault::Form)
+    }
+}
+
+// The same automaton of one track under another name.
+fn renamed(alloc: Global, tracked: Tracked, name: &str) -> Result<Tracked, RowFault> {
+    let least = tracked.into_dfa();
+    let name = Name::new(alloc, name)?;
+    if least.alphabet().sizes().len() == 1 {
+        Ok(Tracked::of_canonical(least, vec![in alloc; name]?))
+    } else {
+        Err(RowFault::Form)
+    }
+}
+
+#[test]
+fn tracks_have_names(rt: HostRuntime) -> Result<(), RowFault> {
+    let line = "x:2 = / 0>1 1>2/! 0>1/!";
+    let dfa = listed(rt.alloc(), line)?;
+    let x = named(rt.alloc(), &dfa, "x")?;
+    expect(&rt, line, &line_of(rt.alloc(), &x)?, line);
+    let y = renamed(rt.alloc(), x, "y")?;
+    expect(
+        &rt,
+        line,
+        &line_of(rt.alloc(), &y)?,
+        "y:2 = / 0>1 1>2/! 0>1/!",
     );
     Ok(())
-}
-
-// The canonical automaton with these names, if they are one for each track.
-fn with_names(least: Dfa, names: Vec<Name>) -> Option<Tracked>
-    requires { IsCanonical least }
-{
-    if names.len() == least.alphabet().sizes().len() && are_distinct(&names) {
-        Some(Tracked::of_canonical(least, names))
-    } else {
-        None
-    }
 }

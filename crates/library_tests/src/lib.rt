@@ -1,10 +1,21 @@
-//! Tests of the libraries over their public calls: rows worked by hand as tables, each limit at its number and one more, and
-//! each call once with ample memory.
+//! Tests of the libraries over their public calls: rows worked by hand or by a program from outside as tables, each limit at
+//! its number and one more, and each call once with ample memory.
+//!
+//! Each call that is tried has a function of its own that says nothing of what it gives: it makes the arguments from lines
+//! of text, calls, and hands on a text. So a row costs no proof.
 #![tactic(auto)]
 
-// automata made from expressions and from lists of numbers, and automata as texts
+// why a row can't be worked out
 #[cfg(test)]
-mod automata;
+mod row_fault;
+
+// automata as lines of text
+#[cfg(test)]
+mod table_texts;
+
+// what calls give, as texts
+#[cfg(test)]
+mod outcomes;
 
 // names, sets, systems and headers
 #[cfg(test)]
@@ -29,6 +40,42 @@ mod expressions;
 // tables and automata of expressions
 #[cfg(test)]
 mod matches;
+
+// products, complements and valid parts
+#[cfg(test)]
+mod products;
+
+// closures under padding
+#[cfg(test)]
+mod paddings;
+
+// projections, and the states that zeros lead to
+#[cfg(test)]
+mod projections;
+
+// automata under other names, and with two tracks as one
+#[cfg(test)]
+mod renamings;
+
+// orders and equalities of numbers
+#[cfg(test)]
+mod orders;
+
+// base k
+#[cfg(test)]
+mod bases;
+
+// sealed systems, and the steps of their successor
+#[cfg(test)]
+mod sealed_systems;
+
+// single numbers
+#[cfg(test)]
+mod single_numbers;
+
+// single steps with their lines
+#[cfg(test)]
+mod single_steps;
 
 // texts of automata
 #[cfg(test)]

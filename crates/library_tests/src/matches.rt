@@ -1,6 +1,7 @@
 //! The tables of expressions, and which words match them.
 
-use crate::automata::{branches_shown, shown, tracks_of};
+use crate::row_fault::RowFault;
+use crate::table_texts::{branches_of, sets_of, table_of};
 use digit_tuple::alphabet::Alphabet;
 use digit_tuple::faults::OpFault;
 use digit_tuple::header::Header;
@@ -15,10 +16,9 @@ use regex_build::regex::Regex;
 use regex_build::step::Step;
 use regex_build::{parse, positions};
 use std::alloc::Global;
-use std::test::Fail;
 
 // The letter of one track with this member.
-fn letter_of(alloc: Global, member: i32) -> Result<LetterTuple, Fail> {
+fn letter_of(alloc: Global, member: i32) -> Result<LetterTuple, RowFault> {
     let mut letter = LetterTuple::new(alloc);
     letter.push(member)?;
     Ok(letter)
@@ -26,7 +26,7 @@ fn letter_of(alloc: Global, member: i32) -> Result<LetterTuple, Fail> {
 
 // The step that a byte stands for: a digit, or a sign, where `,` puts one expression after another, and `_` is
 // the empty word.
-fn step_of(alloc: Global, byte: u8) -> Result<Step, Fail> {
+fn step_of(alloc: Global, byte: u8) -> Result<Step, RowFault> {
     Ok(match byte {
         b'0'..=b'9' => Step::Letter(letter_of(alloc, i32::from(byte - b'0'))?),
         b'.' => Step::Any,
@@ -40,7 +40,7 @@ fn step_of(alloc: Global, byte: u8) -> Result<Step, Fail> {
 }
 
 // The expression of these steps over so many tracks of the digits 0 and 1, if they are one.
-fn by_steps(alloc: Global, sets: Sets, text: &str) -> Result<Option<Regex>, Fail> {
+fn by_steps(alloc: Global, sets: Sets, text: &str) -> Result<Option<Regex>, RowFault> {
     let mut steps = Vec::new(alloc);
     for byte in text.bytes() {
         steps.push(step_of(alloc, byte)?)?;
@@ -49,11 +49,11 @@ fn by_steps(alloc: Global, sets: Sets, text: &str) -> Result<Option<Regex>, Fail
 }
 
 // The table of the expression of these steps.
-fn table_of(alloc: Global, sizes: &[u32], text: &str) -> Result<String, Fail> {
-    let made = by_steps(alloc, tracks_of(alloc, sizes)?, text)?;
-    let regex = made.ok_or("an expression")?;
+fn steps_table(alloc: Global, sizes: &[u32], text: &str) -> Result<String, RowFault> {
+    let made = by_steps(alloc, sets_of(alloc, sizes)?, text)?;
+    let regex = made.ok_or(RowFault::Form)?;
     let _alphabet = Alphabet::of_sets(alloc, regex.sets())?;
-    branches_shown(alloc, &positions(alloc, &regex)?)
+    branches_of(alloc, &positions(alloc, &regex)?)
 }
 
 // Steps in postfix order, and the table of their expression.
@@ -76,28 +76,28 @@ const TABLES: [(&str, &str); 15] = [
 ];
 
 #[test]
-fn tables_of_small_expressions(rt: HostRuntime) -> Result<(), Fail> {
+fn tables_of_small_expressions(rt: HostRuntime) -> Result<(), RowFault> {
     for (text, table) in TABLES {
-        let made = table_of(rt.alloc(), &[2], text)?;
+        let made = steps_table(rt.alloc(), &[2], text)?;
         assert_eq!(rt; made.as_str(), table, "of {text}");
     }
-    let made = table_of(rt.alloc(), &[2, 2], ".?")?;
+    let made = steps_table(rt.alloc(), &[2, 2], ".?")?;
     assert_eq!(rt; made.as_str(), "/! 0>1 1>1 2>1 3>1/!");
     Ok(())
 }
 
 #[test]
-fn steps_that_are_no_expression(rt: HostRuntime) -> Result<(), Fail> {
+fn steps_that_are_no_expression(rt: HostRuntime) -> Result<(), RowFault> {
     for text in ["", "00", "0|1", "02,"] {
-        let sets = tracks_of(rt.alloc(), &[2])?;
+        let sets = sets_of(rt.alloc(), &[2])?;
         assert!(rt; by_steps(rt.alloc(), sets, text)?.is_none(), "of {text}");
     }
     Ok(())
 }
 
 // The expression over tracks of these sizes.
-fn regex_of(alloc: Global, sizes: &[u32], text: &str) -> Result<Regex, Fail> {
-    let header = Header::Sets(tracks_of(alloc, sizes)?);
+fn regex_of(alloc: Global, sizes: &[u32], text: &str) -> Result<Regex, RowFault> {
+    let header = Header::Sets(sets_of(alloc, sizes)?);
     Ok(parse(alloc, text.as_bytes(), &header)?)
 }
 
@@ -110,12 +110,12 @@ const WIDTHS: [(&str, u32, &str); 3] = [
 ];
 
 #[test]
-fn widths_are_those_worked_out(rt: HostRuntime) -> Result<(), Fail> {
+fn widths_are_those_worked_out(rt: HostRuntime) -> Result<(), RowFault> {
     for (text, width, table) in WIDTHS {
         let regex = regex_of(rt.alloc(), &[2], text)?;
         let made = build(rt.alloc(), &regex, width)?;
         assert_eq!(rt; made.width, width);
-        assert_eq!(rt; shown(rt.alloc(), &made.result)?.as_str(), table);
+        assert_eq!(rt; table_of(rt.alloc(), &made.result)?.as_str(), table);
         let narrow = build(rt.alloc(), &regex, width - 1);
         assert_eq!(rt; narrow.err(), Some(OpFault::States));
     }
@@ -124,7 +124,7 @@ fn widths_are_those_worked_out(rt: HostRuntime) -> Result<(), Fail> {
 
 // The last five letters of a word count, and the empty word apart.
 #[test]
-fn the_empty_word_counts(rt: HostRuntime) -> Result<(), Fail> {
+fn the_empty_word_counts(rt: HostRuntime) -> Result<(), RowFault> {
     let regex = regex_of(rt.alloc(), &[2], "(0|1)*1(0|1)(0|1)(0|1)(0|1)")?;
     let made = build(rt.alloc(), &regex, 33)?;
     assert_eq!(rt; (made.width, made.result.states()), (33, 32));
@@ -134,7 +134,7 @@ fn the_empty_word_counts(rt: HostRuntime) -> Result<(), Fail> {
 }
 
 #[test]
-fn seventeen_tracks_are_too_many(rt: HostRuntime) -> Result<(), Fail> {
+fn seventeen_tracks_are_too_many(rt: HostRuntime) -> Result<(), RowFault> {
     let widest = build(rt.alloc(), &regex_of(rt.alloc(), &[2; 16], "()")?, 2)?;
     assert_eq!(rt; widest.result.alphabet().letters(), 65536);
     let more = build(rt.alloc(), &regex_of(rt.alloc(), &[2; 17], "()")?, 0);
@@ -143,7 +143,7 @@ fn seventeen_tracks_are_too_many(rt: HostRuntime) -> Result<(), Fail> {
 }
 
 // How many words up to a length match the expression, by the plain program.
-fn matching(alloc: Global, regex: &Regex, longest: usize) -> Result<usize, Fail> {
+fn matching(alloc: Global, regex: &Regex, longest: usize) -> Result<usize, RowFault> {
     let alphabet = Alphabet::of_sets(alloc, regex.sets())?;
     let tree = tree_of(alloc, regex)?;
     let mut count: usize = 0;
@@ -182,7 +182,7 @@ const MATCHES: [(&[u32], &str, usize, usize); 21] = [
 ];
 
 #[test]
-fn matching_words_are_counted(rt: HostRuntime) -> Result<(), Fail> {
+fn matching_words_are_counted(rt: HostRuntime) -> Result<(), RowFault> {
     for (sizes, text, longest, count) in MATCHES {
         let regex = regex_of(rt.alloc(), sizes, text)?;
         assert_eq!(rt; matching(rt.alloc(), &regex, longest)?, count, "of {text}");

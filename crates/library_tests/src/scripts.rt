@@ -35,13 +35,18 @@ fn show_item(
     Ok(true)
 }
 
+// The next item.
+fn next_item(cutter: &mut Cutter, source: &mut MemSource) -> Result<Cut, CutFault> {
+    cutter.cut(source)
+}
+
 // The items of a script in pieces of a length, at most 100.
 fn items_of(alloc: Global, script: &[u8], length: usize) -> Result<String, AllocError> {
     let mut source = in_pieces(alloc, script, length)?;
     let mut cutter = Cutter::new(alloc);
     let mut items = String::new(alloc);
     for _ in 0..100 {
-        let item = cutter.cut(&mut source);
+        let item = next_item(&mut cutter, &mut source);
         if !show_item(alloc, item, &mut items)? {
             break;
         }
@@ -101,10 +106,20 @@ fn a_command_is_given_without_a_further_read(rt: HostRuntime) -> Result<(), Fail
     let bytes = Vec::from_slice(rt.alloc(), b"a;b::c")?;
     let mut source = MemSource::new(bytes, vec![in rt.alloc(); 5]?, vec![in rt.alloc(); 2]?);
     let mut cutter = Cutter::new(rt.alloc());
-    assert!(rt; matches!(cutter.cut(&mut source), Ok(Cut::Command(_, false, 1))));
-    assert!(rt; matches!(cutter.cut(&mut source), Ok(Cut::Command(_, true, 1))));
+    assert!(rt;
+        matches!(
+            next_item(&mut cutter, &mut source),
+            Ok(Cut::Command(_, false, 1))
+        )
+    );
+    assert!(rt;
+        matches!(
+            next_item(&mut cutter, &mut source),
+            Ok(Cut::Command(_, true, 1))
+        )
+    );
     assert_eq!(rt; source.calls(), 1);
-    assert!(rt; matches!(cutter.cut(&mut source), Err(CutFault::Failed)));
+    assert!(rt; matches!(next_item(&mut cutter, &mut source), Err(CutFault::Failed)));
     Ok(())
 }
 
@@ -124,11 +139,16 @@ fn a_long_command_is_passed_over(rt: HostRuntime) -> Result<(), Fail> {
     let script = two_long(rt.alloc(), TEXT_LIMIT)?;
     let mut source = in_pieces(rt.alloc(), &script, 5000)?;
     let mut cutter = Cutter::new(rt.alloc());
-    let first = cutter.cut(&mut source);
+    let first = next_item(&mut cutter, &mut source);
     assert!(rt; matches!(&first, Ok(Cut::Command(text, false, 1)) if text.len() == TEXT_LIMIT));
-    assert!(rt; matches!(cutter.cut(&mut source), Err(CutFault::Long(2))));
-    assert!(rt; matches!(cutter.cut(&mut source), Ok(Cut::Command(_, false, 2))));
-    assert!(rt; matches!(cutter.cut(&mut source), Ok(Cut::End)));
+    assert!(rt; matches!(next_item(&mut cutter, &mut source), Err(CutFault::Long(2))));
+    assert!(rt;
+        matches!(
+            next_item(&mut cutter, &mut source),
+            Ok(Cut::Command(_, false, 2))
+        )
+    );
+    assert!(rt; matches!(next_item(&mut cutter, &mut source), Ok(Cut::End)));
     Ok(())
 }
 
@@ -138,8 +158,18 @@ fn the_limit_counts_what_is_spent(rt: HostRuntime) -> Result<(), Fail> {
     let mut cutter = Cutter::new(rt.alloc());
     assert!(rt; cutter.spend(SCRIPT_LIMIT as u64 - 4));
     assert!(rt; !cutter.spend(5));
-    assert!(rt; matches!(cutter.cut(&mut source), Ok(Cut::Command(_, false, 1))));
-    assert!(rt; matches!(cutter.cut(&mut source), Err(CutFault::ScriptLimit(2))));
+    assert!(rt;
+        matches!(
+            next_item(&mut cutter, &mut source),
+            Ok(Cut::Command(_, false, 1))
+        )
+    );
+    assert!(rt;
+        matches!(
+            next_item(&mut cutter, &mut source),
+            Err(CutFault::ScriptLimit(2))
+        )
+    );
     Ok(())
 }
 
@@ -149,13 +179,18 @@ fn blank_script(alloc: Global, length: usize) -> Result<MemSource, AllocError> {
     Ok(MemSource::new(script, Vec::new(alloc), Vec::new(alloc)))
 }
 
+// The first item.
+fn first_item(alloc: Global, source: &mut MemSource) -> Result<Cut, CutFault> {
+    next_item(&mut Cutter::new(alloc), source)
+}
+
 #[test]
 fn a_script_is_cut_at_its_limit(rt: HostRuntime) -> Result<(), Fail> {
     let mut most = blank_script(rt.alloc(), SCRIPT_LIMIT)?;
-    assert!(rt; matches!(Cutter::new(rt.alloc()).cut(&mut most), Ok(Cut::End)));
+    assert!(rt; matches!(first_item(rt.alloc(), &mut most), Ok(Cut::End)));
     let mut more = blank_script(rt.alloc(), SCRIPT_LIMIT + 1)?;
     let line = SCRIPT_LIMIT as u64 + 1;
-    let found = Cutter::new(rt.alloc()).cut(&mut more);
+    let found = first_item(rt.alloc(), &mut more);
     assert!(rt; matches!(found, Err(CutFault::ScriptLimit(at)) if at == line));
     Ok(())
 }

@@ -1,0 +1,59 @@
+//! Base k, by sums worked by hand.
+
+use crate::row_fault::RowFault;
+use base_k::base_k::{BaseK, GREATEST_BASE, LEAST_BASE};
+use digit_tuple::direction::Direction;
+use num_system::num_system::NumSystem;
+use std::alloc::Global;
+
+// A system, a word that spells 5, 7 and 12 in it, and one that spells 5, 7 and 13. The letter of the digits x, y and z
+// in base k is k * k * x + k * y + z.
+pub static SUMS: [(u32, Direction, &[u32], &[u32]); 8] = [
+    (2, Direction::Msd, &[1, 7, 2, 6], &[1, 7, 2, 7]),
+    (2, Direction::Lsd, &[6, 2, 7, 1], &[7, 2, 7, 1]),
+    (3, Direction::Msd, &[1, 16, 21], &[1, 16, 22]),
+    (3, Direction::Lsd, &[21, 16, 1], &[22, 16, 1]),
+    (10, Direction::Msd, &[1, 572], &[1, 573]),
+    (10, Direction::Lsd, &[572, 1], &[573, 1]),
+    (40, Direction::Msd, &[8292], &[8293]),
+    (40, Direction::Lsd, &[8292], &[8293]),
+];
+
+// Whether a system of these digits takes the words over them alone, and the adder accepts a word.
+fn adds(alloc: Global, base: u32, direction: Direction, word: &[u32]) -> Result<bool, RowFault> {
+    let system = BaseK::new(base, direction).ok_or(RowFault::Form)?;
+    let language = system.language(alloc)?;
+    if system.digits() != base
+        || system.direction() != direction
+        || language.accepts(&[0, base])
+        || !language.accepts(&[0, base.saturating_sub(1)])
+    {
+        return Err(RowFault::Form);
+    }
+    Ok(system.adder(alloc)?.accepts(word))
+}
+
+#[test]
+fn five_and_seven_are_twelve(rt: HostRuntime) -> Result<(), RowFault> {
+    for (base, direction, right, wrong) in SUMS {
+        assert!(rt; adds(rt.alloc(), base, direction, right)?, "in base {base}");
+        assert!(rt;
+            !adds(rt.alloc(), base, direction, wrong)?,
+            "in base {base}"
+        );
+    }
+    Ok(())
+}
+
+#[test]
+fn bases_are_2_to_40(rt: HostRuntime) {
+    for (base, there) in [
+        (LEAST_BASE - 1, false),
+        (2, true),
+        (40, true),
+        (GREATEST_BASE + 1, false),
+    ] {
+        assert_eq!(rt; BaseK::new(base, Direction::Msd).is_some(), there);
+        assert_eq!(rt; BaseK::new(base, Direction::Lsd).is_some(), there);
+    }
+}

@@ -1,0 +1,57 @@
+//! What calls give, as texts: the width and the automaton, or why there is none.
+
+use crate::row_fault::RowFault;
+use crate::table_texts::{line_of, table_of};
+use digit_tuple::dfa::Dfa;
+use digit_tuple::faults::OpFault;
+use digit_tuple::stepped::Stepped;
+use minimise::tracked::Tracked;
+use std::alloc::Global;
+use std::process::Abort;
+
+/// The width and the line of an automaton with names, or the fault.
+pub fn outcome(
+    alloc: Global,
+    made: Result<Stepped<Tracked>, RowFault>,
+) -> Result<String, RowFault> {
+    match made {
+        Ok(stepped) => with_width(alloc, stepped.width, line_of(alloc, &stepped.result)?),
+        Err(fault) => refusal(alloc, fault),
+    }
+}
+
+/// The width and the table of an automaton, or the fault.
+pub fn table_outcome(
+    alloc: Global,
+    made: Result<Stepped<Dfa>, RowFault>,
+) -> Result<String, RowFault> {
+    match made {
+        Ok(stepped) => with_width(alloc, stepped.width, table_of(alloc, &stepped.result)?),
+        Err(fault) => refusal(alloc, fault),
+    }
+}
+
+// A width and a text.
+fn with_width(alloc: Global, width: u32, text: String) -> Result<String, RowFault> {
+    Ok(format!(in alloc; "{width} {text}")?)
+}
+
+// The text of a refusal.
+fn refusal(alloc: Global, fault: RowFault) -> Result<String, RowFault> {
+    match fault {
+        RowFault::Call(OpFault::States) => Ok(String::from_str(alloc, "States")?),
+        RowFault::Call(OpFault::Letters) => Ok(String::from_str(alloc, "Letters")?),
+        _ => Err(fault),
+    }
+}
+
+/// The width with which the text of an outcome begins.
+pub fn width_of(text: &str) -> Result<u32, RowFault> {
+    let (width, _) = text.split_once(' ').ok_or(RowFault::Form)?;
+    Ok(width.parse()?)
+}
+
+/// Asserts that a row has what is wanted.
+pub fn expect(rt: &impl Abort, row: &str, found: &str, wanted: &str) {
+    assert_eq!(rt; found, wanted, "of {row}");
+}

@@ -1,0 +1,406 @@
+//! Products, complements and valid parts, worked by hand.
+
+ghost use Rattle.std.specs.Prelude.{IfOk, IsTrue, map};
+ghost use Rattle.std.specs.Rc.{rc_value};
+ghost use Rattle.product_op.specs.Connectives.{among_valid};
+ghost use Rattle.product_op.specs.Tracks.{AgreeOnShared, joint_sizes};
+ghost use Rattle.product_op.specs.Validity.{AreLanguages};
+
+use crate::outcomes::{expect, outcome, width_of};
+use crate::row_fault::RowFault;
+use crate::table_texts::{languages, tracked};
+use digit_tuple::dfa::Dfa;
+use digit_tuple::stepped::Stepped;
+use minimise::tracked::Tracked;
+use product_op::joint_tracks::{agree_on_shared, joint_tracks, sizes_of_names};
+use product_op::languages::are_languages;
+use product_op::op::Op;
+use product_op::product::product;
+use product_op::validity::{complement_in, valid_part};
+use reference::words::all_words;
+use std::alloc::Global;
+use std::rc::Rc;
+
+// Words with an even number of 1s, words that end in 1, and words without two 1s in a row.
+const EVEN: &str = "x:2 = (0|10*1)*";
+
+const ENDS: &str = "x:2 = (0|1)*1";
+
+const SPARSE: &str = "x:2 = (0|10)*1?";
+
+// Words in which each 2 is followed by a 0, words in which no 0 follows a 1, and all words.
+const PAIRED: &str = "y:3 = (0|1|20)*";
+
+const RISING: &str = "z:2 = 0*1*";
+
+const ANY_Y: &str = "y:3 = .*";
+
+const ANY_Z: &str = "z:2 = .*";
+
+// Two automata, a connective, a language for each track where these count, and the product.
+#[derive(Drop)]
+struct ProductRow {
+    a: &'static str,
+    b: &'static str,
+    op: Op,
+    valid: &'static [&'static str],
+    made: &'static str,
+}
+
+static PRODUCTS: [ProductRow; 6] = [
+    ProductRow {
+        a: EVEN,
+        b: ENDS,
+        op: Op::And,
+        valid: &[],
+        made: "4 x:2 = / 0>0 1>1/ 0>1 1>2/! 0>0 1>1",
+    },
+    // the tracks stand in byte order
+    ProductRow {
+        a: "y:2 = (0|10*1)*",
+        b: ENDS,
+        op: Op::And,
+        valid: &[],
+        made: "4 x:2 y:2 = / 0>0 1>1 2>2 3>1/ 0>1 1>0 2>1 3>2/! 0>0 1>1 2>2 3>1",
+    },
+    ProductRow {
+        a: ENDS,
+        b: EVEN,
+        op: Op::Implies,
+        valid: &[SPARSE],
+        made: "8 x:2 = /! 0>0 1>1/ 0>2/! 0>2 1>3/! 0>0",
+    },
+    // The lengths go together: those of words modulo 2 follow from those modulo 4, so there are 4 pairs of residuals
+    // and not 8.
+    ProductRow {
+        a: "x:2 y:3 = (..)*",
+        b: "y:3 z:2 = (....)*",
+        op: Op::And,
+        valid: &[],
+        made: "4 x:2 y:3 z:2 = /! 0>1 1>1 2>1 3>1 4>1 5>1 6>1 7>1 8>1 9>1 10>1 11>1/ 0>2 1>2 2>2 3>2 4>2 5>2 6>2 7>2 8>2 9>2 10>2 11>2/ 0>3 1>3 2>3 3>3 4>3 5>3 6>3 7>3 8>3 9>3 10>3 11>3/ 0>0 1>0 2>0 3>0 4>0 5>0 6>0 7>0 8>0 9>0 10>0 11>0",
+    },
+    // Each argument has one residual until a wrong letter, and then the empty one. A letter (x, y, z) may be right for
+    // both as (0, 0, 0), wrong for the first alone as (0, 1, 1), wrong for the second alone as (1, 1, 0), or wrong for
+    // both as (0, 1, 0): 4 pairs.
+    ProductRow {
+        a: "x:2 y:3 = ([0,0]|[1,1])*",
+        b: "y:3 z:2 = ([0,0]|[0,1]|[1,1])*",
+        op: Op::AndNot,
+        valid: &[],
+        made: "4 x:2 y:3 z:2 = / 0>0 1>0 8>1 9>0/! 0>1 1>1 8>1 9>1",
+    },
+    // Among valid words each of these 4 pairs comes with each of the 3 residuals of the language of x: where the last 1
+    // is not at the end, where it is, and after two 1s in a row. From the pair after no letter, (1, 1, 1), (1, 0, 0),
+    // (1, 1, 0) and (1, 2, 0) lead to all pairs after a 1, from where (0, 0, 0) keeps each pair, and so do (1, 1, 1) where
+    // the first argument is right and (1, 0, 0) where it isn't: 4 times 3.
+    ProductRow {
+        a: "x:2 y:3 = ([0,0]|[1,1])*",
+        b: "y:3 z:2 = ([0,0]|[0,1]|[1,1])*",
+        op: Op::Or,
+        valid: &[SPARSE, ANY_Y, ANY_Z],
+        made: "12 x:2 y:3 z:2 = /! 0>0 1>0 3>1 6>2 7>2 8>3 9>4/! 0>1 1>1 3>1 6>2 7>2 9>2/! 0>1 1>1 3>1/! 0>5 1>5/! 0>0 1>0 3>1/! 0>5 1>5 8>3 9>3",
+    },
+];
+
+// The product under a limit, if the arguments go together.
+fn joined(alloc: Global, row: &ProductRow, limit: u32) -> Result<Stepped<Tracked>, RowFault> {
+    let a = tracked(alloc, row.a)?;
+    let b = tracked(alloc, row.b)?;
+    let valid = languages(alloc, row.valid)?;
+    if go_together(alloc, &a, &b, row.op, &valid)? {
+        Ok(product(alloc, &a, &b, row.op, &valid, limit)?)
+    } else {
+        Err(RowFault::Form)
+    }
+}
+
+/// Whether two automata and languages of their tracks go together under a connective.
+pub fn go_together(
+    alloc: Global,
+    a: &Tracked,
+    b: &Tracked,
+    op: Op,
+    valid: &[Rc<Dfa>],
+) -> Result<bool, RowFault>
+    ensures agree { IfOk result (λ fit. IsTrue fit → AgreeOnShared a.now b.now) }
+    ensures languages { IfOk result (λ fit. IsTrue fit → IsTrue (among_valid op) → AreLanguages (joint_sizes a.now b.now) (map rc_value valid.now)) }
+{
+    if !agree_on_shared(a, b) {
+        return Ok(false);
+    }
+    if !op.is_among_valid() {
+        return Ok(true);
+    }
+    let joint = joint_tracks(alloc, a, b)?;
+    Ok(are_languages(alloc, joint.alphabet.sizes(), valid)?)
+}
+
+#[test]
+fn products_are_those_worked_out(rt: HostRuntime) -> Result<(), RowFault> {
+    for row in &PRODUCTS {
+        let width = width_of(row.made)?;
+        let made = outcome(rt.alloc(), joined(rt.alloc(), row, width))?;
+        expect(&rt, row.a, &made, row.made);
+        let narrow = joined(rt.alloc(), row, width.saturating_sub(1));
+        expect(&rt, row.a, &outcome(rt.alloc(), narrow)?, "States");
+    }
+    Ok(())
+}
+
+// Automata over seventeen tracks together, and over 257 times 256 letters.
+static LARGE: [(&str, &str); 2] = [
+    (
+        "a:1 b:1 c:1 d:1 e:1 f:1 g:1 h:1 i:1 = ()",
+        "j:1 k:1 l:1 m:1 n:1 o:1 p:1 q:1 = ()",
+    ),
+    ("x:257 = ()", "y:256 = ()"),
+];
+
+#[test]
+fn joint_tracks_have_an_alphabet(rt: HostRuntime) -> Result<(), RowFault> {
+    for (a, b) in LARGE {
+        let row = ProductRow {
+            a,
+            b,
+            op: Op::And,
+            valid: &[],
+            made: "Letters",
+        };
+        let made = outcome(rt.alloc(), joined(rt.alloc(), &row, 1000))?;
+        expect(&rt, row.a, &made, row.made);
+    }
+    Ok(())
+}
+
+// Two automata, a language for each track, the longest words, and how many words up to that length are in their product
+// by each connective of `OPS`.
+struct CountRow {
+    a: &'static str,
+    b: &'static str,
+    valid: &'static [&'static str],
+    longest: usize,
+    counts: [usize; 6],
+}
+
+static OPS: [Op; 6] = [Op::And, Op::AndNot, Op::Or, Op::Xor, Op::Implies, Op::Iff];
+
+static COUNTS: [CountRow; 5] = [
+    CountRow {
+        a: "x:2 = (0*1)*",
+        b: "x:2 = (0|10*1)*",
+        valid: &[SPARSE],
+        longest: 5,
+        counts: [16, 16, 22, 15, 26, 17],
+    },
+    CountRow {
+        a: "z:2 = 0*1",
+        b: "x:2 = (1|00)*",
+        valid: &[SPARSE, RISING],
+        longest: 3,
+        counts: [6, 8, 20, 16, 28, 18],
+    },
+    CountRow {
+        a: "x:2 y:3 = ([0,0]|[1,1]|[0,2])*",
+        b: "y:3 z:2 = ([0,0]|[2,1])*.",
+        valid: &[SPARSE, PAIRED, RISING],
+        longest: 2,
+        counts: [18, 25, 31, 22, 46, 32],
+    },
+    CountRow {
+        a: "y:3 x:2 = ([0,1]|[2,0])*",
+        b: "z:2 y:3 = .[0,2]*|[1,2]",
+        valid: &[SPARSE, PAIRED, RISING],
+        longest: 2,
+        counts: [8, 13, 12, 10, 50, 44],
+    },
+    CountRow {
+        a: "y:3 x:2 = ([1,0]|[2,1]|[0,0])*",
+        b: "x:2 y:3 = ([0,1]|[1,2]).*",
+        valid: &[SPARSE, PAIRED],
+        longest: 3,
+        counts: [26, 14, 34, 23, 71, 57],
+    },
+];
+
+// How many words up to a length the automaton accepts.
+fn accepted(alloc: Global, dfa: &Dfa, longest: usize) -> Result<usize, RowFault> {
+    let mut count: usize = 0;
+    for length in 0..=longest {
+        for word in &all_words(alloc, dfa.alphabet().letters(), length)? {
+            count = count.saturating_add(usize::from(dfa.accepts(word.letters())));
+        }
+    }
+    Ok(count)
+}
+
+// How many words up to the row's length are in its product by a connective.
+fn joined_count(alloc: Global, row: &CountRow, op: Op) -> Result<usize, RowFault> {
+    let product = ProductRow {
+        a: row.a,
+        b: row.b,
+        op,
+        valid: row.valid,
+        made: "",
+    };
+    let made = joined(alloc, &product, 1000)?;
+    accepted(alloc, made.result.dfa(), row.longest)
+}
+
+#[test]
+fn words_in_products_are_counted(rt: HostRuntime) -> Result<(), RowFault> {
+    for row in &COUNTS {
+        for (op, count) in OPS.iter().zip(&row.counts) {
+            let found = joined_count(rt.alloc(), row, *op)?;
+            assert_eq!(rt; found, *count, "of {} by {op:?}", row.a);
+        }
+    }
+    Ok(())
+}
+
+// The complement under a limit, if there is a language for each track.
+fn complement(
+    alloc: Global,
+    line: &str,
+    valid: &[&str],
+    limit: u32,
+) -> Result<Stepped<Tracked>, RowFault> {
+    let a = tracked(alloc, line)?;
+    let languages = languages(alloc, valid)?;
+    if are_languages(alloc, a.dfa().alphabet().sizes(), &languages)? {
+        Ok(complement_in(alloc, &a, &languages, limit)?)
+    } else {
+        Err(RowFault::Form)
+    }
+}
+
+// The valid part under a limit, if there is a language for each track.
+fn part(
+    alloc: Global,
+    line: &str,
+    valid: &[&str],
+    limit: u32,
+) -> Result<Stepped<Tracked>, RowFault> {
+    let a = tracked(alloc, line)?;
+    let languages = languages(alloc, valid)?;
+    if are_languages(alloc, a.dfa().alphabet().sizes(), &languages)? {
+        Ok(valid_part(alloc, &a, &languages, limit)?)
+    } else {
+        Err(RowFault::Form)
+    }
+}
+
+#[test]
+fn complements_and_parts_have_valid_words_alone(rt: HostRuntime) -> Result<(), RowFault> {
+    let others = outcome(rt.alloc(), complement(rt.alloc(), ENDS, &[SPARSE], 4))?;
+    expect(&rt, ENDS, &others, "4 x:2 = /! 0>0 1>1/ 0>0");
+    let narrow = outcome(rt.alloc(), complement(rt.alloc(), ENDS, &[SPARSE], 3))?;
+    expect(&rt, ENDS, &narrow, "States");
+    let some = outcome(rt.alloc(), part(rt.alloc(), ENDS, &[SPARSE], 4))?;
+    expect(&rt, ENDS, &some, "4 x:2 = / 0>0 1>1/! 0>0");
+    let narrow = outcome(rt.alloc(), part(rt.alloc(), ENDS, &[SPARSE], 3))?;
+    expect(&rt, ENDS, &narrow, "States");
+    Ok(())
+}
+
+// An automaton, a language for each track, the longest words, and how many words up to that length are in the
+// complement and in the valid part.
+static VALID_WORDS: [(&str, &[&str], usize, [usize; 2]); 3] = [
+    (ENDS, &[SPARSE], 5, [20, 12]),
+    ("y:3 x:2 = ([0,1]|[2,0])*.", &[PAIRED, SPARSE], 2, [12, 8]),
+    (
+        "x:2 y:3 z:2 = ([0,0,0]|[1,2,1])*",
+        &[SPARSE, PAIRED, RISING],
+        2,
+        [51, 3],
+    ),
+];
+
+#[test]
+fn valid_words_are_counted(rt: HostRuntime) -> Result<(), RowFault> {
+    for (line, valid, longest, counts) in VALID_WORDS {
+        let others = complement(rt.alloc(), line, valid, 1000)?;
+        let some = part(rt.alloc(), line, valid, 1000)?;
+        let found = [
+            accepted(rt.alloc(), others.result.dfa(), longest)?,
+            accepted(rt.alloc(), some.result.dfa(), longest)?,
+        ];
+        assert_eq!(rt; found, counts, "of {line}");
+    }
+    Ok(())
+}
+
+// The tracks of two automata as one list, where they agree on those of one name.
+fn joint(alloc: Global, a: &str, b: &str) -> Result<String, RowFault> {
+    let a = tracked(alloc, a)?;
+    let b = tracked(alloc, b)?;
+    let mut text = String::new(alloc);
+    if agree_on_shared(&a, &b) {
+        let joint = joint_tracks(alloc, &a, &b)?;
+        let sizes = sizes_of_names(alloc, &joint.names, &a, &b)?;
+        for (name, size) in joint.names.iter().zip(&sizes) {
+            text.push_str(name.as_str())?;
+            text.push_str(&format!(in alloc; ":{size} ")?)?;
+        }
+    }
+    Ok(text)
+}
+
+// Two automata, and their joint tracks, or none where they do not agree.
+static JOINT: [(&str, &str, &str); 4] = [
+    ("y:3 x:2 = .", "z:2 y:3 = .", "x:2 y:3 z:2 "),
+    ("x:2 = .", "B:0 = ()", "B:0 x:2 "),
+    ("x:2 y:3 = .", "x:2 y:2 = .", ""),
+    ("x:2 = .", "x:0 = ()", ""),
+];
+
+#[test]
+fn tracks_of_one_name_are_one_track(rt: HostRuntime) -> Result<(), RowFault> {
+    for (a, b, wanted) in JOINT {
+        expect(&rt, a, &joint(rt.alloc(), a, b)?, wanted);
+    }
+    Ok(())
+}
+
+// An automaton, languages, and whether these are one for each track.
+static LANGUAGES: [(&str, &[&str], bool); 4] = [
+    ("x:2 y:3 = .", &[SPARSE, PAIRED], true),
+    ("x:2 y:3 = .", &[PAIRED, SPARSE], false),
+    ("x:2 y:3 = .", &[SPARSE], false),
+    ("x:2 = .", &["x:2 y:1 = .*"], false),
+];
+
+#[test]
+fn each_track_has_a_language(rt: HostRuntime) -> Result<(), RowFault> {
+    for (line, valid, wanted) in LANGUAGES {
+        let a = tracked(rt.alloc(), line)?;
+        let languages = languages(rt.alloc(), valid)?;
+        let found = are_languages(rt.alloc(), a.dfa().alphabet().sizes(), &languages)?;
+        assert_eq!(rt; found, wanted, "of {line}");
+    }
+    Ok(())
+}
+
+// What the connectives say of false and false, false and true, true and false, and true and true, and whether they are
+// taken among valid words alone.
+static TRUTH: [(Op, [bool; 4], bool); 6] = [
+    (Op::And, [false, false, false, true], false),
+    (Op::AndNot, [false, false, true, false], false),
+    (Op::Or, [false, true, true, true], true),
+    (Op::Xor, [false, true, true, false], true),
+    (Op::Implies, [true, true, false, true], true),
+    (Op::Iff, [true, false, false, true], true),
+];
+
+#[test]
+fn connectives_are_those_of_truth_values(rt: HostRuntime) {
+    for (op, wanted, among_valid) in TRUTH {
+        let found = [
+            op.holds(false, false),
+            op.holds(false, true),
+            op.holds(true, false),
+            op.holds(true, true),
+        ];
+        assert_eq!(rt; found, wanted, "of {op:?}");
+        assert_eq!(rt; op.is_among_valid(), among_valid, "of {op:?}");
+    }
+}

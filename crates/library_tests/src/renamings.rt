@@ -1,0 +1,90 @@
+//! Automata under other names and with two tracks as one, worked by hand.
+
+use crate::outcomes::expect;
+use crate::row_fault::RowFault;
+use crate::table_texts::{line_of, tracked};
+use digit_tuple::name::Name;
+use digit_tuple::names::are_distinct;
+use project_close::renaming::rename;
+use project_close::restriction::{are_two_tracks, restrict};
+use std::alloc::Global;
+
+// The names in a text, with blanks between.
+fn names_in(alloc: Global, text: &str) -> Result<Vec<Name>, RowFault> {
+    let mut names = Vec::new(alloc);
+    for name in text.split_whitespace() {
+        names.push(Name::new(alloc, name)?)?;
+    }
+    Ok(names)
+}
+
+// The automaton with new names, if they are one for each track.
+fn renamed(alloc: Global, line: &str, names: &str) -> Result<String, RowFault> {
+    let a = tracked(alloc, line)?;
+    let names = names_in(alloc, names)?;
+    if names.len() == a.names().len() && are_distinct(&names) {
+        line_of(alloc, &rename(alloc, &a, &names)?)
+    } else {
+        Err(RowFault::Form)
+    }
+}
+
+// Automata, new names, and the automata under these.
+static RENAMINGS: [(&str, &str, &str); 4] = [
+    // the letters (1, 0, 2) and (0, 0, 1)
+    (
+        "x:2 y:3 z:4 = / 1>1 14>1/!",
+        "c a b",
+        "a:3 b:4 c:2 = / 2>1 5>1/!",
+    ),
+    (
+        "x:2 y:3 z:4 = / 1>1 14>1/!",
+        "a b c",
+        "a:2 b:3 c:4 = / 1>1 14>1/!",
+    ),
+    ("x:2 y:2 = [0,1]*", "y x", "x:2 y:2 = /! 2>0"),
+    ("x:0 y:0 = /!", "y x", "x:0 y:0 = /!"),
+];
+
+#[test]
+fn tracks_move_with_their_names(rt: HostRuntime) -> Result<(), RowFault> {
+    for (line, names, wanted) in RENAMINGS {
+        expect(&rt, line, &renamed(rt.alloc(), line, names)?, wanted);
+    }
+    Ok(())
+}
+
+// The automaton on words with equal tracks, if they are two of one size, else nothing.
+fn restricted(alloc: Global, line: &str, kept: &str, dropped: &str) -> Result<String, RowFault> {
+    let a = tracked(alloc, line)?;
+    let kept = Name::new(alloc, kept)?;
+    let dropped = Name::new(alloc, dropped)?;
+    if are_two_tracks(&a, &kept, &dropped) {
+        line_of(alloc, &restrict(alloc, &a, &kept, &dropped)?)
+    } else {
+        Ok(String::new(alloc))
+    }
+}
+
+// Automata, the track that is kept and the one that is dropped, and the automata on words of which these are equal.
+static RESTRICTIONS: [(&str, &str, &str, &str); 7] = [
+    // the letters (1, 2, 1) and (1, 1, 0)
+    ("x:2 y:3 z:2 = / 8>1 11>1/!", "x", "z", "x:2 y:3 = / 5>1/!"),
+    // the earlier track may be dropped
+    ("x:2 y:3 z:2 = / 8>1 11>1/!", "z", "x", "y:3 z:2 = / 5>1/!"),
+    ("x:2 y:2 = / 1>1 3>1/!", "y", "x", "y:2 = / 1>1/!"),
+    ("x:0 y:0 = /!", "x", "y", "x:0 = /!"),
+    // one track is not two, nor are tracks of two sizes, or a track that is not there
+    ("x:2 y:3 = .", "x", "x", ""),
+    ("x:2 y:3 = .", "x", "y", ""),
+    ("x:2 y:3 = .", "x", "z", ""),
+];
+
+#[test]
+fn words_with_equal_tracks_stay(rt: HostRuntime) -> Result<(), RowFault> {
+    for (line, kept, dropped, wanted) in RESTRICTIONS {
+        let found = restricted(rt.alloc(), line, kept, dropped)?;
+        expect(&rt, line, &found, wanted);
+    }
+    Ok(())
+}

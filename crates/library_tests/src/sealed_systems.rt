@@ -1,0 +1,322 @@
+//! Sealed systems: the relations of bases against counting, and the steps of the successor worked by hand.
+
+ghost use Rattle.std.specs.Prelude.{◌≡◌, ℕ, ◌∷◌, [], IsTrue};
+
+use crate::bases::SUMS;
+use crate::outcomes::{expect, outcome, table_outcome, width_of};
+use crate::row_fault::RowFault;
+use crate::table_texts::{language, table_of};
+use base_k::base_k::{BaseK, GREATEST_BASE, LEAST_BASE};
+use digit_tuple::dfa::Dfa;
+use digit_tuple::direction::Direction;
+use digit_tuple::faults::OpFault;
+use digit_tuple::name::Name;
+use digit_tuple::stepped::Stepped;
+use minimise::tracked::Tracked;
+use num_system::seal::{seal, seal_built_in};
+use num_system::successor::{between_of, chain_of, next_of, successor_of};
+use num_system::system::System;
+use std::alloc::Global;
+
+// A limit that every base keeps to.
+const LIMIT: u32 = 1024;
+
+// The numbers that are looked at are less.
+const SOME: u32 = 30;
+
+static DIRECTIONS: [Direction; 2] = [Direction::Msd, Direction::Lsd];
+
+// The base with this number.
+fn base(number: u32, direction: Direction) -> Result<BaseK, RowFault> {
+    BaseK::new(number, direction).ok_or(RowFault::Form)
+}
+
+/// The sealed system of a base.
+pub fn sealed(
+    alloc: Global,
+    number: u32,
+    direction: Direction,
+    limit: u32,
+) -> Result<System, RowFault> {
+    Ok(seal(alloc, &base(number, direction)?, limit)?)
+}
+
+// The word of so many letters that spells two numbers in a base, if they have no more digits.
+fn spelled(
+    alloc: Global,
+    system: BaseK,
+    length: u32,
+    x: u32,
+    y: u32,
+) -> Result<Option<Vec<u32>>, RowFault> {
+    let mut word = Vec::new(alloc);
+    let mut first = x;
+    let mut second = y;
+    for _ in 0..length {
+        let letter = (first % system.base).wrapping_mul(system.base);
+        word.push(letter.wrapping_add(second % system.base))?;
+        first /= system.base;
+        second /= system.base;
+    }
+    if system.direction == Direction::Msd {
+        word.reverse();
+    }
+    Ok(if first == 0 && second == 0 {
+        Some(word)
+    } else {
+        None
+    })
+}
+
+// Whether the relations say what they should of two numbers, by a word that spells them. Where the first is 0, the word
+// spells the second on one track too.
+fn say(sealed: &System, word: &[u32], x: u32, y: u32) -> bool {
+    sealed.equal().accepts(word) == (x == y)
+        && sealed.less().accepts(word) == (x < y)
+        && sealed.successor().accepts(word) == (x.wrapping_add(1) == y)
+        && (x != 0 || sealed.zero().accepts(word) == (y == 0))
+}
+
+// Whether they do so of a number and each of some numbers, by words of so many letters.
+fn say_of_all(
+    alloc: Global,
+    system: BaseK,
+    sealed: &System,
+    length: u32,
+    x: u32,
+) -> Result<bool, RowFault> {
+    let mut right = true;
+    for y in 0..SOME {
+        if let Some(word) = spelled(alloc, system, length, x, y)? {
+            right = right && say(sealed, &word, x, y);
+        }
+    }
+    Ok(right)
+}
+
+#[test]
+fn relations_are_those_of_numbers(rt: HostRuntime) -> Result<(), RowFault> {
+    for number in [2, 3, 10] {
+        for direction in DIRECTIONS {
+            let system = sealed(rt.alloc(), number, direction, LIMIT)?;
+            for length in 0..4 {
+                for x in 0..SOME {
+                    let base = base(number, direction)?;
+                    assert!(rt; say_of_all(rt.alloc(), base, &system, length, x)?, "of {x}");
+                }
+            }
+        }
+    }
+    Ok(())
+}
+
+#[test]
+fn every_base_is_sealed(rt: HostRuntime) -> Result<(), RowFault> {
+    for number in LEAST_BASE..=GREATEST_BASE {
+        for direction in DIRECTIONS {
+            let system = sealed(rt.alloc(), number, direction, LIMIT)?;
+            assert_eq!(rt; (system.digits(), system.direction()), (number, direction));
+        }
+    }
+    Ok(())
+}
+
+// The order has the width 3, and the first step of its successor the width 9.
+#[test]
+fn the_order_and_its_successor_keep_to_the_limit(rt: HostRuntime) -> Result<(), RowFault> {
+    for (limit, fits) in [(2, false), (8, false), (9, true)] {
+        match sealed(rt.alloc(), 2, Direction::Msd, limit) {
+            Ok(_) => assert!(rt; fits, "under {limit}"),
+            Err(RowFault::Call(OpFault::States)) => assert!(rt; !fits, "under {limit}"),
+            Err(fault) => return Err(fault),
+        }
+    }
+    Ok(())
+}
+
+// The language and the adder have as many states, and the adder accepts the one word and not the other.
+#[test]
+fn adders_have_a_state_for_each_carry(rt: HostRuntime) -> Result<(), RowFault> {
+    for (number, direction, right, wrong) in SUMS {
+        let system = sealed(rt.alloc(), number, direction, LIMIT)?;
+        assert_eq!(rt; system.language().states(), 1);
+        let adder = system.adder();
+        assert_eq!(rt; adder.states(), 2);
+        assert!(rt; adder.accepts(right), "in base {number}");
+        assert!(rt; !adder.accepts(wrong), "in base {number}");
+    }
+    Ok(())
+}
+
+#[test]
+fn systems_of_the_program_are_sealed_without_a_limit(rt: HostRuntime) -> Result<(), RowFault> {
+    let system = BaseK {
+        base: 2,
+        direction: Direction::Msd,
+    };
+    let sealed = seal_built_in(rt.alloc(), &system)?;
+    let less = table_of(rt.alloc(), sealed.less())?;
+    expect(&rt, "the order", &less, "/ 0>0 1>1 3>0/! 0>1 1>1 2>1 3>1");
+    Ok(())
+}
+
+// Whether two tracks of the automaton are all, and of one size.
+fn is_pair(dfa: &Dfa) -> bool
+    ensures { IsTrue result → ((digits : ℕ) × (dfa.now.sizes ≡ digits ∷ digits ∷ [])) }
+{
+    let sizes = dfa.alphabet().sizes();
+    sizes.len() == 2 && sizes[0] == sizes[1]
+}
+
+// Whether three tracks of the automaton are all, and of one size.
+fn is_triple(dfa: &Dfa) -> bool
+    ensures { IsTrue result → ((digits : ℕ) × (dfa.now.sizes ≡ digits ∷ digits ∷ digits ∷ [])) }
+{
+    let sizes = dfa.alphabet().sizes();
+    sizes.len() == 3 && sizes[0] == sizes[1] && sizes[1] == sizes[2]
+}
+
+// The first step of the successor under a limit, from an order.
+fn chain(alloc: Global, order: &str, limit: u32) -> Result<Stepped<Tracked>, RowFault> {
+    let less = language(alloc, order)?;
+    if is_pair(&less) {
+        Ok(chain_of(alloc, &less, limit)?)
+    } else {
+        Err(RowFault::Form)
+    }
+}
+
+// The second step under a limit, from the triples of the first.
+fn between(
+    alloc: Global,
+    triples: &str,
+    direction: Direction,
+    limit: u32,
+) -> Result<Stepped<Tracked>, RowFault> {
+    let dfa = language(alloc, triples)?;
+    if dfa.alphabet().sizes().len() != 3 {
+        return Err(RowFault::Form);
+    }
+    let u = Name::new(alloc, "u")?;
+    let x = Name::new(alloc, "x")?;
+    let y = Name::new(alloc, "y")?;
+    let chain = Tracked::of_canonical(dfa, vec![in alloc; u, x, y]?);
+    let _tracks = chain.dfa().alphabet().tracks();
+    if is_triple(chain.dfa()) {
+        Ok(between_of(alloc, &chain, direction, limit)?)
+    } else {
+        Err(RowFault::Form)
+    }
+}
+
+// The third step under a limit, from the order and the pairs of the second.
+fn next(alloc: Global, order: &str, pairs: &str, limit: u32) -> Result<Stepped<Dfa>, RowFault> {
+    let less = language(alloc, order)?;
+    let between = language(alloc, pairs)?;
+    let _tracks = less.alphabet().tracks();
+    if !is_pair(&less) || less.alphabet().sizes() != between.alphabet().sizes() {
+        return Err(RowFault::Form);
+    }
+    let x = Name::new(alloc, "x")?;
+    let y = Name::new(alloc, "y")?;
+    let between = Tracked::of_canonical(between, vec![in alloc; x, y]?);
+    Ok(next_of(alloc, &less, &between, limit)?)
+}
+
+// The successor under a limit, from an order.
+fn successor(
+    alloc: Global,
+    order: &str,
+    direction: Direction,
+    limit: u32,
+) -> Result<String, RowFault> {
+    let less = language(alloc, order)?;
+    if is_pair(&less) {
+        table_of(alloc, &successor_of(alloc, &less, direction, limit)?)
+    } else {
+        Err(RowFault::Form)
+    }
+}
+
+// A direction, an order of numbers in it, and the steps of its successor.
+struct SuccessorRow {
+    direction: Direction,
+    order: &'static str,
+    chain: &'static str,
+    between: &'static str,
+    next: &'static str,
+}
+
+static SUCCESSORS: [SuccessorRow; 3] = [
+    // base 2
+    SuccessorRow {
+        direction: Direction::Msd,
+        order: "x:2 y:2 = / 0>0 1>1 3>0/! 0>1 1>1 2>1 3>1",
+        chain: "9 u:2 x:2 y:2 = / 0>0 1>1 5>2 7>0/ 0>1 1>1 4>3 5>3 6>1 7>1/ 0>2 1>3 2>2 3>3 5>2 7>2/! 0>3 1>3 2>3 3>3 4>3 5>3 6>3 7>3",
+        between: "4 x:2 y:2 = / 0>0 1>1 3>0/ 0>2 1>2 2>1 3>2/! 0>2 1>2 2>2 3>2",
+        next: "4 / 0>0 1>1 3>0/! 2>1",
+    },
+    SuccessorRow {
+        direction: Direction::Lsd,
+        order: "x:2 y:2 = / 0>0 1>1 2>0 3>0/! 0>1 1>1 2>0 3>1",
+        chain: "4 u:2 x:2 y:2 = / 0>0 1>1 2>0 3>1 4>2 5>2 6>0 7>0/ 0>1 1>1 2>1 3>1 4>2 5>3 6>0 7>1/ 0>2 1>3 2>0 3>1 4>2 5>2 6>2 7>2/! 0>3 1>3 2>1 3>1 4>2 5>3 6>2 7>3",
+        between: "6 x:2 y:2 = / 0>1 1>1 2>0 3>1/ 0>1 1>2 2>1 3>1/! 0>2 1>2 2>1 3>2",
+        next: "4 / 1>1 2>0/! 0>1 3>1",
+    },
+    // words without two 1s in a row
+    SuccessorRow {
+        direction: Direction::Msd,
+        order: "x:2 y:2 = / 0>0 1>1 3>2/! 0>3 2>4/ 0>0/! 0>3 1>1 2>4 3>5/! 0>3 1>1/! 0>3",
+        chain: "31 u:2 x:2 y:2 = / 0>0 1>1 5>2 7>3/ 0>4 4>5 6>6/ 0>7 2>8/ 0>0/ 0>4 1>1 4>5 5>9 6>6 7>10/! 0>11 1>12 2>13 3>14/ 0>4 1>1/ 0>7 1>12 2>8 3>14 5>2 7>15/ 0>7 1>12 5>2/! 0>11 2>13/ 0>4/! 0>11 1>12 2>13 3>14 4>5 5>9 6>16 7>17/! 0>11 2>13 4>5 6>16/! 0>11 1>12 4>5 5>9/! 0>11 4>5/ 0>7/! 0>11 1>12/! 0>11",
+        between: "14 x:2 y:2 = / 0>0 1>1 3>2/ 0>3 2>4/ 0>0/! 0>3 1>5 2>6 3>7/ 0>8 1>5/! 0>3 2>6/! 0>3 1>5/! 0>3/ 0>3 1>5 2>4 3>7",
+        next: "10 / 0>0 1>1 3>2/! 2>3/ 0>0/! 0>1",
+    },
+];
+
+#[test]
+fn chains_are_those_worked_out(rt: HostRuntime) -> Result<(), RowFault> {
+    for row in &SUCCESSORS {
+        let width = width_of(row.chain)?;
+        let made = chain(rt.alloc(), row.order, width);
+        expect(&rt, row.order, &outcome(rt.alloc(), made)?, row.chain);
+        let narrow = chain(rt.alloc(), row.order, width.saturating_sub(1));
+        expect(&rt, row.order, &outcome(rt.alloc(), narrow)?, "States");
+    }
+    Ok(())
+}
+
+#[test]
+fn pairs_with_a_number_between_are_those_worked_out(rt: HostRuntime) -> Result<(), RowFault> {
+    for row in &SUCCESSORS {
+        let width = width_of(row.between)?;
+        let made = between(rt.alloc(), row.chain, row.direction, width);
+        expect(&rt, row.order, &outcome(rt.alloc(), made)?, row.between);
+        let narrow = between(
+            rt.alloc(),
+            row.chain,
+            row.direction,
+            width.saturating_sub(1),
+        );
+        expect(&rt, row.order, &outcome(rt.alloc(), narrow)?, "States");
+    }
+    Ok(())
+}
+
+#[test]
+fn successors_are_those_worked_out(rt: HostRuntime) -> Result<(), RowFault> {
+    for row in &SUCCESSORS {
+        let width = width_of(row.next)?;
+        let made = next(rt.alloc(), row.order, row.between, width);
+        expect(&rt, row.order, &table_outcome(rt.alloc(), made)?, row.next);
+        let narrow = next(rt.alloc(), row.order, row.between, width.saturating_sub(1));
+        expect(
+            &rt,
+            row.order,
+            &table_outcome(rt.alloc(), narrow)?,
+            "States",
+        );
+        let whole = successor(rt.alloc(), row.order, row.direction, 1000)?;
+        assert!(rt; row.next.ends_with(whole.as_str()), "of {}", row.order);
+    }
+    Ok(())
+}

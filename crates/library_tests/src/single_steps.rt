@@ -1,0 +1,335 @@
+//! Single steps: what each makes, its line, and its refusal, which leaves the steps as they were.
+
+ghost use Rattle.std.specs.Prelude.{◌≡◌, ◌<◌, length};
+
+use crate::outcomes::expect;
+use crate::products::go_together;
+use crate::row_fault::RowFault;
+use crate::sealed_systems::sealed;
+use crate::table_texts::{language, languages, line_of, table, table_of, tracked};
+use automaton_steps::complement_step::complement_step;
+use automaton_steps::join_step::{Joining, join_step};
+use automaton_steps::order_step::order_step;
+use automaton_steps::pad_step::pad_step;
+use automaton_steps::project_step::project_step;
+use automaton_steps::read_step::read_step;
+use automaton_steps::reverse_step::reverse_step;
+use automaton_steps::valid_step::valid_step;
+use constants::constant_step::constant_step;
+use digit_tuple::direction::Direction;
+use digit_tuple::name::Name;
+use digit_tuple::names::find_name;
+use digit_tuple::step_fault::StepFault;
+use digit_tuple::steps::Steps;
+use product_op::languages::are_languages;
+use product_op::op::Op;
+use std::alloc::Global;
+
+// A step on automata of lines.
+#[derive(Clone, Copy)]
+enum Step {
+    Read(&'static str),
+    Reverse(&'static str),
+    Pad(Direction, &'static str),
+    Valid(&'static [&'static str], &'static str),
+    Order(Direction, &'static str),
+    /// Base 2.
+    Const(Direction, u64),
+    Product(Op, &'static str, &'static str),
+    Complement(&'static [&'static str], &'static str),
+    Project(Direction, &'static str, &'static str),
+}
+
+// Does the step as the next one, and gives the text of its result.
+fn done(alloc: Global, step: Step, steps: &mut Steps) -> Result<String, RowFault> {
+    match step {
+        Step::Read(line) => read(alloc, line, steps),
+        Step::Reverse(line) => reverse(alloc, line, steps),
+        Step::Pad(direction, line) => pad(alloc, direction, line, steps),
+        Step::Valid(valid, line) => valid_part(alloc, valid, line, steps),
+        Step::Order(direction, line) => order(alloc, direction, line, steps),
+        Step::Const(direction, number) => number_in(alloc, direction, number, steps),
+        Step::Product(op, a, b) => product(alloc, op, a, b, steps),
+        Step::Complement(valid, line) => complement(alloc, valid, line, steps),
+        Step::Project(direction, track, line) => project(alloc, direction, track, line, steps),
+    }
+}
+
+fn read(alloc: Global, line: &str, steps: &mut Steps) -> Result<String, RowFault> {
+    let listed = table(alloc, line)?;
+    table_of(alloc, &read_step(alloc, &listed, steps)?)
+}
+
+fn reverse(alloc: Global, line: &str, steps: &mut Steps) -> Result<String, RowFault> {
+    let a = language(alloc, line)?;
+    table_of(alloc, &reverse_step(alloc, &a, steps)?)
+}
+
+fn pad(
+    alloc: Global,
+    direction: Direction,
+    line: &str,
+    steps: &mut Steps,
+) -> Result<String, RowFault> {
+    let a = language(alloc, line)?;
+    table_of(alloc, &pad_step(alloc, &a, direction, steps)?)
+}
+
+fn valid_part(
+    alloc: Global,
+    valid: &[&str],
+    line: &str,
+    steps: &mut Steps,
+) -> Result<String, RowFault> {
+    let a = tracked(alloc, line)?;
+    let languages = languages(alloc, valid)?;
+    if are_languages(alloc, a.dfa().alphabet().sizes(), &languages)? {
+        line_of(alloc, &valid_step(alloc, &a, &languages, steps)?)
+    } else {
+        Err(RowFault::Form)
+    }
+}
+
+fn order(
+    alloc: Global,
+    direction: Direction,
+    line: &str,
+    steps: &mut Steps,
+) -> Result<String, RowFault> {
+    let language = language(alloc, line)?;
+    if language.alphabet().sizes().len() == 1 {
+        table_of(alloc, &order_step(alloc, &language, direction, steps)?)
+    } else {
+        Err(RowFault::Form)
+    }
+}
+
+fn number_in(
+    alloc: Global,
+    direction: Direction,
+    number: u64,
+    steps: &mut Steps,
+) -> Result<String, RowFault> {
+    let system = sealed(alloc, 2, direction, 1000)?;
+    let language = system.language();
+    let made = constant_step(alloc, language, system.direction(), number, steps)?;
+    table_of(alloc, &made)
+}
+
+// The product of the two, of which the valid words are all those of their digits.
+fn product(alloc: Global, op: Op, a: &str, b: &str, steps: &mut Steps) -> Result<String, RowFault> {
+    let a = tracked(alloc, a)?;
+    let b = tracked(alloc, b)?;
+    let languages = languages(alloc, &["x:2 = .*"])?;
+    if go_together(alloc, &a, &b, op, &languages)? {
+        let joining = Joining {
+            op,
+            languages: &languages,
+        };
+        line_of(alloc, &join_step(alloc, &a, &b, joining, steps)?)
+    } else {
+        Err(RowFault::Form)
+    }
+}
+
+fn complement(
+    alloc: Global,
+    valid: &[&str],
+    line: &str,
+    steps: &mut Steps,
+) -> Result<String, RowFault> {
+    let a = tracked(alloc, line)?;
+    let languages = languages(alloc, valid)?;
+    if are_languages(alloc, a.dfa().alphabet().sizes(), &languages)? {
+        line_of(alloc, &complement_step(alloc, &a, &languages, steps)?)
+    } else {
+        Err(RowFault::Form)
+    }
+}
+
+fn project(
+    alloc: Global,
+    direction: Direction,
+    track: &str,
+    line: &str,
+    steps: &mut Steps,
+) -> Result<String, RowFault> {
+    let a = tracked(alloc, line)?;
+    let track = Name::new(alloc, track)?;
+    if find_name(a.names(), &track).is_some() {
+        line_of(alloc, &project_step(alloc, &a, &track, direction, steps)?)
+    } else {
+        Err(RowFault::Form)
+    }
+}
+
+// The words whose third letter from the end is 1, those with an even number of 1s, those that end in 1, and those without
+// two 1s in a row.
+const THIRD: &str = "x:2 = / 0>0 1>0 1>1/ 0>2 1>2/ 0>3 1>3/!";
+
+const EVEN: &str = "x:2 = (0|10*1)*";
+
+const ENDS: &str = "x:2 = (0|1)*1";
+
+const SPARSE: &str = "x:2 = (0|10)*1?";
+
+// A step, its line and what it makes.
+struct Row {
+    step: Step,
+    kind: &'static str,
+    width: u32,
+    size: u32,
+    made: &'static str,
+}
+
+static ROWS: [Row; 12] = [
+    Row {
+        step: Step::Read(THIRD),
+        kind: "read",
+        width: 8,
+        size: 8,
+        made: "/ 0>0 1>1/ 0>2 1>3/ 0>4 1>5/ 0>6 1>7/! 0>0 1>1/! 0>2 1>3/! 0>4 1>5/! 0>6 1>7",
+    },
+    // two states alike and the empty set count in the width
+    Row {
+        step: Step::Read("x:2 = / 0>1 1>2/! 0>1/! 0>2"),
+        kind: "read",
+        width: 4,
+        size: 2,
+        made: "/ 0>1 1>1/! 0>1",
+    },
+    Row {
+        step: Step::Reverse(THIRD),
+        kind: "reverse",
+        width: 5,
+        size: 4,
+        made: "/ 0>1 1>1/ 0>2 1>2/ 1>3/! 0>3 1>3",
+    },
+    Row {
+        step: Step::Pad(Direction::Msd, "x:2 = 1"),
+        kind: "pad",
+        width: 3,
+        size: 2,
+        made: "/ 0>0 1>1/!",
+    },
+    Row {
+        step: Step::Pad(Direction::Lsd, "x:2 = 10"),
+        kind: "pad",
+        width: 6,
+        size: 2,
+        made: "/ 1>1/! 0>1",
+    },
+    Row {
+        step: Step::Valid(&[SPARSE], ENDS),
+        kind: "valid",
+        width: 4,
+        size: 2,
+        made: "x:2 = / 0>0 1>1/! 0>0",
+    },
+    Row {
+        step: Step::Order(Direction::Lsd, "x:2 = .*"),
+        kind: "order",
+        width: 3,
+        size: 2,
+        made: "/ 0>0 1>1 2>0 3>0/! 0>1 1>1 2>0 3>1",
+    },
+    Row {
+        step: Step::Const(Direction::Msd, 6),
+        kind: "const",
+        width: 5,
+        size: 4,
+        made: "/ 0>0 1>1/ 1>2/ 0>3/!",
+    },
+    Row {
+        step: Step::Product(Op::And, EVEN, ENDS),
+        kind: "product",
+        width: 4,
+        size: 3,
+        made: "x:2 = / 0>0 1>1/ 0>1 1>2/! 0>0 1>1",
+    },
+    Row {
+        step: Step::Product(Op::Or, EVEN, ENDS),
+        kind: "product",
+        width: 4,
+        size: 3,
+        made: "x:2 = /! 0>0 1>1/! 0>2 1>0/ 0>2 1>0",
+    },
+    Row {
+        step: Step::Complement(&[SPARSE], ENDS),
+        kind: "complement",
+        width: 4,
+        size: 2,
+        made: "x:2 = /! 0>0 1>1/ 0>0",
+    },
+    Row {
+        step: Step::Project(Direction::Lsd, "x", "x:2 y:2 = ([0,0]|[1,0][1,1]*[0,1])*"),
+        kind: "project",
+        width: 3,
+        size: 2,
+        made: "y:2 = /! 0>1/! 0>1 1>1",
+    },
+];
+
+// Why a step was refused.
+fn refusal(made: Result<String, RowFault>) -> Option<StepFault> {
+    match made {
+        Err(RowFault::Step(fault)) => Some(fault),
+        _ => None,
+    }
+}
+
+#[test]
+fn steps_have_these_lines(rt: HostRuntime) -> Result<(), RowFault> {
+    for row in &ROWS {
+        let mut steps = Steps::new(rt.alloc(), row.width);
+        let made = done(rt.alloc(), row.step, &mut steps)?;
+        expect(&rt, row.kind, &made, row.made);
+        assert_eq!(rt; steps.count(), 1);
+        let line = steps.line(0);
+        assert_eq!(rt; line.kind.name(), row.kind);
+        assert_eq!(rt;
+            (line.width, line.size),
+            (row.width, row.size),
+            "of {}",
+            row.kind
+        );
+    }
+    Ok(())
+}
+
+// Under one limit the steps that pass it are refused, and count for none.
+#[test]
+fn steps_past_the_limit_are_refused(rt: HostRuntime) -> Result<(), RowFault> {
+    for limit in 2..8 {
+        let mut steps = Steps::new(rt.alloc(), limit);
+        for row in &ROWS {
+            let number = steps.next_number();
+            let refused = refusal(done(rt.alloc(), row.step, &mut steps));
+            if row.width <= limit {
+                assert_eq!(rt; refused, None, "of {} under {limit}", row.kind);
+                assert_eq!(rt; steps.count(), number);
+            } else {
+                assert_eq!(rt; refused, Some(StepFault::States(number)), "of {}", row.kind);
+                assert_eq!(rt; steps.next_number(), number);
+            }
+        }
+    }
+    Ok(())
+}
+
+// Steps over too many letters.
+static LARGE: [Step; 3] = [
+    Step::Product(Op::And, "x:257 = ()", "y:256 = ()"),
+    Step::Project(Direction::Msd, "z", "x:300 y:300 z:0 = /!"),
+    Step::Order(Direction::Msd, "x:300 = /! 0>0"),
+];
+
+#[test]
+fn letters_are_looked_at_before_the_limit(rt: HostRuntime) {
+    for step in LARGE {
+        let mut steps = Steps::new(rt.alloc(), 0);
+        let refused = refusal(done(rt.alloc(), step, &mut steps));
+        assert_eq!(rt; refused, Some(StepFault::Letters(1)));
+        assert_eq!(rt; steps.count(), 0);
+    }
+}
