@@ -10,3 +10,4 @@ pub mod TextSteps
 pub mod CallSteps
 pub mod MapSteps
 pub mod PlainTexts
+pub mod OneAnswers

@@ -1,11 +1,14 @@
 -- What holds of the expansions of all texts.
-use Rattle.std.specs.Prelude.{◌≡◌, ◌≢◌, ℕ, ◌≤◌, true, List, ◌∷◌, ◌++◌, length, Some, Ok}
+use Rattle.std.specs.Prelude.{◌≡◌, ◌≢◌, ℕ, ◌≤◌, true, List, ◌∷◌, ◌++◌, length, Some, Ok, Result, Err}
 use Rattle.std.specs.List.{AllByRecursion}
 use Rattle.std.specs.FinMap.{get}
 use Rattle.text_grammar.specs.Bytes.{is_name_byte}
+use Rattle.macro_expand.specs.declared.fault.MacroFault.{MacroFault}
+use Rattle.macro_expand.specs.declared.fault.MacroFault.TheVariants as faults
 use Rattle.macro_expand.specs.Texts.{Texts}
 use Rattle.macro_expand.specs.Calls.{is_name}
 use Rattle.macro_expand.specs.Expansion.{expansion}
+use Rattle.macro_expand.specs.Views.{Answers}
 
 -- a mark does not stand in a text
 abbrev pub HasNo : ℕ → List ℕ → Type 0
@@ -31,3 +34,8 @@ pub record IsPlainMacro (macros : Texts) (name text : List ℕ) : Type 0 where
 abbrev pub GivesPlainTexts : Type 0
 GivesPlainTexts = (macros : Texts) (name text before after : List ℕ) → IsPlainMacro macros name text → HasNo 35 before → HasNo 35 after → length (before ++ (text ++ after)) ≤ 65536
     → expansion macros (before ++ (35 ∷ name ++ 40 ∷ 41 ∷ after)) ≡ Ok (before ++ (text ++ after))
+
+-- an expansion has one answer, beside want of memory
+abbrev pub OneAnswer : Type 0
+OneAnswer = (macros : Texts) (text : List ℕ) (result other : Result (List ℕ) MacroFault) → Answers (λ made. made) result (expansion macros text) → Answers (λ made. made) other (expansion macros text)
+    → result ≢ Err faults.Memory → other ≢ Err faults.Memory → result ≡ other

@@ -33,5 +33,5 @@ mod laws;
 
 pub use expanding::expand;
 pub use fault::MacroFault;
-pub use laws::{gives_plain_texts, keeps_plain_texts};
+pub use laws::{gives_plain_texts, keeps_plain_texts, one_answer};
 pub use macros::Macros;
