@@ -4,7 +4,8 @@ use Rattle.std.specs.Prelude.{slice_index_or}
 use Rattle.text_grammar.specs.Faults.{Begins, BreaksAt}
 use Rattle.command_head.specs.declared.fault.HeadFault.TheVariants.{Syntax, Number}
 use Rattle.command_head.specs.Readings.{Refusal, Form, Range, fault_at, placed, ◌>>=◌}
-use Rattle.command_head.specs.Numbers.{is_number, number_of, is_short}
+use Rattle.text_grammar.specs.Numbers.{is_short}
+use Rattle.command_head.specs.Numbers.{is_number, number_of}
 use Rattle.command_head.specs.Members.{has, put, with_member}
 use Rattle.command_head.specs.Parts.{Part, texts_of, parts_of, is_name, is_system, is_quoted}
 use Rattle.command_head.specs.Heads.{RegHead, Stage, AtWord, AtName, BehindName, AtNumber, BehindNumber, BehindSet, BehindSystem, AtEnd, body_step, step, ended, run, reg_at}

@@ -5,7 +5,7 @@ use Rattle.std.proofs.lemmas.List.{take_at, drop_at, take-append-drop}
 use Rattle.std.proofs.lemmas.Bool.{eqb-true}
 use Rattle.text_grammar.specs.declared.class.Class.{Class}
 use Rattle.text_grammar.specs.Fronts.{is_in, front_len, front_of, behind_front}
-use Rattle.command_head.specs.Numbers.{begins_with}
+use Rattle.text_grammar.specs.Numbers.{begins_with}
 
 pub front_len-le : (class : Class) (bytes : List ℕ) → front_len class bytes ≤ length bytes
 front_len-le class [] = omega arith

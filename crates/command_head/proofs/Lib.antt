@@ -1,4 +1,3 @@
-pub mod NumberSteps
 pub mod ReadingSteps
 pub mod FrontSteps
 pub mod SetShape

@@ -1,7 +1,7 @@
 -- Heads that are a word, a name and a quoted text: what their parts spell, and where they first break the grammar.
-use Rattle.std.proofs.Common.{◌≡◌, ◌≢◌, ℕ, zero, suc, ◌+◌, ◌-◌, ◌<◌, ◌≤◌, true, false, List, [], ◌∷◌, ◌++◌, length, take, drop, map, get_or, refl, sym, ◌∙◌, ap, subst, arith, codes}
+use Rattle.std.proofs.Common.{◌≡◌, ◌≢◌, ℕ, zero, suc, ◌-◌, ◌≤◌, true, false, List, [], ◌∷◌, length, take, drop, map, get_or, refl, sym, ◌∙◌, ap, subst, arith, codes}
 use Rattle.std.proofs.lemmas.Bool.{false≢true}
-use Rattle.text_grammar.specs.Faults.{Begins, BreaksAt}
+use Rattle.text_grammar.specs.Faults.{BreaksAt}
 use Rattle.command_head.specs.Numbers.{is_number}
 use Rattle.command_head.specs.Parts.{Part, first_word_of, behind_blanks, part_len, parts_of_rest, parts_of, texts_of, is_name, is_quoted, unquoted}
 use Rattle.command_head.specs.Heads.{NamedHead}

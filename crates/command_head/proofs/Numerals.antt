@@ -12,12 +12,13 @@ use Rattle.std.proofs.lemmas.Int.{ints}
 use Rattle.text_grammar.specs.Bytes.{is_digit}
 use Rattle.text_grammar.specs.declared.class.Class.TheVariants.{Digit}
 use Rattle.text_grammar.specs.Fronts.{front_len}
-use Rattle.command_head.specs.Numbers.{begins_with, unsigned, all_in, signed, value_behind, value_of}
+use Rattle.text_grammar.specs.Numbers.{begins_with, signed, value_after, value_of}
+use Rattle.command_head.specs.Numbers.{unsigned, all_in}
 use Rattle.command_head.specs.Members.{has}
 use Rattle.command_head.specs.Grammar.{SpellsNumber}
 use Rattle.command_head.proofs.OrderSteps.{same_number, below_all, all_above}
 
-value-append : (so_far : ℕ) (digits : List ℕ) (digit : ℕ) → value_behind so_far (digits ++ digit ∷ []) ≡ 10 * value_behind so_far digits + (digit - 48)
+value-append : (so_far : ℕ) (digits : List ℕ) (digit : ℕ) → value_after so_far (digits ++ digit ∷ []) ≡ 10 * value_after so_far digits + (digit - 48)
 value-append so_far [] digit = refl
 value-append so_far (d ∷ ds) digit = value-append (10 * so_far + (d - 48)) ds digit
 

@@ -1,8 +1,6 @@
 -- A text breaks the grammar at one part, and then that is the fault that is read.
-use Rattle.std.proofs.Common.{◌≡◌, ℕ, ◌+◌, ◌^◌, ◌<◌, ◌≤◌, List, [], ◌∷◌, ◌++◌, length, take, drop, Result, Ok, Err, refl, sym, ◌∙◌, ap, subst, arith, ⊎_elim}
-use Rattle.std.proofs.lemmas.Bool.{cases_lt}
-use Rattle.std.proofs.lemmas.List.{append_assoc, take-append-drop, take-take}
-use Rattle.text_grammar.specs.Faults.{Begins, BreaksAt}
+use Rattle.std.proofs.Common.{◌≡◌, ℕ, ◌^◌, ◌<◌, List, [], ◌∷◌, length, Result, Ok, Err, refl, sym, ◌∙◌, ap, subst}
+use Rattle.text_grammar.proofs.FaultLemmas.{breaks_nowhere, breaks_once}
 use Rattle.command_head.specs.declared.fault.HeadFault.{HeadFault}
 use Rattle.command_head.specs.declared.fault.HeadFault.TheVariants.{Syntax, Number, Memory}
 use Rattle.command_head.specs.Readings.{Refusal, Form, Range, placed, ◌>>=◌}
@@ -15,32 +13,6 @@ use Rattle.command_head.proofs.Walks.{goes, run_goes}
 use Rattle.command_head.proofs.ReadHeads.{reg_spelled}
 use Rattle.command_head.proofs.SpelledHeads.{reg_goes}
 use Rattle.command_head.proofs.Breaking.{syntax_breaks, number_breaks}
-
--- what begins a text is begun by each front of it
-shorter_begins : {H : Type 0} (grammar : List (List ℕ) → H → Type 0) (parts : List (List ℕ)) (a b : ℕ) → a + 1 ≤ b → Begins grammar (take b parts) → Begins grammar (take (a + 1) parts)
-shorter_begins grammar parts a b less begins =
-    let front : take b parts ≡ take (a + 1) parts ++ drop (a + 1) (take b parts) = sym (take-append-drop (a + 1) (take b parts)) ∙ ap (λ (l : List (List ℕ)). l ++ drop (a + 1) (take b parts)) (take-take (a + 1) b parts less) in
-    let split : take b parts ++ begins.0 ≡ take (a + 1) parts ++ (drop (a + 1) (take b parts) ++ begins.0) = ap (λ (l : List (List ℕ)). l ++ begins.0) front ∙ append_assoc (take (a + 1) parts) (drop (a + 1) (take b parts)) begins.0 in
-    (drop (a + 1) (take b parts) ++ begins.0, begins.1, subst (λ (l : List (List ℕ)). grammar l begins.1) split begins.2)
-
-before_another : {H : Type 0} (grammar : List (List ℕ) → H → Type 0) (parts : List (List ℕ)) (a b : ℕ) → a < b → BreaksAt grammar parts a → BreaksAt grammar parts b → ⊥
-before_another grammar parts a b less breaks other =
-    let within = other.within in
-    breaks.there (omega arith) (shorter_begins grammar parts a b (omega arith) other.before)
-
--- there is one such place
-breaks_once : {H : Type 0} (grammar : List (List ℕ) → H → Type 0) (parts : List (List ℕ)) (a b : ℕ) → BreaksAt grammar parts a → BreaksAt grammar parts b → a ≡ b
-breaks_once grammar parts a b breaks other =
-    ⊎_elim (λ less. absurd (before_another grammar parts a b less breaks other))
-    (λ high. ⊎_elim (λ less. absurd (before_another grammar parts b a less other breaks)) (λ low. let one : a ≡ b = omega arith in one) (cases_lt b a))
-    (cases_lt a b)
-
--- and none in a text of the grammar
-no_break : {H : Type 0} (grammar : List (List ℕ) → H → Type 0) (parts : List (List ℕ)) (head : H) (a : ℕ) → grammar parts head → BreaksAt grammar parts a → ⊥
-no_break grammar parts head a spells breaks =
-    ⊎_elim (λ inside. breaks.there inside (drop (a + 1) parts, head, subst (λ (l : List (List ℕ)). grammar l head) (sym (take-append-drop (a + 1) parts)) spells))
-    (λ high. let within = breaks.within in breaks.end (omega arith) head spells)
-    (cases_lt a (length parts))
 
 placed_told : {A : Type 0} (at : ℕ) (r : Result A Refusal) → placed at r ≡ Err Memory → ⊥
 placed_told at (Ok x) h = cc
@@ -74,7 +46,7 @@ pub syntax_read : (text : List ℕ) (at : ℕ) → length text < 2 ^ 32 → IsSy
 syntax_read text at short is = by_reading (reg_at text) refl
   where
     by_reading : (r : Result RegHead HeadFault) → reg_at text ≡ r → reg_at text ≡ Err (Syntax at)
-    by_reading (Ok head) e = absurd (no_break SpellsReg (texts_of (parts_of text)) head is.first.count (reg_spells text head e) is.first.breaks)
+    by_reading (Ok head) e = absurd (breaks_nowhere SpellsReg (texts_of (parts_of text)) is.first.count head is.first.breaks (reg_spells text head e))
     by_reading (Err (Syntax byte)) e =
         let other = syntax_breaks text byte short e in
         let one = breaks_once SpellsReg (texts_of (parts_of text)) other.first.count is.first.count other.first.breaks is.first.breaks in
@@ -89,7 +61,7 @@ pub number_read : (text : List ℕ) (at : ℕ) → length text < 2 ^ 32 → IsNu
 number_read text at short is = by_reading (reg_at text) refl
   where
     by_reading : (r : Result RegHead HeadFault) → reg_at text ≡ r → reg_at text ≡ Err (Number at)
-    by_reading (Ok head) e = absurd (no_break SpellsReg (texts_of (parts_of text)) head is.first.count (reg_spells text head e) is.first.breaks)
+    by_reading (Ok head) e = absurd (breaks_nowhere SpellsReg (texts_of (parts_of text)) is.first.count head is.first.breaks (reg_spells text head e))
     by_reading (Err (Syntax byte)) e =
         let other = syntax_breaks text byte short e in
         let one = breaks_once SpellsReg (texts_of (parts_of text)) is.first.count other.first.count is.first.breaks other.first.breaks in
@@ -113,10 +85,10 @@ one_break grammar text at byte here there =
 -- a text has one head or one fault by a grammar whose parts spell one head
 pub one_head : {H : Type 0} (grammar : List (List ℕ) → H → Type 0) → ((parts : List (List ℕ)) (head other : H) → grammar parts head → grammar parts other → head ≡ other) → HasOneHead grammar
 one_head {H} grammar single text (Ok head) (Ok other) a b known known' = ap (λ (h : H). let r : Result H HeadFault = Ok h in r) (single (texts_of (parts_of text)) head other a b)
-one_head {H} grammar single text (Ok head) (Err (Syntax at)) a b known known' = absurd (no_break grammar (texts_of (parts_of text)) head b.first.count a b.first.breaks)
-one_head {H} grammar single text (Ok head) (Err (Number at)) a b known known' = absurd (no_break grammar (texts_of (parts_of text)) head b.first.count a b.first.breaks)
-one_head {H} grammar single text (Err (Syntax at)) (Ok other) a b known known' = absurd (no_break grammar (texts_of (parts_of text)) other a.first.count b a.first.breaks)
-one_head {H} grammar single text (Err (Number at)) (Ok other) a b known known' = absurd (no_break grammar (texts_of (parts_of text)) other a.first.count b a.first.breaks)
+one_head {H} grammar single text (Ok head) (Err (Syntax at)) a b known known' = absurd (breaks_nowhere grammar (texts_of (parts_of text)) b.first.count head b.first.breaks a)
+one_head {H} grammar single text (Ok head) (Err (Number at)) a b known known' = absurd (breaks_nowhere grammar (texts_of (parts_of text)) b.first.count head b.first.breaks a)
+one_head {H} grammar single text (Err (Syntax at)) (Ok other) a b known known' = absurd (breaks_nowhere grammar (texts_of (parts_of text)) a.first.count other a.first.breaks b)
+one_head {H} grammar single text (Err (Number at)) (Ok other) a b known known' = absurd (breaks_nowhere grammar (texts_of (parts_of text)) a.first.count other a.first.breaks b)
 one_head {H} grammar single text (Err (Syntax at)) (Err (Syntax byte)) a b known known' = ap (λ (n : ℕ). let r : Result H HeadFault = Err (Syntax n) in r) (one_break grammar text at byte a.first b.first)
 one_head {H} grammar single text (Err (Number at)) (Err (Number byte)) a b known known' = ap (λ (n : ℕ). let r : Result H HeadFault = Err (Number n) in r) (one_break grammar text at byte a.first b.first)
 one_head {H} grammar single text (Err (Syntax at)) (Err (Number byte)) a b known known' = absurd (one_kind grammar text at byte a b)

@@ -8,7 +8,8 @@ use Rattle.text_grammar.specs.declared.class.Class.{Class}
 use Rattle.text_grammar.specs.declared.class.Class.TheVariants.{NameByte, Unquoted}
 use Rattle.text_grammar.specs.Bytes.{is_letter, is_digit, is_name_byte}
 use Rattle.text_grammar.specs.Fronts.{is_in, front_len, front_of, behind_front}
-use Rattle.command_head.specs.Numbers.{begins_with, all_in}
+use Rattle.text_grammar.specs.Numbers.{begins_with}
+use Rattle.command_head.specs.Numbers.{all_in}
 use Rattle.command_head.specs.Parts.{begins_with_letter, is_name, all_alphanumeric, is_direction, is_system, is_quoted, unquoted}
 use Rattle.command_head.specs.Grammar.{AreUnquoted, quoted}
 use Rattle.command_head.proofs.FrontSteps.{begins_with-split, front_split, front_of-all, front_of-append, behind_front-append}

@@ -6,7 +6,8 @@ use Rattle.text_grammar.specs.Bytes.{is_letter}
 use Rattle.text_grammar.specs.Fronts.{front_len}
 use Rattle.command_head.specs.declared.fault.HeadFault.{HeadFault}
 use Rattle.command_head.specs.Readings.{placed}
-use Rattle.command_head.specs.Numbers.{begins_with, unsigned}
+use Rattle.text_grammar.specs.Numbers.{begins_with}
+use Rattle.command_head.specs.Numbers.{unsigned}
 use Rattle.command_head.specs.Parts.{begins_with_digit, part_len, behind_blanks, parts_of_rest}
 use Rattle.command_head.specs.Heads.{RegHead, Stage, step, ended, run}
 use Rattle.command_head.proofs.FrontSteps.{length-behind_front}

@@ -4,7 +4,7 @@ use Rattle.std.specs.List.{AllByRecursion}
 use Rattle.std.specs.List.Sorted.{IsStrictlySortedBy}
 use Rattle.std.specs.Ordering.{int_cmp}
 use Rattle.command_head.specs.Readings.{Form, placed}
-use Rattle.command_head.specs.Numbers.{is_short}
+use Rattle.text_grammar.specs.Numbers.{is_short}
 use Rattle.command_head.specs.Parts.{Part, is_system, is_quoted, unquoted}
 use Rattle.command_head.specs.Heads.{Alphabets, Sets, Systems, RegHead, Stage, AtWord, AtName, BehindName, AtNumber, BehindNumber, BehindSet, BehindSystem, AtEnd, body_step, step, ended, run}
 use Rattle.command_head.specs.Formed.{IsSmallSet, IsSystemName, AreFormed}

@@ -2,7 +2,8 @@
 use Rattle.std.proofs.Common.{◌≡◌, ℕ, Bool, true, false, cond, List, [], ◌∷◌, ◌++◌, ℤ, Ok, refl, sym, ◌∙◌, ap, subst, codes, bytes_eq}
 use Rattle.std.specs.List.{AllByRecursion}
 use Rattle.std.proofs.lemmas.List.{append-nil, append_assoc}
-use Rattle.command_head.specs.Numbers.{is_number, is_short, number_of}
+use Rattle.text_grammar.specs.Numbers.{is_short}
+use Rattle.command_head.specs.Numbers.{is_number, number_of}
 use Rattle.command_head.specs.Members.{has, put, with_member}
 use Rattle.command_head.specs.Parts.{is_name, is_system, is_quoted}
 use Rattle.command_head.specs.Heads.{Alphabets, Sets, Systems, RegHead, AtWord, AtName, BehindName, AtNumber, BehindSet, BehindSystem, AtEnd, body_step, step}

@@ -3,7 +3,8 @@ use Rattle.std.specs.Prelude.{◌≡◌, ◌≢◌, ℕ, ◌<◌, ◌^◌, true,
 use Rattle.text_grammar.specs.Faults.{Begins, BreaksAt}
 use Rattle.command_head.specs.declared.fault.HeadFault.{HeadFault}
 use Rattle.command_head.specs.declared.fault.HeadFault.TheVariants.{Syntax, Number, Memory}
-use Rattle.command_head.specs.Numbers.{is_number, number_of, is_short}
+use Rattle.text_grammar.specs.Numbers.{is_short}
+use Rattle.command_head.specs.Numbers.{is_number, number_of}
 use Rattle.command_head.specs.Parts.{Part, parts_of, texts_of}
 use Rattle.command_head.specs.Heads.{reg_at}
 use Rattle.command_head.specs.Grammar.{SpellsReg}

@@ -2,7 +2,7 @@
 use Rattle.std.specs.Prelude.{◌≡◌, ℕ, ◌<◌, true, List, length, ℤ, IsAscii}
 use Rattle.std.specs.List.{AllByRecursion}
 use Rattle.digit_tuple.specs.Sets.{IsAscending}
-use Rattle.command_head.specs.Numbers.{is_short}
+use Rattle.text_grammar.specs.Numbers.{is_short}
 use Rattle.command_head.specs.Parts.{is_system}
 use Rattle.command_head.specs.Heads.{Alphabets, Sets, Systems}
 

@@ -2,7 +2,8 @@
 use Rattle.std.specs.Prelude.{◌≡◌, ◌≢◌, ℕ, true, List, [], ◌∷◌, ◌++◌, ℤ, codes, ◌↔◌, Ok}
 use Rattle.std.specs.List.{AllByRecursion, AllPairs}
 use Rattle.digit_tuple.specs.Sets.{IsAscending}
-use Rattle.command_head.specs.Numbers.{is_number, number_of, is_short}
+use Rattle.text_grammar.specs.Numbers.{is_short}
+use Rattle.command_head.specs.Numbers.{is_number, number_of}
 use Rattle.command_head.specs.Members.{has}
 use Rattle.command_head.specs.Parts.{parts_of, texts_of, is_name, is_system}
 use Rattle.command_head.specs.Heads.{Alphabets, Sets, Systems, RegHead, NamedHead, reg_at}

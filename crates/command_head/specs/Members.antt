@@ -4,7 +4,8 @@ use Rattle.std.specs.List.{list_any}
 use Rattle.std.specs.Ordering.{int_cmp, is_eq}
 use Rattle.std.specs.BTreeSet.{insert_key}
 use Rattle.command_head.specs.Readings.{Refusal, Form, Range}
-use Rattle.command_head.specs.Numbers.{is_number, number_of, is_short}
+use Rattle.text_grammar.specs.Numbers.{is_short}
+use Rattle.command_head.specs.Numbers.{is_number, number_of}
 
 -- whether a number is among these
 abbrev pub has : List ℤ → ℤ → Bool

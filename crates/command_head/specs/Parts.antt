@@ -5,7 +5,8 @@ use Rattle.std.specs.Str.{bytes_eq}
 use Rattle.text_grammar.specs.declared.class.Class.TheVariants.{Blank, Digit, NameByte, Word, Unquoted}
 use Rattle.text_grammar.specs.Bytes.{is_letter, is_digit}
 use Rattle.text_grammar.specs.Fronts.{front_len, front_of, behind_front}
-use Rattle.command_head.specs.Numbers.{begins_with, unsigned, all_in}
+use Rattle.text_grammar.specs.Numbers.{begins_with}
+use Rattle.command_head.specs.Numbers.{unsigned, all_in}
 
 -- the longest front of a text that has neither a blank nor a quote
 abbrev pub first_word_of : List ℕ → List ℕ

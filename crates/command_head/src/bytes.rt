@@ -1,5 +1,5 @@
 ghost use Rattle.std.specs.Prelude.{◌≡◌, ◌-◌, length};
-ghost use Rattle.command_head.specs.Numbers.{begins_with as begins_with_byte, all_in as all_in_class};
+ghost use Rattle.command_head.specs.Numbers.{all_in as all_in_class};
 ghost use Rattle.command_head.specs.Parts.{behind_blanks as rest_behind_blanks};
 
 use text_grammar::{Class, front_len};
@@ -9,16 +9,6 @@ pub(crate) fn place(whole: usize, rest: &[u8]) -> usize
     ensures { result ≡ whole - length rest.now }
 {
     whole.saturating_sub(rest.len())
-}
-
-/// Whether this byte stands first.
-pub(crate) fn begins_with(byte: u8, bytes: &[u8]) -> bool
-    ensures { result ≡ begins_with_byte byte bytes.now }
-{
-    match bytes {
-        [first, ..] => *first == byte,
-        [] => false,
-    }
 }
 
 /// Whether all bytes are of the class.

@@ -1,9 +1,9 @@
 ghost use Rattle.std.specs.Prelude.{◌≡◌, ◌<◌, ◌≤◌, length, true};
 ghost use Rattle.command_head.specs.Parts.{begins_with_letter as letter_first, begins_with_digit as digit_first, number_len as len_of_number, begins_with_value as value_first, begins_with_ending as ending_first, ending_len as len_of_ending, quoted_len as len_of_quoted, part_len as len_of_part, is_name as is_name_part, all_alphanumeric as all_alphanumeric_bytes, is_direction as is_direction_text, is_system as is_system_part, is_quoted as is_quoted_part, unquoted as inside_quotes};
 
-use crate::bytes::{all_in, begins_with};
+use crate::bytes::all_in;
 use crate::numbers::unsigned;
-use text_grammar::{Class, front_len};
+use text_grammar::{Class, begins_with, front_len};
 
 /// The greatest length of a name.
 const LONGEST_NAME: usize = 64;

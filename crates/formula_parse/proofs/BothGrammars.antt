@@ -1,20 +1,20 @@
 -- The grammar, and the same over derivations: texts, trees and flaws of one are those of the other.
-use Rattle.std.proofs.Common.{◌≡◌, refl, sym, ◌∙◌, ap, subst, List, [], ◌∷◌, ◌++◌, map, Option, None, Some}
+use Rattle.std.proofs.Common.{◌≡◌, sym, ◌∙◌, ap, subst, List, [], ◌∷◌, map, Option, None}
 use Rattle.std.specs.List.{AllByRecursion}
 use Rattle.formula_parse.specs.Tokens.{Token, Placed, here, token_of, end}
 use Rattle.formula_parse.specs.Trees as shapes
 use Rattle.formula_parse.specs.Limits.{IsAllowed}
-use Rattle.formula_parse.specs.Formulas.{Formula, FormulaTakes, spelled}
+use Rattle.formula_parse.specs.Formulas.{Formula, spelled}
 use Rattle.formula_parse.specs.FormulaTrees.{default_system, tree_of}
 use Rattle.formula_parse.specs.FormulaFlaws.{formula_flaw}
 use Rattle.formula_parse.specs.Flaws.{Flaw}
-use Rattle.formula_parse.specs.Grammar.{Derives, Reads, IsFlawed, GoesOn, Begins, Breaks, Reaches}
+use Rattle.formula_parse.specs.Grammar.{Derives, GoesOn, Begins, Breaks, Reaches}
 use Rattle.formula_parse.proofs.Derivations as derivations
 use Rattle.formula_parse.proofs.DerivedFlaws as flaws
 use Rattle.formula_parse.proofs.DerivedGrammar as derived
 use Rattle.formula_parse.proofs.SameFormulas.{Alike}
 use Rattle.formula_parse.proofs.ToDerivations.{OfText, derived_of}
-use Rattle.formula_parse.proofs.FromDerivations.{OfText as FormulaOf, formula_of}
+use Rattle.formula_parse.proofs.FromDerivations.{formula_of}
 
 spelled_same : (g : derivations.Formula) (f : Formula) → Alike g f → derivations.spelled g ≡ spelled f
 spelled_same g f s = s.spells 0 (here end 0 ∷ [])

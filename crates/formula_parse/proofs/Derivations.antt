@@ -1,6 +1,6 @@
 -- Derivations as the machine reads them, and the tokens that they spell. The last operand of a formula is told from those before it.
-use Rattle.std.specs.Prelude.{ℕ, suc, Bool, true, false, List, [], ◌∷◌}
-use Rattle.formula_parse.specs.Tokens.{Name, Relation, Quantifier, Connective, Sign, Letter, Placed, here, value_of, name, number, system, called, mark, call_sign, negation, quantifier, comma, opening, closing, bracket, unbracket, letter_sign, sign, minus, times, relation, connective, implies, iff, end}
+use Rattle.std.specs.Prelude.{ℕ, suc, List, [], ◌∷◌}
+use Rattle.formula_parse.specs.Tokens.{Name, Relation, Quantifier, Connective, Sign, Letter, Placed, here, name, number, called, call_sign, negation, quantifier, comma, opening, closing, bracket, unbracket, sign, times, relation, connective, implies, iff, end}
 use Rattle.formula_parse.specs.Trees.{Names, no_names, names}
 use Rattle.formula_parse.specs.Making.{Kinds, Making}
 use Rattle.formula_parse.specs.Machine.{within}

@@ -1,7 +1,6 @@
 -- The least flaw so far, after a derivation.
-use Rattle.std.specs.Prelude.{ℕ, Bool, true, false, not, ◌&&◌, ◌||◌, nat_lt, Option, None, Some}
-use Rattle.formula_parse.specs.Tokens.{Connective, and, or, xor}
-use Rattle.formula_parse.specs.Flaws.{Flaw, mixed_chain, not_linear, noted_if, noted_factor, Product, product_start, product_next, Came, none_came, came_next, mixes}
+use Rattle.std.specs.Prelude.{Bool, true, false, ◌&&◌, Option}
+use Rattle.formula_parse.specs.Flaws.{Flaw, mixed_chain, noted_if, noted_factor, Product, product_start, product_next, Came, none_came, came_next, mixes}
 use Rattle.formula_parse.proofs.Derivations.{Factor, variable, numeral, in_parens, Factors, no_factors, factors, Addends, no_addends, addends, Term, term, Terms, no_terms, terms, Index, index, Core, compare, words, word_letter, letter_word, call_none, call, not_closed, grouped, Closed, marked, Operands, no_operands, operands, Chains, no_chains, chains, Implications, no_implications, implications, Last, ends, quantified, Formula, formula}
 
 abbrev pub is_lone : Addends → Bool

@@ -1,8 +1,7 @@
 -- The grammar over derivations: which tokens have which tree, and where tokens first break it.
-use Rattle.std.specs.Prelude.{◌≡◌, ℕ, ◌+◌, ◌^◌, ◌<◌, ◌≤◌, ℤ, pos, neg_ℤ, Bool, true, false, List, [], ◌∷◌, ◌++◌, map, None, Some, ⊤}
-use Rattle.formula_parse.specs.Tokens.{Name, Connective, Letter, Token, number, Placed, here, value_of, token_of, nesting_of}
-use Rattle.formula_parse.specs.Tokens as tokens
-use Rattle.formula_parse.specs.Trees.{Names, no_names, names, Term, variable, numeral, product, sum, Factors, no_factors, factors, times, Terms, no_terms, terms, Addends, no_addends, addends, Index, Fact, compare, words, word_letter, letter_word, call, Joint, and, or, xor, implies, iff, Formula, atom, negated, chain, quantified, marked, Operands, no_operands, operands}
+use Rattle.std.specs.Prelude.{◌≡◌, List, [], ◌∷◌, ◌++◌, map, None, Some}
+use Rattle.formula_parse.specs.Tokens.{Token, Placed, token_of}
+use Rattle.formula_parse.specs.Trees.{Formula}
 use Rattle.std.specs.List.{AllByRecursion}
 use Rattle.formula_parse.specs.Flaws.{Flaw}
 use Rattle.formula_parse.specs.Limits.{IsAllowed}

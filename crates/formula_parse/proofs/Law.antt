@@ -12,7 +12,7 @@ use Rattle.formula_parse.proofs.DerivedFlaws.{formula_flaw}
 use Rattle.formula_parse.specs.Runs.{after, run_tokens, run, placed}
 use Rattle.formula_parse.specs.Made.{made, trees}
 use Rattle.formula_parse.specs.FormulaTrees.{default_system}
-use Rattle.formula_parse.proofs.DerivedGrammar.{tree_of, Derives, Reads, Begins, Breaks, Reaches}
+use Rattle.formula_parse.proofs.DerivedGrammar.{tree_of, Begins, Breaks, Reaches}
 use Rattle.formula_parse.specs.Limits.{IsAllowed}
 use Rattle.formula_parse.proofs.Complete.{complete, final}
 use Rattle.formula_parse.proofs.Sound.{Sane, GoesOn as ReadsFrom, at_then, state_then, deep, step_goes}

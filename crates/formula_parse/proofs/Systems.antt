@@ -1,7 +1,7 @@
 -- What a derivation is made to, from the system in force before it. A `?` mark holds to the end of the innermost parentheses.
 use Rattle.std.specs.Prelude.{List, [], ◌∷◌}
 use Rattle.formula_parse.specs.Tokens.{Name}
-use Rattle.formula_parse.specs.Trees.{Names, no_names, names}
+use Rattle.formula_parse.specs.Trees.{Names}
 use Rattle.formula_parse.specs.Making.{Kinds, Making}
 use Rattle.formula_parse.proofs.Derivations.{Factor, variable, numeral, in_parens, Factors, no_factors, factors, Addends, no_addends, addends, Term, term, Terms, no_terms, terms, Index, index, Core, compare, words, word_letter, letter_word, call_none, call, not_closed, grouped, Closed, marked, Operands, no_operands, operands, Chains, no_chains, chains, Implications, no_implications, implications, Last, ends, quantified, Formula, formula}
 use Rattle.formula_parse.specs.FormulaTrees.{marks_system}

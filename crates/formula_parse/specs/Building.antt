@@ -1,8 +1,8 @@
 -- How trees are made of their parts: parentheses leave no mark, and a list of one is its item.
-use Rattle.std.specs.Prelude.{◌≡◌, ℕ, ◌+◌, ◌^◌, ◌<◌, ◌≤◌, ℤ, pos, neg_ℤ, Bool, true, false, List, [], ◌∷◌, ◌++◌, map, None, Some, ⊤}
+use Rattle.std.specs.Prelude.{ℕ, ℤ, pos, neg_ℤ, Bool, true, false, List, [], ◌∷◌}
 use Rattle.formula_parse.specs.Tokens.{Name, Connective, Letter, Token, number, Placed, here, value_of, token_of, nesting_of}
 use Rattle.formula_parse.specs.Tokens as tokens
-use Rattle.formula_parse.specs.Trees.{Names, no_names, names, Term, variable, numeral, product, sum, Factors, no_factors, factors, times, Terms, no_terms, terms, Addends, no_addends, addends, Index, Fact, compare, words, word_letter, letter_word, call, Joint, and, or, xor, implies, iff, Formula, atom, negated, chain, quantified, marked, Operands, no_operands, operands}
+use Rattle.formula_parse.specs.Trees.{Names, no_names, names, Term, product, sum, Factors, no_factors, factors, times, Addends, no_addends, addends, Fact, Joint, and, or, xor, Formula, atom, negated, chain, marked, Operands, no_operands, operands}
 
 abbrev pub multiplied : Factors → Term → Term
 multiplied no_factors t = t

@@ -1,5 +1,5 @@
 -- The grammar: which tokens have which tree, and where tokens first break it.
-use Rattle.std.specs.Prelude.{◌≡◌, ℕ, ◌<◌, List, [], ◌∷◌, ◌++◌, map, Option, None, Some}
+use Rattle.std.specs.Prelude.{◌≡◌, ℕ, ◌<◌, List, [], ◌∷◌, ◌++◌, map, None, Some}
 use Rattle.std.specs.List.{AllByRecursion}
 use Rattle.formula_parse.specs.Tokens.{Token, Placed, token_of, nesting_of, end}
 use Rattle.formula_parse.specs.Trees as trees

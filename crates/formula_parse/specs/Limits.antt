@@ -1,8 +1,6 @@
 -- Limits: a numeral is below 2 ^ 64, a letter is a signed 32-bit number, and no token stands within more than 128.
-use Rattle.std.specs.Prelude.{◌≡◌, ℕ, ◌+◌, ◌^◌, ◌<◌, ◌≤◌, ℤ, pos, neg_ℤ, Bool, true, false, List, [], ◌∷◌, ◌++◌, map, None, Some, ⊤}
-use Rattle.formula_parse.specs.Tokens.{Name, Connective, Letter, Token, number, Placed, here, value_of, token_of, nesting_of}
-use Rattle.formula_parse.specs.Tokens as tokens
-use Rattle.formula_parse.specs.Trees.{Names, no_names, names, Term, variable, numeral, product, sum, Factors, no_factors, factors, times, Terms, no_terms, terms, Addends, no_addends, addends, Index, Fact, compare, words, word_letter, letter_word, call, Joint, and, or, xor, implies, iff, Formula, atom, negated, chain, quantified, marked, Operands, no_operands, operands}
+use Rattle.std.specs.Prelude.{ℕ, ◌+◌, ◌^◌, ◌<◌, ◌≤◌, Bool, true, false, ⊤}
+use Rattle.formula_parse.specs.Tokens.{number, Placed, here, value_of, nesting_of}
 
 abbrev pub letter_bound : Bool → ℕ
 letter_bound true = 2 ^ 31 + 1

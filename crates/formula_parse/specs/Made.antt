@@ -1,8 +1,6 @@
 -- Trees as what the machine makes.
-use Rattle.std.specs.Prelude.{◌≡◌, ℕ, ◌+◌, ◌^◌, ◌<◌, ◌≤◌, ℤ, pos, neg_ℤ, Bool, true, false, List, [], ◌∷◌, ◌++◌, map, None, Some, ⊤}
-use Rattle.formula_parse.specs.Tokens.{Name, Connective, Letter, Token, number, Placed, here, value_of, token_of, nesting_of}
-use Rattle.formula_parse.specs.Tokens as tokens
-use Rattle.formula_parse.specs.Trees.{Names, no_names, names, Term, variable, numeral, product, sum, Factors, no_factors, factors, times, Terms, no_terms, terms, Addends, no_addends, addends, Index, Fact, compare, words, word_letter, letter_word, call, Joint, and, or, xor, implies, iff, Formula, atom, negated, chain, quantified, marked, Operands, no_operands, operands}
+use Rattle.std.specs.Prelude.{ℤ}
+use Rattle.formula_parse.specs.Trees.{names, Term, variable, numeral, Factors, no_factors, factors, times, Terms, no_terms, terms, Addends, no_addends, addends, Index, compare, words, word_letter, letter_word, call, implies, iff, Formula, negated, quantified, Operands, no_operands, operands}
 use Rattle.formula_parse.specs.Making.{Kinds, Making}
 use Rattle.formula_parse.specs.Building.{multiplied, summed, chained, under_marks, under_tildes, letter_of, joint, in_system}
 

@@ -1,6 +1,5 @@
 -- What parsing gives.
 use Rattle.std.specs.Prelude.{◌≡◌, ℕ, List, ◌∷◌, ◌++◌, Result, Ok, Err, ⊤}
-use Rattle.formula_parse.specs.Trees as trees
 use Rattle.formula_parse.specs.Flaws.{mixed_chain, not_linear}
 use Rattle.formula_parse.specs.Grammar.{Reads, IsFlawed, Breaks, IsNumber, IsDepth}
 use Rattle.formula_parse.specs.Spots.{Spot, spots, tokens}

@@ -10,7 +10,7 @@ ghost use Rattle.formula_parse.specs.Stops.{Gives};
 use crate::fault::Stop;
 use crate::making::quantified;
 use crate::state::{
-    Around, Body, Context, Frame, Nest, Part, Place, Position, Reading, State, Sum,
+    Around, Body, Context, Frame, Nest, Place, Position, ReadTerm, Reading, State, Sum,
 };
 use crate::token::Token;
 use crate::tree::Formula;
@@ -57,8 +57,8 @@ pub(crate) fn close(
 }
 
 /// A `)` after a term that is no side of a relation: its parenthesis was a term's.
-pub(crate) fn close_term(alloc: Global, context: Context, part: Part) -> Result<State, Stop>
-    ensures { Gives result (machine.close_term trees (context_view context) (frames_view context.around.frames.items) context.body.touched (term_view part.term) part.numeral) }
+pub(crate) fn close_term(alloc: Global, context: Context, read: ReadTerm) -> Result<State, Stop>
+    ensures { Gives result (machine.close_term trees (context_view context) (frames_view context.around.frames.items) context.body.touched (term_view read.term) read.numeral) }
 {
     let Context { mut around, body } = context;
     match around.frames.pop() {
@@ -73,7 +73,7 @@ pub(crate) fn close_term(alloc: Global, context: Context, part: Part) -> Result<
                     around,
                     body: outer,
                 },
-                position: Position::AfterFactor(reading, part),
+                position: Position::AfterFactor(reading, read),
             })
         }
         _ => Err(Stop::Syntax),

@@ -112,7 +112,7 @@ pub(crate) struct Reading {
 
 /// A factor or a term that was read, and whether it is a numeral, maybe in parentheses.
 #[derive(Drop)]
-pub(crate) struct Part {
+pub(crate) struct ReadTerm {
     pub term: Term,
     pub numeral: bool,
 }
@@ -142,7 +142,7 @@ pub(crate) enum Position {
     /// A name that begins an operand: a variable or a word.
     AfterFirst(Name),
     AtFactor(Reading),
-    AfterFactor(Reading, Part),
+    AfterFactor(Reading, ReadTerm),
     AfterIndex(Places, Term),
     AtWord(Aim),
     AtBracket(Aim, Name),

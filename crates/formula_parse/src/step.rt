@@ -30,7 +30,7 @@ pub(crate) fn step(alloc: Global, state: State, token: Token) -> Result<State, S
         Position::AfterOperand(core) => leave(alloc, context, core, token),
         Position::AfterFirst(name) => leave_first(alloc, context, name, token),
         Position::AtFactor(reading) => enter_factor(alloc, context, reading, token),
-        Position::AfterFactor(reading, part) => leave_factor(alloc, context, reading, part, token),
+        Position::AfterFactor(reading, read) => leave_factor(alloc, context, reading, read, token),
         Position::AfterIndex(places, term) => leave_index(alloc, context, places, term, token),
         Position::AtWord(aim) => enter_word(context, aim, token),
         Position::AtBracket(aim, name) => enter_bracket(alloc, context, aim, name, token),

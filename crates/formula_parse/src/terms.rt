@@ -15,7 +15,7 @@ use crate::flaw::Product;
 use crate::making::{atom, multiplied, summed, with_addend, with_factor};
 use crate::operands::leave;
 use crate::state::{
-    Arguments, Context, Nest, Part, Place, Places, Position, Reading, Side, State, Sum,
+    Arguments, Context, Nest, Place, Places, Position, ReadTerm, Reading, Side, State, Sum,
 };
 use crate::token::Token;
 use crate::tree::{Fact, Sign, Term};
@@ -35,15 +35,15 @@ pub(crate) fn at_term(alloc: Global, context: Context, place: Place) -> State
 }
 
 /// A factor was read.
-pub(crate) fn after_factor(context: Context, reading: Reading, part: Part) -> State
+pub(crate) fn after_factor(context: Context, reading: Reading, read: ReadTerm) -> State
     ensures { state_view result ≡ machine.with_factor trees (context_view context) (place_view reading.nest.place) (outers_view reading.nest.outer.items)
-        (addends_view reading.sum.addends.items) (factors_view reading.sum.factors.items) (product_view reading.sum.product) (term_view part.term) part.numeral }
+        (addends_view reading.sum.addends.items) (factors_view reading.sum.factors.items) (product_view reading.sum.product) (term_view read.term) read.numeral }
 {
     let Context { mut around, body } = context;
-    around.flaw = reading.sum.product.noted(part.numeral, around.flaw);
+    around.flaw = reading.sum.product.noted(read.numeral, around.flaw);
     State {
         context: Context { around, body },
-        position: Position::AfterFactor(reading, part),
+        position: Position::AfterFactor(reading, read),
     }
 }
 
@@ -67,11 +67,11 @@ fn open_term(alloc: Global, context: Context, reading: Reading) -> Result<State,
 
 /// A variable, which is no numeral.
 #[tactic(auto, using(crate::proofs::ViewSteps::view_variable))]
-fn variable(name: Name) -> Part
+fn variable(name: Name) -> ReadTerm
     ensures term { term_view result.term ≡ trees.variable name }
     ensures numeral { result.numeral ≡ false }
 {
-    Part {
+    ReadTerm {
         term: Term::Variable(name),
         numeral: false,
     }
@@ -79,11 +79,11 @@ fn variable(name: Name) -> Part
 
 /// A numeral.
 #[tactic(auto, using(crate::proofs::ViewSteps::view_numeral))]
-pub(crate) fn numeral(value: u64) -> Part
+pub(crate) fn numeral(value: u64) -> ReadTerm
     ensures term { term_view result.term ≡ trees.numeral value }
     ensures numeral { result.numeral ≡ true }
 {
-    Part {
+    ReadTerm {
         term: Term::Numeral(value),
         numeral: true,
     }
@@ -108,15 +108,15 @@ pub(crate) fn enter_factor(
 }
 
 /// A token after a whole term that begins an operand.
-fn leave_left(alloc: Global, context: Context, part: Part, token: Token) -> Result<State, Stop>
-    ensures { Gives result (machine.leave_whole trees (context_view context) machine.left_side (term_view part.term) part.numeral (token_view token)) }
+fn leave_left(alloc: Global, context: Context, read: ReadTerm, token: Token) -> Result<State, Stop>
+    ensures { Gives result (machine.leave_whole trees (context_view context) machine.left_side (term_view read.term) read.numeral (token_view token)) }
 {
     match token {
         Token::Relation(relation) => {
-            let place = Place::RightOf(part.term, relation);
+            let place = Place::RightOf(read.term, relation);
             Ok(at_term(alloc, context, place))
         }
-        Token::Closing => close_term(alloc, context, part),
+        Token::Closing => close_term(alloc, context, read),
         _ => Err(Stop::Syntax),
     }
 }
@@ -126,20 +126,20 @@ fn leave_argument(
     alloc: Global,
     context: Context,
     arguments: Arguments,
-    part: Part,
+    read: ReadTerm,
     token: Token,
 ) -> Result<State, Stop>
-    ensures { Gives result (machine.leave_whole trees (context_view context) (place_view (Place.Argument arguments)) (term_view part.term) part.numeral (token_view token)) }
+    ensures { Gives result (machine.leave_whole trees (context_view context) (place_view (Place.Argument arguments)) (term_view read.term) read.numeral (token_view token)) }
 {
     let Arguments { name, mut terms } = arguments;
     match token {
         Token::Comma => {
-            terms.push(part.term)?;
+            terms.push(read.term)?;
             let place = Place::Argument(Arguments { name, terms });
             Ok(at_term(alloc, context, place))
         }
         Token::Closing => {
-            terms.push(part.term)?;
+            terms.push(read.term)?;
             let core = atom(alloc, &context.around.system, Fact::Call(name, terms))?;
             Ok(State {
                 context,
@@ -155,26 +155,26 @@ fn leave_whole(
     alloc: Global,
     context: Context,
     place: Place,
-    part: Part,
+    read: ReadTerm,
     token: Token,
 ) -> Result<State, Stop>
-    ensures { Gives result (machine.leave_whole trees (context_view context) (place_view place) (term_view part.term) part.numeral (token_view token)) }
+    ensures { Gives result (machine.leave_whole trees (context_view context) (place_view place) (term_view read.term) read.numeral (token_view token)) }
 {
     match place {
-        Place::LeftSide => leave_left(alloc, context, part, token),
+        Place::LeftSide => leave_left(alloc, context, read, token),
         Place::RightOf(left, relation) => {
-            let fact = Fact::Compare(left, relation, part.term);
+            let fact = Fact::Compare(left, relation, read.term);
             let core = atom(alloc, &context.around.system, fact)?;
             leave(alloc, context, core, token)
         }
         Place::PlaceIn(places) => match token {
             Token::Unbracket => Ok(State {
                 context,
-                position: Position::AfterIndex(places, part.term),
+                position: Position::AfterIndex(places, read.term),
             }),
             _ => Err(Stop::Syntax),
         },
-        Place::Argument(arguments) => leave_argument(alloc, context, arguments, part, token),
+        Place::Argument(arguments) => leave_argument(alloc, context, arguments, read, token),
     }
 }
 
@@ -183,21 +183,21 @@ fn leave_term(
     alloc: Global,
     context: Context,
     nest: Nest,
-    part: Part,
+    read: ReadTerm,
     token: Token,
 ) -> Result<State, Stop>
-    ensures { Gives result (machine.leave_product trees (context_view context) (place_view nest.place) (outers_view nest.outer.items) (term_view part.term) part.numeral (token_view token)) }
+    ensures { Gives result (machine.leave_product trees (context_view context) (place_view nest.place) (outers_view nest.outer.items) (term_view read.term) read.numeral (token_view token)) }
 {
     let Nest { place, mut outer } = nest;
     match outer.pop() {
-        None => leave_whole(alloc, context, place, part, token),
+        None => leave_whole(alloc, context, place, read, token),
         Some(sum) => match token {
             Token::Closing => {
                 let reading = Reading {
                     nest: Nest { place, outer },
                     sum,
                 };
-                Ok(after_factor(context, reading, part))
+                Ok(after_factor(context, reading, read))
             }
             _ => Err(Stop::Syntax),
         },
@@ -206,16 +206,16 @@ fn leave_term(
 
 impl Sum {
     /// With one more factor and a `*` after it.
-    fn times(self, part: Part, at: usize) -> Result<Sum, OutOfMemory>
+    fn times(self, read: ReadTerm, at: usize) -> Result<Sum, OutOfMemory>
         ensures addends { IfOk result (λ s. addends_view s.addends.items ≡ addends_view self.addends.items) }
-        ensures factors { IfOk result (λ s. factors_view s.factors.items ≡ trees.factors (factors_view self.factors.items) (term_view part.term) at) }
-        ensures product { IfOk result (λ s. product_view s.product ≡ flaws.product_next (product_view self.product) part.numeral at) }
+        ensures factors { IfOk result (λ s. factors_view s.factors.items ≡ trees.factors (factors_view self.factors.items) (term_view read.term) at) }
+        ensures product { IfOk result (λ s. product_view s.product ≡ flaws.product_next (product_view self.product) read.numeral at) }
     {
-        let factors = with_factor(self.factors, part.term)?;
+        let factors = with_factor(self.factors, read.term)?;
         Ok(Sum {
             addends: self.addends,
             factors,
-            product: self.product.next(part.numeral, at),
+            product: self.product.next(read.numeral, at),
         })
     }
 
@@ -235,12 +235,12 @@ impl Sum {
     }
 
     /// The whole term with its last factor.
-    fn whole(self, alloc: Global, last: Part) -> Result<Part, OutOfMemory>
+    fn whole(self, alloc: Global, last: ReadTerm) -> Result<ReadTerm, OutOfMemory>
         ensures term { IfOk result (λ p. term_view p.term ≡ trees.term (addends_view self.addends.items) (factors_view self.factors.items) (term_view last.term)) }
         ensures numeral { IfOk result (λ p. p.numeral ≡ (self.product.lone && last.numeral)) }
     {
         let product = multiplied(self.factors, last.term)?;
-        Ok(Part {
+        Ok(ReadTerm {
             term: summed(alloc, self.addends, product)?,
             numeral: self.product.lone && last.numeral,
         })
@@ -252,30 +252,30 @@ pub(crate) fn leave_factor(
     alloc: Global,
     context: Context,
     reading: Reading,
-    part: Part,
+    read: ReadTerm,
     token: Token,
 ) -> Result<State, Stop>
     ensures { Gives result (machine.leave_factor trees (context_view context) (place_view reading.nest.place) (outers_view reading.nest.outer.items)
-        (addends_view reading.sum.addends.items) (factors_view reading.sum.factors.items) (product_view reading.sum.product) (term_view part.term) part.numeral (token_view token)) }
+        (addends_view reading.sum.addends.items) (factors_view reading.sum.factors.items) (product_view reading.sum.product) (term_view read.term) read.numeral (token_view token)) }
 {
     let Reading { nest, sum } = reading;
     match token {
         Token::Times(at) => {
-            let sum = sum.times(part, at)?;
+            let sum = sum.times(read, at)?;
             Ok(State {
                 context,
                 position: Position::AtFactor(Reading { nest, sum }),
             })
         }
         Token::Sign(sign) => {
-            let sum = sum.signed(alloc, part.term, sign)?;
+            let sum = sum.signed(alloc, read.term, sign)?;
             Ok(State {
                 context,
                 position: Position::AtFactor(Reading { nest, sum }),
             })
         }
         _ => {
-            let term = sum.whole(alloc, part)?;
+            let term = sum.whole(alloc, read)?;
             leave_term(alloc, context, nest, term, token)
         }
     }

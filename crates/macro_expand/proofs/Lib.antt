@@ -1,7 +1,7 @@
 pub mod AnswerSteps
 pub mod FrontSteps
 pub mod NumberSteps
-pub mod PartSteps
+pub mod SegmentSteps
 pub mod ArgumentSteps
 pub mod PieceSteps
 pub mod EachSteps

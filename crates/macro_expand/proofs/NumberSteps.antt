@@ -1,6 +1,6 @@
 -- The number that digits spell, digit by digit.
 use Rattle.std.proofs.Common.{◌≡◌, ℕ, suc, ◌+◌, ◌*◌, ◌-◌, ◌<◌, min, List, [], ◌∷◌, length, get_or, drop, arith, drop-cons}
-use Rattle.macro_expand.specs.Filling.{value_after}
+use Rattle.text_grammar.specs.Numbers.{value_after}
 
 -- digits after numbers that are the same up to a bound
 value_capped : (v w : ℕ) (digits : List ℕ) → min v 18446744073709551615 ≡ min w 18446744073709551615 → min (value_after v digits) 18446744073709551615 ≡ min (value_after w digits) 18446744073709551615

@@ -10,10 +10,10 @@ use Rattle.macro_expand.specs.Texts.{Texts}
 use Rattle.macro_expand.specs.Calls.{Call, call_after}
 use Rattle.macro_expand.specs.Pieces.{byte, call, pieces_from}
 use Rattle.macro_expand.specs.Filling as filling
-use Rattle.macro_expand.specs.Filling.{parts, parts_from, missing, filled}
+use Rattle.macro_expand.specs.Filling.{segments, segments_from, missing, filled}
 use Rattle.macro_expand.specs.Expansion.{each, Expanded, OfCalls, expand_piece, expand_text, expand_call_within, expansion}
 use Rattle.macro_expand.specs.Laws.{HasNo, IsName, IsPlainMacro}
-use Rattle.macro_expand.proofs.PartSteps.{filled_plain, missing_plain}
+use Rattle.macro_expand.proofs.SegmentSteps.{filled_plain, missing_plain}
 use Rattle.macro_expand.proofs.PieceSteps.{pieces_skip}
 use Rattle.macro_expand.proofs.EachSteps.{each-append, each_plain, limited_short}
 use Rattle.macro_expand.proofs.CallSteps.{call_one_deeper}
@@ -29,9 +29,9 @@ pieces_only : (at : ℕ) (text : List ℕ) → HasNo 35 text → pieces_from at 
 pieces_only at [] all = refl
 pieces_only at (b ∷ bs) all = rw (ne_eqb b 35 all.0) (ap (λ more. byte b ∷ more) (pieces_only (at + 1) bs all.1))
 
-parts_bytes : (text : List ℕ) → HasNo 37 text → parts text ≡ map filling.byte text
-parts_bytes [] all = refl
-parts_bytes (b ∷ bs) all = rw (ne_eqb b 37 all.0) (ap (λ more. filling.byte b ∷ more) (parts_bytes bs all.1))
+segments_bytes : (text : List ℕ) → HasNo 37 text → segments text ≡ map filling.byte text
+segments_bytes [] all = refl
+segments_bytes (b ∷ bs) all = rw (ne_eqb b 37 all.0) (ap (λ more. filling.byte b ∷ more) (segments_bytes bs all.1))
 
 -- bytes without calls are put after what was expanded
 bytes_put : (of_call : OfCalls) (text : List ℕ) (done : Expanded) → length (done.bytes ++ text) ≤ 65536 → each (expand_piece of_call) (map byte text) done ≡ Ok (record { bytes = done.bytes ++ text; calls = done.calls })
@@ -71,7 +71,7 @@ pieces_named at name after is =
 call_given : (macros : Texts) (levels : ℕ) (name text : List ℕ) → 0 < levels → IsPlainMacro macros name text → length text ≤ 65536
     → expand_call_within macros levels (call_of_name name) 0 ≡ Ok (record { bytes = text; calls = 1 })
 call_given macros levels name text h is short =
-    rw (call_one_deeper macros levels h, is.added, parts_bytes text is.no_place, missing_plain 0 text, filled_plain [] text, limited_short text short)
+    rw (call_one_deeper macros levels h, is.added, segments_bytes text is.no_place, missing_plain 0 text, filled_plain [] text, limited_short text short)
     (text_kept (expand_call_within macros (levels - 1)) text 1 is.no_call short)
 
 pub call_gives : (macros : Texts) (name text before after : List ℕ) → IsPlainMacro macros name text → HasNo 35 before → HasNo 35 after → length (before ++ (text ++ after)) ≤ 65536

@@ -11,7 +11,7 @@ use Rattle.macro_expand.specs.Texts.{Texts}
 use Rattle.macro_expand.specs.Calls.{Call}
 use Rattle.macro_expand.specs.Pieces.{Piece, byte, call, stray, pieces}
 use Rattle.macro_expand.specs.Arguments.{arguments_of}
-use Rattle.macro_expand.specs.Filling.{Part, parts, missing, filled}
+use Rattle.macro_expand.specs.Filling.{Segment, segments, missing, filled}
 
 -- the bytes that were made, and how many calls were met in the whole expansion
 pub record Expanded : Type 0 where
@@ -69,14 +69,14 @@ abbrev pub expand_arguments : OfTexts → List (List ℕ) → ℕ → Result Giv
 expand_arguments of_text texts calls = each (expand_argument of_text) texts (record { texts = []; calls = calls })
 
 -- a text with arguments in its places, unless it has a place without an argument
-abbrev pub with_arguments : List ℕ → List (List ℕ) → List Part → Option ℕ → Result (List ℕ) MacroFault
+abbrev pub with_arguments : List ℕ → List (List ℕ) → List Segment → Option ℕ → Result (List ℕ) MacroFault
 with_arguments name arguments all (Some n) = Err (faults.MacroArgs name n (length arguments))
 with_arguments name arguments all None = limited (filled arguments all)
 
 -- a macro's text with arguments in its places, if there is one
 abbrev pub filled_text : List ℕ → List (List ℕ) → Option (List ℕ) → Result (List ℕ) MacroFault
 filled_text name arguments None = Err (faults.Unknown name)
-filled_text name arguments (Some text) = with_arguments name arguments (parts text) (missing (length arguments) (parts text))
+filled_text name arguments (Some text) = with_arguments name arguments (segments text) (missing (length arguments) (segments text))
 
 -- what a call expands to, where texts one level deeper expand so
 abbrev pub expand_call : Texts → OfTexts → OfCalls

@@ -5,14 +5,14 @@ use Rattle.macro_expand.specs.declared.fault.MacroFault.TheVariants as faults
 use Rattle.macro_expand.specs.declared.call.Call.{Call as Call'}
 use Rattle.macro_expand.specs.declared.piece.Piece.{Piece as Piece'}
 use Rattle.macro_expand.specs.declared.piece.Piece.TheVariants as piece
-use Rattle.macro_expand.specs.declared.part.Part.{Part as Part'}
-use Rattle.macro_expand.specs.declared.part.Part.TheVariants as part
+use Rattle.macro_expand.specs.declared.segment.Segment.{Segment as Segment'}
+use Rattle.macro_expand.specs.declared.segment.Segment.TheVariants as segment
 use Rattle.macro_expand.specs.declared.expanding.Expanded.{Expanded as Expanded'}
 use Rattle.macro_expand.specs.declared.expanding.Given.{Given as Given'}
 use Rattle.macro_expand.specs.Calls.{Call}
 use Rattle.macro_expand.specs.Pieces.{Piece, byte, call, stray, pieces_from}
 use Rattle.macro_expand.specs.Filling as filling
-use Rattle.macro_expand.specs.Filling.{Part, parts_from}
+use Rattle.macro_expand.specs.Filling.{Segment, segments_from}
 use Rattle.macro_expand.specs.Expansion.{Expanded, Given}
 
 -- the fault that a function answered is the defined one; memory may run out at any time
@@ -62,21 +62,21 @@ pub record IsFirstPiece (at : ℕ) (bytes : List ℕ) (first : Piece') : Type 0 
   pub named : IsNamed first
   pub pieces_are : pieces_from at 0 bytes ≡ pieces_view first ++ pieces_from (at + piece_len first) 0 (drop (piece_len first) bytes)
 
--- the parts that a function read at once
-abbrev pub parts_view : Part' → List Part
-parts_view (part.Plain bytes) = map filling.byte bytes.now
-parts_view (part.Place n len) = filling.place n ∷ []
+-- the segments that a function read at once
+abbrev pub segments_view : Segment' → List Segment
+segments_view (segment.Plain bytes) = map filling.byte bytes.now
+segments_view (segment.Place n len) = filling.place n ∷ []
 
 -- and how many bytes they have
-abbrev pub part_len : Part' → ℕ
-part_len (part.Plain bytes) = length bytes.now
-part_len (part.Place n len) = len
+abbrev pub segment_len : Segment' → ℕ
+segment_len (segment.Plain bytes) = length bytes.now
+segment_len (segment.Place n len) = len
 
--- the first parts of some bytes
-pub record IsFirstPart (bytes : List ℕ) (first : Part') : Type 0 where
-  pub some : 0 < part_len first
-  pub within : part_len first ≤ length bytes
-  pub parts_are : parts_from 0 bytes ≡ parts_view first ++ parts_from 0 (drop (part_len first) bytes)
+-- the first segments of some bytes
+pub record IsFirstSegment (bytes : List ℕ) (first : Segment') : Type 0 where
+  pub some : 0 < segment_len first
+  pub within : segment_len first ≤ length bytes
+  pub segments_are : segments_from 0 bytes ≡ segments_view first ++ segments_from 0 (drop (segment_len first) bytes)
 
 abbrev pub expanded_view : Expanded' → Expanded
 expanded_view e = record { bytes = e.bytes.items; calls = e.calls }

@@ -2,7 +2,7 @@
 
 ghost use Rattle.std.specs.Prelude.{◌≡◌, map, IsAscii};
 ghost use Rattle.std.specs.FinMap.{get};
-ghost use Rattle.macro_expand.specs.Filling.{parts, missing, filled};
+ghost use Rattle.macro_expand.specs.Filling.{segments, missing, filled};
 ghost use Rattle.macro_expand.specs.Expansion.{limited, filled_text as text_filled};
 ghost use Rattle.macro_expand.specs.Views.{Answers};
 
@@ -10,34 +10,34 @@ use crate::bytes::after;
 use crate::fault::{MacroFault, name_of};
 use crate::limited::put;
 use crate::macros::Macros;
-use crate::part::first_part;
+use crate::segment::first_segment;
 use std::alloc::Global;
 
 /// The first number of a place of the text for which so many arguments are too few.
 fn missing_place(text: &[u8], given: usize) -> Option<u64>
-    ensures { result ≡ missing given (parts text.now) }
+    ensures { result ≡ missing given (segments text.now) }
 {
     let mut rest = text;
     while !rest.is_empty() {
-        let part = first_part(rest);
-        if let Some(number) = part.missing(given) {
+        let segment = first_segment(rest);
+        if let Some(number) = segment.missing(given) {
             return Some(number);
         }
-        rest = after(part.len(), rest);
+        rest = after(segment.len(), rest);
     }
     None
 }
 
 /// The text with arguments in its places.
 fn fill(alloc: Global, text: &[u8], arguments: &[Vec<u8>]) -> Result<Vec<u8>, MacroFault>
-    ensures { Answers (λ made. made.items) result (limited (filled (map (λ argument. argument.items) arguments.now) (parts text.now))) }
+    ensures { Answers (λ made. made.items) result (limited (filled (map (λ argument. argument.items) arguments.now) (segments text.now))) }
 {
     let mut made = Vec::new(alloc);
     let mut rest = text;
     while !rest.is_empty() {
-        let part = first_part(rest);
-        put(&mut made, part.text(arguments))?;
-        rest = after(part.len(), rest);
+        let segment = first_segment(rest);
+        put(&mut made, segment.text(arguments))?;
+        rest = after(segment.len(), rest);
     }
     Ok(made)
 }

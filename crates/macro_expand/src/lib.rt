@@ -21,7 +21,7 @@ mod arguments;
 // the calls of a text, and what stands outside of them
 mod piece;
 // the places of a macro's text, and what stands outside of them
-mod part;
+mod segment;
 // texts that grow up to a limit
 mod limited;
 // a macro's text with arguments in its places

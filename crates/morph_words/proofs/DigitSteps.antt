@@ -12,7 +12,8 @@ use Rattle.text_grammar.specs.Bytes.{is_digit}
 use Rattle.text_grammar.specs.Fronts.{front_len, front_of}
 use Rattle.morph_words.specs.declared.lexeme.Lexeme.TheVariants.{Letter, Long, Broken}
 use Rattle.morph_words.specs.declared.lexeme.Piece.{Piece}
-use Rattle.morph_words.specs.Numbers.{begins_with, sign_len, unsigned, number_len, value_after, signed, number_at, is_short}
+use Rattle.text_grammar.specs.Numbers.{begins_with, value_after, signed, is_short}
+use Rattle.morph_words.specs.Numbers.{sign_len, unsigned, number_len, number_at}
 use Rattle.morph_words.specs.Lexemes.{piece, bracket}
 use Rattle.morph_words.proofs.ListSteps.{all_append}
 

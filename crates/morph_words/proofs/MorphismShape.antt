@@ -8,7 +8,8 @@ use Rattle.text_grammar.specs.Bytes.{is_blank, is_digit}
 use Rattle.morph_words.specs.declared.lexeme.Lexeme.{Lexeme}
 use Rattle.morph_words.specs.declared.lexeme.Lexeme.TheVariants.{Letter, Long, Broken, Arrow, Blank, Comma, Other}
 use Rattle.morph_words.specs.declared.lexeme.Piece.{Piece}
-use Rattle.morph_words.specs.Numbers.{begins_with, number_len, number_at, is_short}
+use Rattle.text_grammar.specs.Numbers.{begins_with, is_short}
+use Rattle.morph_words.specs.Numbers.{number_len, number_at}
 use Rattle.morph_words.specs.Lexemes.{piece, bracket, lexeme, spots_from, lexemes_in, lexemes}
 use Rattle.morph_words.specs.Rules.{IsRule, IsMorphism}
 use Rattle.morph_words.specs.Grammar.{Image, only, longer, Rule, Divider, blank, comma, and_blank, and_comma, RuleList, first, next, blanks_then, image_then, rule_then, divider_then, rules_then, text_then, letters_of}

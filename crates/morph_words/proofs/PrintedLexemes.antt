@@ -10,7 +10,7 @@ use Rattle.std.proofs.Math.Seq.{drop-append-add}
 use Rattle.text_grammar.specs.Bytes.{is_digit}
 use Rattle.morph_words.specs.declared.lexeme.Lexeme.TheVariants.{Letter, Arrow, Blank}
 use Rattle.morph_words.specs.declared.lexeme.Piece.{Piece}
-use Rattle.morph_words.specs.Numbers.{is_short}
+use Rattle.text_grammar.specs.Numbers.{is_short}
 use Rattle.morph_words.specs.Lexemes.{piece, lexeme, spots_from, lexemes_in, lexemes}
 use Rattle.morph_words.specs.Printed.{letter_text, rule_text}
 use Rattle.morph_words.specs.Rules.{IsRule}

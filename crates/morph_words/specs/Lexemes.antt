@@ -5,7 +5,8 @@ use Rattle.morph_words.specs.declared.lexeme.Lexeme.{Lexeme}
 use Rattle.morph_words.specs.declared.lexeme.Lexeme.TheVariants.{Letter, Long, Broken, Arrow, Blank, Comma, Other}
 use Rattle.morph_words.specs.declared.lexeme.Piece.{Piece}
 use Rattle.morph_words.specs.declared.lexeme.Spot.{Spot}
-use Rattle.morph_words.specs.Numbers.{begins_with, number_len, number_at, is_short}
+use Rattle.text_grammar.specs.Numbers.{begins_with, is_short}
+use Rattle.morph_words.specs.Numbers.{number_len, number_at}
 
 -- a lexeme of so many bytes after its first
 abbrev pub piece : Lexeme → ℕ → Piece

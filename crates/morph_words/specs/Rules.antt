@@ -5,7 +5,7 @@ use Rattle.std.specs.List.Sorted.{IsStrictlySortedBy}
 use Rattle.std.specs.Ordering.{int_cmp}
 use Rattle.std.specs.Map.{keys_of, lookup}
 use Rattle.std.specs.BTreeMap.{insert_entry, is_at}
-use Rattle.morph_words.specs.Numbers.{is_short}
+use Rattle.text_grammar.specs.Numbers.{is_short}
 
 -- letters, each with its image
 abbrev pub Rules : Type 0

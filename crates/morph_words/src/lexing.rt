@@ -4,8 +4,8 @@ ghost use Rattle.std.specs.Prelude.{◌≡◌, ◌≤◌, ◌<◌, ◌∷◌, dr
 ghost use Rattle.morph_words.specs.Lexemes.{bracket as bracket_of, lexeme as lexeme_of, spots_from};
 
 use crate::lexeme::{Lexeme, Piece, Spot};
-use crate::numbers::{begins_with, number_at, number_len};
-use text_grammar::Class;
+use crate::numbers::{number_at, number_len};
+use text_grammar::{Class, begins_with};
 
 impl Piece {
     fn new(lexeme: Lexeme, more: usize) -> Piece

@@ -1,13 +1,13 @@
 //! Trees of expressions.
 
 ghost use Rattle.std.specs.Prelude.{◌≡◌, IfOk, OnOk};
-ghost use Rattle.regex_build.specs.Postfix.{stepped};
+ghost use Rattle.regex_build.specs.Postfix.{after_symbol};
 ghost use Rattle.reference.specs.Trees.{expression, waiting_in, SplitsTwo};
 
 use crate::tuples::Tuple;
 use digit_tuple::faults::OutOfMemory;
+use regex_build::postfix_symbol::PostfixSymbol;
 use regex_build::regex::Regex;
-use regex_build::step::Step;
 use std::alloc::Global;
 
 /// An expression as a tree.
@@ -35,30 +35,30 @@ pub enum Tree {
 pub fn tree_of(alloc: Global, regex: &Regex) -> Result<Tree, OutOfMemory>
     ensures { IfOk result (λ tree. expression tree ≡ regex.now.tree) }
 {
-    let steps = regex.steps();
+    let symbols = regex.symbols();
     let mut waiting = Vec::new(alloc);
-    for step in steps {
-        take(alloc, &mut waiting, step)?;
+    for symbol in symbols {
+        take(alloc, &mut waiting, symbol)?;
     }
     Ok(waiting.pop().unwrap())
 }
 
-// Takes one step more.
-fn take(alloc: Global, waiting: &mut Vec<Tree>, step: &Step) -> Result<(), OutOfMemory>
-    ensures { OnOk result (waiting_in waiting.new.items ≡ stepped (waiting_in waiting.old.items) step.now) }
+// Takes one symbol more.
+fn take(alloc: Global, waiting: &mut Vec<Tree>, symbol: &PostfixSymbol) -> Result<(), OutOfMemory>
+    ensures { OnOk result (waiting_in waiting.new.items ≡ after_symbol (waiting_in waiting.old.items) symbol.now) }
 {
-    match step {
-        Step::Empty => waiting.push(Tree::Empty)?,
-        Step::Letter(letter) => {
+    match symbol {
+        PostfixSymbol::Empty => waiting.push(Tree::Empty)?,
+        PostfixSymbol::Letter(letter) => {
             let members = Vec::from_slice(alloc, letter.members())?;
             waiting.push(Tree::Letter(Tuple::new(members)))?;
         }
-        Step::Any => waiting.push(Tree::Any)?,
-        Step::Either => take_either(alloc, waiting)?,
-        Step::Follow => take_follow(alloc, waiting)?,
-        Step::Star => take_star(alloc, waiting)?,
-        Step::Plus => take_plus(alloc, waiting)?,
-        Step::Optional => take_optional(alloc, waiting)?,
+        PostfixSymbol::Any => waiting.push(Tree::Any)?,
+        PostfixSymbol::Either => take_either(alloc, waiting)?,
+        PostfixSymbol::Follow => take_follow(alloc, waiting)?,
+        PostfixSymbol::Star => take_star(alloc, waiting)?,
+        PostfixSymbol::Plus => take_plus(alloc, waiting)?,
+        PostfixSymbol::Optional => take_optional(alloc, waiting)?,
     }
     Ok(())
 }
@@ -76,7 +76,7 @@ fn pop_two(waiting: &mut Vec<Tree>) -> Option<(Tree, Tree)>
 }
 
 fn take_either(alloc: Global, waiting: &mut Vec<Tree>) -> Result<(), OutOfMemory>
-    ensures { OnOk result (waiting_in waiting.new.items ≡ stepped (waiting_in waiting.old.items) Step.Either) }
+    ensures { OnOk result (waiting_in waiting.new.items ≡ after_symbol (waiting_in waiting.old.items) PostfixSymbol.Either) }
 {
     if let Some((left, right)) = pop_two(waiting) {
         waiting.push(Tree::Either(Box::new(alloc, left)?, Box::new(alloc, right)?))?;
@@ -85,7 +85,7 @@ fn take_either(alloc: Global, waiting: &mut Vec<Tree>) -> Result<(), OutOfMemory
 }
 
 fn take_follow(alloc: Global, waiting: &mut Vec<Tree>) -> Result<(), OutOfMemory>
-    ensures { OnOk result (waiting_in waiting.new.items ≡ stepped (waiting_in waiting.old.items) Step.Follow) }
+    ensures { OnOk result (waiting_in waiting.new.items ≡ after_symbol (waiting_in waiting.old.items) PostfixSymbol.Follow) }
 {
     if let Some((left, right)) = pop_two(waiting) {
         waiting.push(Tree::Follow(Box::new(alloc, left)?, Box::new(alloc, right)?))?;
@@ -94,7 +94,7 @@ fn take_follow(alloc: Global, waiting: &mut Vec<Tree>) -> Result<(), OutOfMemory
 }
 
 fn take_star(alloc: Global, waiting: &mut Vec<Tree>) -> Result<(), OutOfMemory>
-    ensures { OnOk result (waiting_in waiting.new.items ≡ stepped (waiting_in waiting.old.items) Step.Star) }
+    ensures { OnOk result (waiting_in waiting.new.items ≡ after_symbol (waiting_in waiting.old.items) PostfixSymbol.Star) }
 {
     if let Some(once) = waiting.pop() {
         waiting.push(Tree::Star(Box::new(alloc, once)?))?;
@@ -103,7 +103,7 @@ fn take_star(alloc: Global, waiting: &mut Vec<Tree>) -> Result<(), OutOfMemory>
 }
 
 fn take_plus(alloc: Global, waiting: &mut Vec<Tree>) -> Result<(), OutOfMemory>
-    ensures { OnOk result (waiting_in waiting.new.items ≡ stepped (waiting_in waiting.old.items) Step.Plus) }
+    ensures { OnOk result (waiting_in waiting.new.items ≡ after_symbol (waiting_in waiting.old.items) PostfixSymbol.Plus) }
 {
     if let Some(once) = waiting.pop() {
         waiting.push(Tree::Plus(Box::new(alloc, once)?))?;
@@ -112,7 +112,7 @@ fn take_plus(alloc: Global, waiting: &mut Vec<Tree>) -> Result<(), OutOfMemory>
 }
 
 fn take_optional(alloc: Global, waiting: &mut Vec<Tree>) -> Result<(), OutOfMemory>
-    ensures { OnOk result (waiting_in waiting.new.items ≡ stepped (waiting_in waiting.old.items) Step.Optional) }
+    ensures { OnOk result (waiting_in waiting.new.items ≡ after_symbol (waiting_in waiting.old.items) PostfixSymbol.Optional) }
 {
     if let Some(once) = waiting.pop() {
         waiting.push(Tree::Optional(Box::new(alloc, once)?))?;

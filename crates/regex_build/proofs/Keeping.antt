@@ -4,8 +4,8 @@ use Rattle.std.specs.Prelude.{ℤ, pos, nat_lt, ◌==◌, Contains, ⊤}
 use Rattle.std.specs.List.{AllByRecursion}
 use Rattle.std.proofs.lemmas.List.{length-append}
 use Rattle.std.proofs.lemmas.Bool.Decides.{nat_tests}
-use Rattle.regex_build.specs.declared.step.Step.{Step}
-use Rattle.regex_build.specs.declared.step.Step.TheVariants as kinds
+use Rattle.regex_build.specs.declared.postfix_symbol.PostfixSymbol.{PostfixSymbol}
+use Rattle.regex_build.specs.declared.postfix_symbol.PostfixSymbol.TheVariants as kinds
 use Rattle.regex_build.specs.declared.reading.Group.{Group}
 use Rattle.regex_build.specs.declared.reading.Place.{Place}
 use Rattle.regex_build.specs.declared.reading.Place.TheVariants.{AtPost, Behind, AtNumber, BehindNumber}
@@ -13,7 +13,7 @@ use Rattle.regex_build.specs.Tokens.{Token, bar, star, plus, optional, dot, open
 use Rattle.regex_build.specs.Spots.{inside_behind}
 use Rattle.regex_build.specs.Patterns.{AreMembers, IsOver}
 use Rattle.regex_build.specs.Limits.{Around, behind, set_at, IsAllowed}
-use Rattle.regex_build.specs.Machine.{State, gate, step_if, pushed, followed, joined, is_fresh, close, enter, step, in_bracket}
+use Rattle.regex_build.specs.Machine.{State, gate, symbol_if, pushed, followed, joined, is_fresh, close, enter, step, in_bracket}
 use Rattle.regex_build.specs.Reading.{around}
 use Rattle.regex_build.proofs.ListSteps.{all-append, contains_none}
 use Rattle.regex_build.proofs.Runs.{st}
@@ -38,7 +38,7 @@ partly_all (set ∷ sets) (z ∷ zs) h e = (h.0, partly_all sets zs h.1 (omega a
 
 -- the letters so far have a member of each set
 pub record IsKept (sets : List (List ℤ)) (s : State) : Type 0 where
-  pub steps : AllByRecursion (IsOver sets) s.steps
+  pub symbols : AllByRecursion (IsOver sets) s.symbols
   pub letter : Partly sets s.letter
 
 pub record Keeps (sets : List (List ℤ)) (s : State) (inside : Bool) (t : Token) (n : State) : Type 0 where
@@ -54,30 +54,30 @@ gated : (sets : List (List ℤ)) (s : State) (inside : Bool) (t : Token) (b : Bo
 gated sets s inside t true o h = h refl
 gated sets s inside t false o h = tt
 
-pushed_over : (sets : List (List ℤ)) (ss : List Step) (x : Step) → IsOver sets x → AllByRecursion (IsOver sets) ss → AllByRecursion (IsOver sets) (ss ++ x ∷ [])
+pushed_over : (sets : List (List ℤ)) (ss : List PostfixSymbol) (x : PostfixSymbol) → IsOver sets x → AllByRecursion (IsOver sets) ss → AllByRecursion (IsOver sets) (ss ++ x ∷ [])
 pushed_over sets ss x h k = all-append (IsOver sets) ss (x ∷ []) k (h, tt)
 
-if_over : (sets : List (List ℤ)) (b : Bool) (ss : List Step) (x : Step) → IsOver sets x → AllByRecursion (IsOver sets) ss → AllByRecursion (IsOver sets) (step_if b x ss)
+if_over : (sets : List (List ℤ)) (b : Bool) (ss : List PostfixSymbol) (x : PostfixSymbol) → IsOver sets x → AllByRecursion (IsOver sets) ss → AllByRecursion (IsOver sets) (symbol_if b x ss)
 if_over sets true ss x h k = pushed_over sets ss x h k
 if_over sets false ss x h k = k
 
-pub joined_over : (sets : List (List ℤ)) (s : State) → AllByRecursion (IsOver sets) s.steps → AllByRecursion (IsOver sets) (joined s).steps
-joined_over sets s k = if_over sets s.group.alternatives (followed s).steps kinds.Either tt (if_over sets s.group.sequence s.steps kinds.Follow tt k)
+pub joined_over : (sets : List (List ℤ)) (s : State) → AllByRecursion (IsOver sets) s.symbols → AllByRecursion (IsOver sets) (joined s).symbols
+joined_over sets s k = if_over sets s.group.alternatives (followed s).symbols kinds.Either tt (if_over sets s.group.sequence s.symbols kinds.Follow tt k)
 
 module _ (sets : List (List ℤ)) where
-  pushes : (os : List Group) (g : Group) (p : Place) (l : List ℤ) (ss : List Step) (t : Token) (x : Step) → behind (around (st os g p l ss)) t ≡ around (st os g p l ss) → inside_behind false t ≡ false → (IsAllowed sets (around (st os g p l ss)) t → IsOver sets x) → Keeps sets (st os g p l ss) false t (pushed (st os g p l ss) x)
-  pushes os g p l ss t x e f o = record { around_is = e; inside_is = f; kept = λ a k. record { steps = pushed_over sets ss x (o a) k.steps; letter = k.letter } }
+  pushes : (os : List Group) (g : Group) (p : Place) (l : List ℤ) (ss : List PostfixSymbol) (t : Token) (x : PostfixSymbol) → behind (around (st os g p l ss)) t ≡ around (st os g p l ss) → inside_behind false t ≡ false → (IsAllowed sets (around (st os g p l ss)) t → IsOver sets x) → Keeps sets (st os g p l ss) false t (pushed (st os g p l ss) x)
+  pushes os g p l ss t x e f o = record { around_is = e; inside_is = f; kept = λ a k. record { symbols = pushed_over sets ss x (o a) k.symbols; letter = k.letter } }
 
-  enters : (os : List Group) (g : Group) (p : Place) (l : List ℤ) (ss : List Step) (t : Token) → KeepsIf sets (st os g p l ss) false t (enter (length sets) (st os g p l ss) t)
+  enters : (os : List Group) (g : Group) (p : Place) (l : List ℤ) (ss : List PostfixSymbol) (t : Token) → KeepsIf sets (st os g p l ss) false t (enter (length sets) (st os g p l ss) t)
   enters os g p l ss (digit d) =
       gated sets (st os g p l ss) false (digit d) (length sets == 1) _
       (λ e. gated sets (st os g p l ss) false (digit d) (nat_lt d 10) _
       (λ f. pushes os g p l ss (digit d) (kinds.Letter (pos d ∷ [])) refl refl
       (λ a. partly_all sets (pos d ∷ []) (partly_more sets [] (pos d) tt a.1) (let same : length sets ≡ 1 = grind (arith, nat_tests) in omega (arith, same)))))
   enters os g p l ss dot = pushes os g p l ss dot kinds.Any refl refl (λ a. tt)
-  enters os g p l ss opening = record { around_is = refl; inside_is = refl; kept = λ a k. record { steps = k.steps; letter = k.letter } }
+  enters os g p l ss opening = record { around_is = refl; inside_is = refl; kept = λ a k. record { symbols = k.symbols; letter = k.letter } }
   enters os g p l ss bracket =
-      gated sets (st os g p l ss) false bracket (nat_lt 0 (length sets)) _ (λ e. record { around_is = refl; inside_is = refl; kept = λ a k. record { steps = k.steps; letter = k.letter } })
+      gated sets (st os g p l ss) false bracket (nat_lt 0 (length sets)) _ (λ e. record { around_is = refl; inside_is = refl; kept = λ a k. record { symbols = k.symbols; letter = k.letter } })
   enters os g p l ss bar = tt
   enters os g p l ss star = tt
   enters os g p l ss plus = tt
@@ -88,23 +88,23 @@ module _ (sets : List (List ℤ)) where
   enters os g p l ss (number z) = tt
   enters os g p l ss other = tt
 
-  closes : (os : List Group) (g : Group) (p : Place) (l : List ℤ) (ss us : List Step) (h : Group) (q : Place) → (AllByRecursion (IsOver sets) ss → AllByRecursion (IsOver sets) us) → KeepsIf sets (st os g p l ss) false closing (close os (st os h q l us))
+  closes : (os : List Group) (g : Group) (p : Place) (l : List ℤ) (ss us : List PostfixSymbol) (h : Group) (q : Place) → (AllByRecursion (IsOver sets) ss → AllByRecursion (IsOver sets) us) → KeepsIf sets (st os g p l ss) false closing (close os (st os h q l us))
   closes [] g p l ss us h q o = tt
-  closes (f ∷ os) g p l ss us h q o = record { around_is = refl; inside_is = refl; kept = λ a k. record { steps = o k.steps; letter = k.letter } }
+  closes (f ∷ os) g p l ss us h q o = record { around_is = refl; inside_is = refl; kept = λ a k. record { symbols = o k.symbols; letter = k.letter } }
 
   -- where a sequence ends with a post first
-  from_followed : (os : List Group) (g : Group) (l : List ℤ) (ss : List Step) (t : Token) (o : Option State) → KeepsIf sets (followed (st os g Behind l ss)) false t o → KeepsIf sets (st os g Behind l ss) false t o
+  from_followed : (os : List Group) (g : Group) (l : List ℤ) (ss : List PostfixSymbol) (t : Token) (o : Option State) → KeepsIf sets (followed (st os g Behind l ss)) false t o → KeepsIf sets (st os g Behind l ss) false t o
   from_followed os g l ss t None h = tt
   from_followed os g l ss t (Some n) h = record {
     around_is = h.around_is;
     inside_is = h.inside_is;
-    kept = λ a k. h.kept a (record { steps = if_over sets g.sequence ss kinds.Follow tt k.steps; letter = k.letter });
+    kept = λ a k. h.kept a (record { symbols = if_over sets g.sequence ss kinds.Follow tt k.symbols; letter = k.letter });
   }
 
-  new_post : (os : List Group) (g : Group) (l : List ℤ) (ss : List Step) (t : Token) → KeepsIf sets (st os g Behind l ss) false t (enter (length sets) (followed (st os g Behind l ss)) t)
-  new_post os g l ss t = from_followed os g l ss t _ (enters os (record g { sequence = true }) Behind l (step_if g.sequence kinds.Follow ss) t)
+  new_post : (os : List Group) (g : Group) (l : List ℤ) (ss : List PostfixSymbol) (t : Token) → KeepsIf sets (st os g Behind l ss) false t (enter (length sets) (followed (st os g Behind l ss)) t)
+  new_post os g l ss t = from_followed os g l ss t _ (enters os (record g { sequence = true }) Behind l (symbol_if g.sequence kinds.Follow ss) t)
 
-  keeps_at : (os : List Group) (g : Group) (p : Place) (l : List ℤ) (ss : List Step) (t : Token) → KeepsIf sets (st os g p l ss) (in_bracket p) t (step (length sets) (st os g p l ss) t)
+  keeps_at : (os : List Group) (g : Group) (p : Place) (l : List ℤ) (ss : List PostfixSymbol) (t : Token) → KeepsIf sets (st os g p l ss) (in_bracket p) t (step (length sets) (st os g p l ss) t)
   keeps_at os g AtPost l ss closing =
       gated sets (st os g AtPost l ss) false closing (is_fresh g) _ (λ e. closes os g AtPost l ss (ss ++ kinds.Empty ∷ []) g Behind (λ k. pushed_over sets ss kinds.Empty tt k))
   keeps_at os g AtPost l ss (digit d) = enters os g AtPost l ss (digit d)
@@ -122,9 +122,9 @@ module _ (sets : List (List ℤ)) where
   keeps_at os g Behind l ss star = pushes os g Behind l ss star kinds.Star refl refl (λ a. tt)
   keeps_at os g Behind l ss plus = pushes os g Behind l ss plus kinds.Plus refl refl (λ a. tt)
   keeps_at os g Behind l ss optional = pushes os g Behind l ss optional kinds.Optional refl refl (λ a. tt)
-  keeps_at os g Behind l ss bar = record { around_is = refl; inside_is = refl; kept = λ a k. record { steps = joined_over sets (st os g Behind l ss) k.steps; letter = k.letter } }
+  keeps_at os g Behind l ss bar = record { around_is = refl; inside_is = refl; kept = λ a k. record { symbols = joined_over sets (st os g Behind l ss) k.symbols; letter = k.letter } }
   keeps_at os g Behind l ss closing =
-      closes os g Behind l ss (joined (st os g Behind l ss)).steps (record { alternatives = true; sequence = false }) Behind (λ k. joined_over sets (st os g Behind l ss) k)
+      closes os g Behind l ss (joined (st os g Behind l ss)).symbols (record { alternatives = true; sequence = false }) Behind (λ k. joined_over sets (st os g Behind l ss) k)
   keeps_at os g Behind l ss (digit d) = new_post os g l ss (digit d)
   keeps_at os g Behind l ss dot = new_post os g l ss dot
   keeps_at os g Behind l ss opening = new_post os g l ss opening
@@ -138,20 +138,20 @@ module _ (sets : List (List ℤ)) where
       record {
         around_is = ap (λ n. let x : Around = record { nesting = length os; numbers = n } in x) e;
         inside_is = refl;
-        kept = λ a k. record { steps = k.steps; letter = partly_more sets l z k.letter a.1 };
+        kept = λ a k. record { symbols = k.symbols; letter = partly_more sets l z k.letter a.1 };
       }
   keeps_at os g AtNumber l ss _ = tt
   keeps_at os g BehindNumber l ss comma =
-      gated sets (st os g BehindNumber l ss) true comma (nat_lt (length l) (length sets)) _ (λ e. record { around_is = refl; inside_is = refl; kept = λ a k. record { steps = k.steps; letter = k.letter } })
+      gated sets (st os g BehindNumber l ss) true comma (nat_lt (length l) (length sets)) _ (λ e. record { around_is = refl; inside_is = refl; kept = λ a k. record { symbols = k.symbols; letter = k.letter } })
   keeps_at os g BehindNumber l ss unbracket =
       gated sets (st os g BehindNumber l ss) true unbracket (length l == length sets) _
       (λ e. record {
         around_is = refl;
         inside_is = refl;
-        kept = λ a k. record { steps = pushed_over sets ss (kinds.Letter l) (partly_all sets l k.letter (grind (arith, nat_tests))) k.steps; letter = tt };
+        kept = λ a k. record { symbols = pushed_over sets ss (kinds.Letter l) (partly_all sets l k.letter (grind (arith, nat_tests))) k.symbols; letter = tt };
       })
   keeps_at os g BehindNumber l ss _ = tt
 
 -- behind a token that is read
 pub keeps : (sets : List (List ℤ)) (s n : State) (t : Token) → step (length sets) s t ≡ Some n → Keeps sets s (in_bracket s.place) t n
-keeps sets s n t e = subst (λ (o : Option State). KeepsIf sets s (in_bracket s.place) t o) e (keeps_at sets s.outer s.group s.place s.letter s.steps t)
+keeps sets s n t e = subst (λ (o : Option State). KeepsIf sets s (in_bracket s.place) t o) e (keeps_at sets s.outer s.group s.place s.letter s.symbols t)

@@ -2,13 +2,13 @@
 use Rattle.std.proofs.Common.{◌≡◌, refl, sym, ◌∙◌, ap, subst, ℕ, List, [], ◌∷◌, ◌++◌, append_assoc, append-nil, Option, None, Some}
 use Rattle.std.specs.Prelude.{ℤ}
 use Rattle.text_grammar.specs.Faults.{Begins}
-use Rattle.regex_build.specs.declared.step.Step.{Step}
+use Rattle.regex_build.specs.declared.postfix_symbol.PostfixSymbol.{PostfixSymbol}
 use Rattle.regex_build.specs.Expression.{Expression}
 use Rattle.regex_build.specs.Postfix.{tree_of, IsPostfix}
 use Rattle.regex_build.specs.Tokens.{Token}
 use Rattle.regex_build.specs.Grammar.{Cat, Alt, alt_then, alt_tree, AltFits, Spells}
 use Rattle.regex_build.specs.Machine.{State, start, step, ended}
-use Rattle.regex_build.proofs.GrammarSteps.{alt_on, steps_tree, steps_postfix}
+use Rattle.regex_build.proofs.GrammarSteps.{alt_on, symbols_tree, symbols_postfix}
 use Rattle.regex_build.proofs.Runs.{after, run, run-append}
 use Rattle.regex_build.proofs.Complete.{alt_read, behind_all, whole_ends}
 use Rattle.regex_build.proofs.Zippers.{Front, Position, at_post, behind, at_number, behind_number, Zipper, begin, cat_with, alt_with, state_of, zipper_then, ZipperFits}
@@ -66,59 +66,59 @@ ends_early tracks ts s tree e none w =
     differ : {X : Type 0} {x : X} → Some x ≡ None → ⊥
     differ e = cc
 
-record Whole (tracks : ℕ) (z : Zipper) (steps : List Step) : Type 0 where
+record Whole (tracks : ℕ) (z : Zipper) (symbols : List PostfixSymbol) : Type 0 where
   text : Alt
-  steps_are : alt_on text [] ≡ steps
+  symbols_are : alt_on text [] ≡ symbols
   spells : alt_then text [] ≡ zipper_then z []
   fits : AltFits tracks text
 
-whole_at : (tracks : ℕ) (fs : List Front) (a : Option Alt) (c : Option Cat) (p : Position) (steps : List Step) → ZipperFits tracks (zip fs (pair a c) p) → ended (state_of (zip fs (pair a c) p)) ≡ Some steps → Whole tracks (zip fs (pair a c) p) steps
-whole_at tracks [] a c (behind p) steps h e = record {
+whole_at : (tracks : ℕ) (fs : List Front) (a : Option Alt) (c : Option Cat) (p : Position) (symbols : List PostfixSymbol) → ZipperFits tracks (zip fs (pair a c) p) → ended (state_of (zip fs (pair a c) p)) ≡ Some symbols → Whole tracks (zip fs (pair a c) p) symbols
+whole_at tracks [] a c (behind p) symbols h e = record {
   text = alt_with a (cat_with c p);
-  steps_are = same_some (alt_on (alt_with a (cat_with c p)) []) steps (steps_same a c ∙ e);
+  symbols_are = same_some (alt_on (alt_with a (cat_with c p)) []) symbols (symbols_same a c ∙ e);
   spells = spells_same a c;
   fits = alt_fits tracks a (cat_with c p) h.front.0 (cat_fits tracks c p h.front.1 h.position);
 }
   where
-    steps_same : (a : Option Alt) (c : Option Cat) → Some (alt_on (alt_with a (cat_with c p)) []) ≡ ended (state_of (zip [] (pair a c) (behind p)))
-    steps_same None None = refl
-    steps_same None (Some c) = refl
-    steps_same (Some a) None = refl
-    steps_same (Some a) (Some c) = refl
+    symbols_same : (a : Option Alt) (c : Option Cat) → Some (alt_on (alt_with a (cat_with c p)) []) ≡ ended (state_of (zip [] (pair a c) (behind p)))
+    symbols_same None None = refl
+    symbols_same None (Some c) = refl
+    symbols_same (Some a) None = refl
+    symbols_same (Some a) (Some c) = refl
 
     spells_same : (a : Option Alt) (c : Option Cat) → alt_then (alt_with a (cat_with c p)) [] ≡ zipper_then (zip [] (pair a c) (behind p)) []
     spells_same None None = refl
     spells_same None (Some c) = refl
     spells_same (Some a) None = refl
     spells_same (Some a) (Some c) = refl
-whole_at tracks [] a c at_post steps h e = absurd cc
-whole_at tracks [] a c (at_number o) steps h e = absurd cc
-whole_at tracks [] a c (behind_number ns) steps h e = absurd cc
-whole_at tracks (f ∷ fs) a c p steps h e = absurd cc
+whole_at tracks [] a c at_post symbols h e = absurd cc
+whole_at tracks [] a c (at_number o) symbols h e = absurd cc
+whole_at tracks [] a c (behind_number ns) symbols h e = absurd cc
+whole_at tracks (f ∷ fs) a c p symbols h e = absurd cc
 
--- a text at whose end the machine ends is that of its steps
-pub record Ended (tracks : ℕ) (ts : List Token) (steps : List Step) : Type 0 where
-  pub spells : Spells tracks ts (tree_of steps)
-  pub postfix : IsPostfix steps
+-- a text at whose end the machine ends is that of its symbols
+pub record Ended (tracks : ℕ) (ts : List Token) (symbols : List PostfixSymbol) : Type 0 where
+  pub spells : Spells tracks ts (tree_of symbols)
+  pub postfix : IsPostfix symbols
 
-pub ends : (tracks : ℕ) (ts : List Token) (s : State) (steps : List Step) → Reached tracks ts s → ended s ≡ Some steps → Ended tracks ts steps
-ends tracks ts s steps h e =
+pub ends : (tracks : ℕ) (ts : List Token) (s : State) (symbols : List PostfixSymbol) → Reached tracks ts s → ended s ≡ Some symbols → Ended tracks ts symbols
+ends tracks ts s symbols h e =
     let z = h.zipper in
-    let w = whole_at tracks z.outer z.front.alternatives z.front.sequence z.position steps h.fits (ap ended h.state_is ∙ e) in
+    let w = whole_at tracks z.outer z.front.alternatives z.front.sequence z.position symbols h.fits (ap ended h.state_is ∙ e) in
     record {
       spells = record {
         text = w.text;
         spells = w.spells ∙ (h.spells [] ∙ append-nil ts);
         fits = w.fits;
-        tree_is = sym (steps_tree w.text) ∙ ap tree_of w.steps_are;
+        tree_is = sym (symbols_tree w.text) ∙ ap tree_of w.symbols_are;
       };
-      postfix = subst IsPostfix w.steps_are (steps_postfix w.text);
+      postfix = subst IsPostfix w.symbols_are (symbols_postfix w.text);
     }
 
 -- tokens spell one expression
 pub one_tree : (tracks : ℕ) (ts : List Token) (e f : Expression (List ℤ)) → Spells tracks ts e → Spells tracks ts f → e ≡ f
 one_tree tracks ts e f v w =
     let same : behind_all v.text ≡ behind_all w.text = same_some (behind_all v.text) (behind_all w.text) (sym (reads_tokens tracks ts e v) ∙ reads_tokens tracks ts f w) in
-    let steps : alt_on v.text [] ≡ alt_on w.text [] =
+    let symbols : alt_on v.text [] ≡ alt_on w.text [] =
     same_some (alt_on v.text []) (alt_on w.text []) (sym (whole_ends v.text) ∙ (ap ended same ∙ whole_ends w.text)) in
-    sym v.tree_is ∙ (sym (steps_tree v.text) ∙ (ap tree_of steps ∙ (steps_tree w.text ∙ w.tree_is)))
+    sym v.tree_is ∙ (sym (symbols_tree v.text) ∙ (ap tree_of symbols ∙ (symbols_tree w.text ∙ w.tree_is)))

@@ -5,7 +5,7 @@ use Rattle.std.specs.List.{AllByRecursion}
 use Rattle.std.proofs.lemmas.List.{map-append, length-append, take_all}
 use Rattle.std.proofs.lemmas.List.Elements.{All-from_recursion}
 use Rattle.text_grammar.specs.Faults.{Begins}
-use Rattle.regex_build.specs.declared.step.Step.{Step}
+use Rattle.regex_build.specs.declared.postfix_symbol.PostfixSymbol.{PostfixSymbol}
 use Rattle.regex_build.specs.declared.reading.Group.{Group}
 use Rattle.regex_build.specs.declared.reading.Place.{Place}
 use Rattle.regex_build.specs.declared.reading.Place.TheVariants.{AtPost, Behind, AtNumber, BehindNumber}
@@ -21,7 +21,7 @@ use Rattle.regex_build.specs.Patterns.{IsOver}
 use Rattle.regex_build.specs.Limits.{Around, nothing, behind, behind_all, IsAllowed, AreAllowed}
 use Rattle.regex_build.specs.Parsing.{token_at, IsNumber, IsOpening, IsStuckAt, IsRefusedAt, Parses}
 use Rattle.regex_build.specs.Machine.{State, start, step, ended, ended_at, joined, in_bracket}
-use Rattle.regex_build.specs.Reading.{token_view, IsNext, around, Gives, fault_at, AreStepsOf}
+use Rattle.regex_build.specs.Reading.{token_view, IsNext, around, Gives, fault_at, AreSymbolsOf}
 use Rattle.regex_build.proofs.Runs.{run, run-push}
 use Rattle.regex_build.proofs.Law.{Reached, reached_start, reached_more, begins, breaks, ends_early, ends}
 use Rattle.regex_build.proofs.Keeping.{IsKept, keeps, joined_over}
@@ -43,7 +43,7 @@ behind-push a [] t = refl
 behind-push a (u ∷ ts) t = behind-push (behind a u) ts t
 
 read_start : (sets : List (List ℤ)) → HasRead sets [] start
-read_start sets = record { runs = refl; reached = reached_start (length sets); allowed = tt; around_is = refl; kept = record { steps = tt; letter = tt } }
+read_start sets = record { runs = refl; reached = reached_start (length sets); allowed = tt; around_is = refl; kept = record { symbols = tt; letter = tt } }
 
 read_more : (sets : List (List ℤ)) (ts : List Token) (s n : State) (t : Token) → HasRead sets ts s → step (length sets) s t ≡ Some n → IsAllowed sets (around s) t → HasRead sets (ts ++ t ∷ []) n
 read_more sets ts s n t h e a =
@@ -193,26 +193,26 @@ byte_early sets text at s p e none =
       },
     )
 
-steps_over : (sets : List (List ℤ)) (s : State) (steps : List Step) → IsKept sets s → ended s ≡ Some steps → AllByRecursion (IsOver sets) steps
-steps_over sets s steps k e = at_end s.outer s.place e
+symbols_over : (sets : List (List ℤ)) (s : State) (symbols : List PostfixSymbol) → IsKept sets s → ended s ≡ Some symbols → AllByRecursion (IsOver sets) symbols
+symbols_over sets s symbols k e = at_end s.outer s.place e
   where
-    at_end : (os : List Group) (p : Place) → ended_at os p s ≡ Some steps → AllByRecursion (IsOver sets) steps
-    at_end [] Behind e = let f : (joined s).steps ≡ steps = cc in subst (AllByRecursion (IsOver sets)) f (joined_over sets s k.steps)
+    at_end : (os : List Group) (p : Place) → ended_at os p s ≡ Some symbols → AllByRecursion (IsOver sets) symbols
+    at_end [] Behind e = let f : (joined s).symbols ≡ symbols = cc in subst (AllByRecursion (IsOver sets)) f (joined_over sets s k.symbols)
     at_end [] AtPost e = absurd cc
     at_end [] AtNumber e = absurd cc
     at_end [] BehindNumber e = absurd cc
     at_end (g ∷ os) p e = absurd cc
 
-pub byte_end : (sets : List (List ℤ)) (text : List ℕ) (at : ℕ) (s : State) (steps : List Step) → AtByte sets text at s → spots_from (in_bracket s.place) at 0 (drop at text) ≡ [] → ended s ≡ Some steps → AreStepsOf sets text steps
-byte_end sets text at s steps p e done =
+pub byte_end : (sets : List (List ℤ)) (text : List ℕ) (at : ℕ) (s : State) (symbols : List PostfixSymbol) → AtByte sets text at s → spots_from (in_bracket s.place) at 0 (drop at text) ≡ [] → ended s ≡ Some symbols → AreSymbolsOf sets text symbols
+byte_end sets text at s symbols p e done =
     let w = whole sets text at s p e in
     let h = p.has_read in
-    let x = ends (length sets) (tokens_in p.front) s steps h.reached done in
+    let x = ends (length sets) (tokens_in p.front) s symbols h.reached done in
     record {
       postfix = x.postfix;
-      letters = All-from_recursion (IsOver sets) steps (steps_over sets s steps h.kept done);
+      letters = All-from_recursion (IsOver sets) symbols (symbols_over sets s symbols h.kept done);
       text_of = record {
-        spells = subst (λ ts. Spells (length sets) ts (tree_of steps)) (sym w) x.spells;
+        spells = subst (λ ts. Spells (length sets) ts (tree_of symbols)) (sym w) x.spells;
         allowed = subst (AreAllowed sets nothing) (sym w) h.allowed;
         sets_are = refl;
       };

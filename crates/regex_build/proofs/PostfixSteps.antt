@@ -1,52 +1,52 @@
--- How many expressions wait after one more step.
+-- How many expressions wait after one more symbol.
 use Rattle.std.proofs.Common.{◌≡◌, ℕ, ◌+◌, ◌<◌, ◌≤◌, ℤ, List, [], ◌∷◌, ◌++◌, length, refl, sym, ap, ◌∙◌, subst, arith, get_or, take}
 use Rattle.std.specs.Prelude.{Contains}
 use Rattle.std.proofs.lemmas.List.{take_more, take_all}
-use Rattle.regex_build.specs.declared.step.Step.{Step}
-use Rattle.regex_build.specs.declared.step.Step.TheVariants.{Empty, Letter, Any, Either, Follow, Star, Plus, Optional}
+use Rattle.regex_build.specs.declared.postfix_symbol.PostfixSymbol.{PostfixSymbol}
+use Rattle.regex_build.specs.declared.postfix_symbol.PostfixSymbol.TheVariants.{Empty, Letter, Any, Either, Follow, Star, Plus, Optional}
 use Rattle.regex_build.specs.Expression.{Expression}
 use Rattle.regex_build.specs.Patterns.{AreMembers, IsOver}
-use Rattle.regex_build.specs.Postfix.{stepped, stacked, top_of, IsPostfix}
+use Rattle.regex_build.specs.Postfix.{after_symbol, stacked, top_of, IsPostfix}
 use Rattle.regex_build.proofs.ListSteps.{zip-append}
 
--- the step leads from so many expressions to so many
-abbrev pub Counts : Step → ℕ → ℕ → Type 0
-Counts step waiting after = (stack : List (Expression (List ℤ))) → length stack ≡ waiting → length (stepped stack step) ≡ after
+-- the symbol leads from so many expressions to so many
+abbrev pub Counts : PostfixSymbol → ℕ → ℕ → Type 0
+Counts symbol waiting after = (stack : List (Expression (List ℤ))) → length stack ≡ waiting → length (after_symbol stack symbol) ≡ after
 
-pub counts_empty : (step : Step) (waiting : ℕ) → step ≡ Empty → Counts step waiting (waiting + 1)
-counts_empty step waiting e = let P : Step → Type 0 = λ s. Counts s waiting (waiting + 1) in subst P (sym e) one
+pub counts_empty : (symbol : PostfixSymbol) (waiting : ℕ) → symbol ≡ Empty → Counts symbol waiting (waiting + 1)
+counts_empty symbol waiting e = let P : PostfixSymbol → Type 0 = λ s. Counts s waiting (waiting + 1) in subst P (sym e) one
   where
     one : Counts Empty waiting (waiting + 1)
     one [] h = omega arith
     one (x ∷ []) h = omega arith
     one (x ∷ y ∷ stack) h = omega arith
 
-pub counts_letter : (step : Step) (waiting : ℕ) (x : List ℤ) → step ≡ Letter x → Counts step waiting (waiting + 1)
-counts_letter step waiting x e = let P : Step → Type 0 = λ s. Counts s waiting (waiting + 1) in subst P (sym e) one
+pub counts_letter : (symbol : PostfixSymbol) (waiting : ℕ) (x : List ℤ) → symbol ≡ Letter x → Counts symbol waiting (waiting + 1)
+counts_letter symbol waiting x e = let P : PostfixSymbol → Type 0 = λ s. Counts s waiting (waiting + 1) in subst P (sym e) one
   where
     one : Counts (Letter x) waiting (waiting + 1)
     one [] h = omega arith
     one (y ∷ []) h = omega arith
     one (y ∷ z ∷ stack) h = omega arith
 
-pub counts_any : (step : Step) (waiting : ℕ) → step ≡ Any → Counts step waiting (waiting + 1)
-counts_any step waiting e = let P : Step → Type 0 = λ s. Counts s waiting (waiting + 1) in subst P (sym e) one
+pub counts_any : (symbol : PostfixSymbol) (waiting : ℕ) → symbol ≡ Any → Counts symbol waiting (waiting + 1)
+counts_any symbol waiting e = let P : PostfixSymbol → Type 0 = λ s. Counts s waiting (waiting + 1) in subst P (sym e) one
   where
     one : Counts Any waiting (waiting + 1)
     one [] h = omega arith
     one (x ∷ []) h = omega arith
     one (x ∷ y ∷ stack) h = omega arith
 
-pub counts_either : (step : Step) (waiting after : ℕ) → step ≡ Either → (waiting < 2 → after ≡ waiting) → (2 ≤ waiting → after + 1 ≡ waiting) → Counts step waiting after
-counts_either step waiting after e few many = let P : Step → Type 0 = λ s. Counts s waiting after in subst P (sym e) one
+pub counts_either : (symbol : PostfixSymbol) (waiting after : ℕ) → symbol ≡ Either → (waiting < 2 → after ≡ waiting) → (2 ≤ waiting → after + 1 ≡ waiting) → Counts symbol waiting after
+counts_either symbol waiting after e few many = let P : PostfixSymbol → Type 0 = λ s. Counts s waiting after in subst P (sym e) one
   where
     one : Counts Either waiting after
     one [] h = let k : after ≡ waiting = few (omega arith) in omega arith
     one (x ∷ []) h = let k : after ≡ waiting = few (omega arith) in omega arith
     one (x ∷ y ∷ stack) h = let k : after + 1 ≡ waiting = many (omega arith) in omega arith
 
-pub counts_follow : (step : Step) (waiting after : ℕ) → step ≡ Follow → (waiting < 2 → after ≡ waiting) → (2 ≤ waiting → after + 1 ≡ waiting) → Counts step waiting after
-counts_follow step waiting after e few many = let P : Step → Type 0 = λ s. Counts s waiting after in subst P (sym e) one
+pub counts_follow : (symbol : PostfixSymbol) (waiting after : ℕ) → symbol ≡ Follow → (waiting < 2 → after ≡ waiting) → (2 ≤ waiting → after + 1 ≡ waiting) → Counts symbol waiting after
+counts_follow symbol waiting after e few many = let P : PostfixSymbol → Type 0 = λ s. Counts s waiting after in subst P (sym e) one
   where
     one : Counts Follow waiting after
     one [] h = let k : after ≡ waiting = few (omega arith) in omega arith
@@ -54,7 +54,7 @@ counts_follow step waiting after e few many = let P : Step → Type 0 = λ s. Co
     one (x ∷ y ∷ stack) h = let k : after + 1 ≡ waiting = many (omega arith) in omega arith
 
 -- a sign behind one expression
-pub counts_other : (step : Step) (waiting : ℕ) → (step ≡ Empty → ⊥) → ((x : List ℤ) → step ≡ Letter x → ⊥) → (step ≡ Any → ⊥) → (step ≡ Either → ⊥) → (step ≡ Follow → ⊥) → Counts step waiting waiting
+pub counts_other : (symbol : PostfixSymbol) (waiting : ℕ) → (symbol ≡ Empty → ⊥) → ((x : List ℤ) → symbol ≡ Letter x → ⊥) → (symbol ≡ Any → ⊥) → (symbol ≡ Either → ⊥) → (symbol ≡ Follow → ⊥) → Counts symbol waiting waiting
 counts_other Empty waiting a b c d e = absurd (a refl)
 counts_other (Letter x) waiting a b c d e = absurd (b x refl)
 counts_other Any waiting a b c d e = absurd (c refl)
@@ -79,26 +79,26 @@ counts_other Optional waiting a b c d e = one
     one (x ∷ []) h = h
     one (x ∷ y ∷ stack) h = h
 
-stacked-push : (stack : List (Expression (List ℤ))) (steps : List Step) (step : Step) → stacked stack (steps ++ step ∷ []) ≡ stepped (stacked stack steps) step
-stacked-push stack [] step = refl
-stacked-push stack (s ∷ steps) step = stacked-push (stepped stack s) steps step
+stacked-push : (stack : List (Expression (List ℤ))) (symbols : List PostfixSymbol) (symbol : PostfixSymbol) → stacked stack (symbols ++ symbol ∷ []) ≡ after_symbol (stacked stack symbols) symbol
+stacked-push stack [] symbol = refl
+stacked-push stack (s ∷ symbols) symbol = stacked-push (after_symbol stack s) symbols symbol
 
-pub count_more : (steps : List Step) (i : ℕ) (step : Step) (waiting after : ℕ) → i < length steps → step ≡ get_or steps i step → waiting ≡ length (stacked [] (take i steps)) → Counts step waiting after → after ≡ length (stacked [] (take (i + 1) steps))
-count_more steps i step waiting after l e h counts =
-    let one : take (i + 1) steps ≡ take i steps ++ step ∷ [] = take_more steps i step l ∙ ap (λ s. take i steps ++ s ∷ []) (sym e) in
-    sym (ap (λ xs. length (stacked [] xs)) one ∙ (ap length (stacked-push [] (take i steps) step) ∙ counts (stacked [] (take i steps)) (sym h)))
+pub count_more : (symbols : List PostfixSymbol) (i : ℕ) (symbol : PostfixSymbol) (waiting after : ℕ) → i < length symbols → symbol ≡ get_or symbols i symbol → waiting ≡ length (stacked [] (take i symbols)) → Counts symbol waiting after → after ≡ length (stacked [] (take (i + 1) symbols))
+count_more symbols i symbol waiting after l e h counts =
+    let one : take (i + 1) symbols ≡ take i symbols ++ symbol ∷ [] = take_more symbols i symbol l ∙ ap (λ s. take i symbols ++ s ∷ []) (sym e) in
+    sym (ap (λ xs. length (stacked [] xs)) one ∙ (ap length (stacked-push [] (take i symbols) symbol) ∙ counts (stacked [] (take i symbols)) (sym h)))
 
--- one expression waits at the end exactly where the steps are in postfix order
-pub postfix_from_count : (steps : List Step) (i waiting : ℕ) → length steps ≤ i → waiting ≡ length (stacked [] (take i steps)) → waiting ≡ 1 → IsPostfix steps
-postfix_from_count steps i waiting l h one = alone (stacked [] steps) (ap (λ xs. length (stacked [] xs)) (sym (take_all i steps l)) ∙ (sym h ∙ one))
+-- one expression waits at the end exactly where the symbols are in postfix order
+pub postfix_from_count : (symbols : List PostfixSymbol) (i waiting : ℕ) → length symbols ≤ i → waiting ≡ length (stacked [] (take i symbols)) → waiting ≡ 1 → IsPostfix symbols
+postfix_from_count symbols i waiting l h one = alone (stacked [] symbols) (ap (λ xs. length (stacked [] xs)) (sym (take_all i symbols l)) ∙ (sym h ∙ one))
   where
     alone : (stack : List (Expression (List ℤ))) → length stack ≡ 1 → stack ≡ top_of stack ∷ []
     alone [] h = absurd (omega arith)
     alone (x ∷ []) h = refl
     alone (x ∷ y ∷ stack) h = absurd (omega arith)
 
-pub count_from_postfix : (steps : List Step) (i waiting : ℕ) → length steps ≤ i → waiting ≡ length (stacked [] (take i steps)) → IsPostfix steps → waiting ≡ 1
-count_from_postfix steps i waiting l h postfix = h ∙ (ap (λ xs. length (stacked [] xs)) (take_all i steps l) ∙ ap length postfix)
+pub count_from_postfix : (symbols : List PostfixSymbol) (i waiting : ℕ) → length symbols ≤ i → waiting ≡ length (stacked [] (take i symbols)) → IsPostfix symbols → waiting ≡ 1
+count_from_postfix symbols i waiting l h postfix = h ∙ (ap (λ xs. length (stacked [] xs)) (take_all i symbols l) ∙ ap length postfix)
 
 -- a member of one set more
 pub members_more : (sets : List (List ℤ)) (members : List ℤ) (i : ℕ) (set : List ℤ) (other : ℤ) → length sets ≡ length members → i < length sets → set ≡ get_or sets i set → AreMembers (take i sets) (take i members) → Contains {X = ℤ} set (get_or members i other)
@@ -116,7 +116,7 @@ members_all sets members i n l are =
     let Q : List ℤ → Type 0 = λ x. AreMembers (take i sets) x in
     subst P (take_all i sets l) (subst Q (take_all i members (omega arith)) are)
 
-pub over_other : (sets : List (List ℤ)) (step : Step) → ((x : List ℤ) → step ≡ Letter x → ⊥) → IsOver sets step
+pub over_other : (sets : List (List ℤ)) (symbol : PostfixSymbol) → ((x : List ℤ) → symbol ≡ Letter x → ⊥) → IsOver sets symbol
 over_other sets Empty f = tt
 over_other sets (Letter x) f = absurd (f x refl)
 over_other sets Any f = tt

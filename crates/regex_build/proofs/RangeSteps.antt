@@ -9,10 +9,10 @@ use Rattle.digit_tuple.specs.Sets.{IsAscending, IsLetterSet, sizes_of}
 use Rattle.digit_tuple.specs.Tuples.{IsLetterOf}
 use Rattle.digit_tuple.proofs.TupleLemmas.{one_letter, tuple_from_letter, letter_below}
 use Rattle.regex_build.specs.declared.codes.LetterRange.{LetterRange}
-use Rattle.regex_build.specs.declared.step.Step.{Step}
-use Rattle.regex_build.specs.declared.step.Step.TheVariants.{Empty, Letter, Any, Either, Follow, Star, Plus, Optional}
+use Rattle.regex_build.specs.declared.postfix_symbol.PostfixSymbol.{PostfixSymbol}
+use Rattle.regex_build.specs.declared.postfix_symbol.PostfixSymbol.TheVariants.{Empty, Letter, Any, Either, Follow, Star, Plus, Optional}
 use Rattle.regex_build.specs.Expression.{Expression, occurrences_in}
-use Rattle.regex_build.specs.Postfix.{stepped, stacked, tree_of, IsPostfix}
+use Rattle.regex_build.specs.Postfix.{after_symbol, stacked, tree_of, IsPostfix}
 use Rattle.regex_build.specs.Positions.{IsOf, IsWritten}
 use Rattle.regex_build.specs.Codes.{IsInRange, IsRangeOf, occurrence_in, occurrences_of}
 use Rattle.regex_build.specs.Rows.{IsLetterAt}
@@ -34,8 +34,8 @@ range_of_any sets letters e a = (
   λ h. let below : a < product (sizes_of sets) = letter_below sets h.0 a h.1 in (omega arith, omega arith),
 )
 
--- the other steps are no occurrences
-pub no_occurrence : (R : Option (List ℤ) → LetterRange → Type 0) (step : Step) → ((x : List ℤ) → step ≡ Letter x → ⊥) → (step ≡ Any → ⊥) → AllZip R (occurrence_in step) []
+-- the other symbols are no occurrences
+pub no_occurrence : (R : Option (List ℤ) → LetterRange → Type 0) (symbol : PostfixSymbol) → ((x : List ℤ) → symbol ≡ Letter x → ⊥) → (symbol ≡ Any → ⊥) → AllZip R (occurrence_in symbol) []
 no_occurrence R Empty f g = tt
 no_occurrence R (Letter x) f g = absurd (f x refl)
 no_occurrence R Any f g = absurd (g refl)
@@ -53,58 +53,58 @@ waiting_occurrences (e ∷ stack) = waiting_occurrences stack ++ occurrences_in 
 nothing_more : (stack : List (Expression (List ℤ))) → waiting_occurrences stack ≡ waiting_occurrences stack ++ []
 nothing_more stack = sym (append-nil (waiting_occurrences stack))
 
-occurrences-stepped : (stack : List (Expression (List ℤ))) (step : Step) → waiting_occurrences (stepped stack step) ≡ waiting_occurrences stack ++ occurrence_in step
+occurrences-after_symbol : (stack : List (Expression (List ℤ))) (symbol : PostfixSymbol) → waiting_occurrences (after_symbol stack symbol) ≡ waiting_occurrences stack ++ occurrence_in symbol
 unfolding waiting_occurrences
-occurrences-stepped [] Empty = refl
-occurrences-stepped (e ∷ []) Empty = refl
-occurrences-stepped (f ∷ e ∷ stack) Empty = refl
-occurrences-stepped [] (Letter x) = refl
-occurrences-stepped (e ∷ []) (Letter x) = refl
-occurrences-stepped (f ∷ e ∷ stack) (Letter x) = refl
-occurrences-stepped [] Any = refl
-occurrences-stepped (e ∷ []) Any = refl
-occurrences-stepped (f ∷ e ∷ stack) Any = refl
-occurrences-stepped [] Either = refl
-occurrences-stepped (e ∷ []) Either = nothing_more (e ∷ [])
-occurrences-stepped (f ∷ e ∷ stack) Either = sym (append_assoc (waiting_occurrences stack) (occurrences_in e) (occurrences_in f)) ∙ nothing_more (f ∷ e ∷ stack)
-occurrences-stepped [] Follow = refl
-occurrences-stepped (e ∷ []) Follow = nothing_more (e ∷ [])
-occurrences-stepped (f ∷ e ∷ stack) Follow = sym (append_assoc (waiting_occurrences stack) (occurrences_in e) (occurrences_in f)) ∙ nothing_more (f ∷ e ∷ stack)
-occurrences-stepped [] Star = refl
-occurrences-stepped (e ∷ []) Star = nothing_more (e ∷ [])
-occurrences-stepped (f ∷ e ∷ stack) Star = nothing_more (f ∷ e ∷ stack)
-occurrences-stepped [] Plus = refl
-occurrences-stepped (e ∷ []) Plus = nothing_more (e ∷ [])
-occurrences-stepped (f ∷ e ∷ stack) Plus = nothing_more (f ∷ e ∷ stack)
-occurrences-stepped [] Optional = refl
-occurrences-stepped (e ∷ []) Optional = nothing_more (e ∷ [])
-occurrences-stepped (f ∷ e ∷ stack) Optional = nothing_more (f ∷ e ∷ stack)
+occurrences-after_symbol [] Empty = refl
+occurrences-after_symbol (e ∷ []) Empty = refl
+occurrences-after_symbol (f ∷ e ∷ stack) Empty = refl
+occurrences-after_symbol [] (Letter x) = refl
+occurrences-after_symbol (e ∷ []) (Letter x) = refl
+occurrences-after_symbol (f ∷ e ∷ stack) (Letter x) = refl
+occurrences-after_symbol [] Any = refl
+occurrences-after_symbol (e ∷ []) Any = refl
+occurrences-after_symbol (f ∷ e ∷ stack) Any = refl
+occurrences-after_symbol [] Either = refl
+occurrences-after_symbol (e ∷ []) Either = nothing_more (e ∷ [])
+occurrences-after_symbol (f ∷ e ∷ stack) Either = sym (append_assoc (waiting_occurrences stack) (occurrences_in e) (occurrences_in f)) ∙ nothing_more (f ∷ e ∷ stack)
+occurrences-after_symbol [] Follow = refl
+occurrences-after_symbol (e ∷ []) Follow = nothing_more (e ∷ [])
+occurrences-after_symbol (f ∷ e ∷ stack) Follow = sym (append_assoc (waiting_occurrences stack) (occurrences_in e) (occurrences_in f)) ∙ nothing_more (f ∷ e ∷ stack)
+occurrences-after_symbol [] Star = refl
+occurrences-after_symbol (e ∷ []) Star = nothing_more (e ∷ [])
+occurrences-after_symbol (f ∷ e ∷ stack) Star = nothing_more (f ∷ e ∷ stack)
+occurrences-after_symbol [] Plus = refl
+occurrences-after_symbol (e ∷ []) Plus = nothing_more (e ∷ [])
+occurrences-after_symbol (f ∷ e ∷ stack) Plus = nothing_more (f ∷ e ∷ stack)
+occurrences-after_symbol [] Optional = refl
+occurrences-after_symbol (e ∷ []) Optional = nothing_more (e ∷ [])
+occurrences-after_symbol (f ∷ e ∷ stack) Optional = nothing_more (f ∷ e ∷ stack)
 
-occurrences-stacked : (stack : List (Expression (List ℤ))) (steps : List Step) → waiting_occurrences (stacked stack steps) ≡ waiting_occurrences stack ++ occurrences_of steps
+occurrences-stacked : (stack : List (Expression (List ℤ))) (symbols : List PostfixSymbol) → waiting_occurrences (stacked stack symbols) ≡ waiting_occurrences stack ++ occurrences_of symbols
 occurrences-stacked stack [] = nothing_more stack
-occurrences-stacked stack (step ∷ steps) =
-    occurrences-stacked (stepped stack step) steps ∙ ap (λ os. os ++ occurrences_of steps) (occurrences-stepped stack step) ∙ append_assoc (waiting_occurrences stack) (occurrence_in step) (occurrences_of steps)
+occurrences-stacked stack (symbol ∷ symbols) =
+    occurrences-stacked (after_symbol stack symbol) symbols ∙ ap (λ os. os ++ occurrences_of symbols) (occurrences-after_symbol stack symbol) ∙ append_assoc (waiting_occurrences stack) (occurrence_in symbol) (occurrences_of symbols)
 
--- the occurrences of the expression of steps are those of the steps
-pub occurrences_in-tree_of : (steps : List Step) → IsPostfix steps → occurrences_in (tree_of steps) ≡ occurrences_of steps
+-- the occurrences of the expression of symbols are those of the symbols
+pub occurrences_in-tree_of : (symbols : List PostfixSymbol) → IsPostfix symbols → occurrences_in (tree_of symbols) ≡ occurrences_of symbols
 unfolding waiting_occurrences
-occurrences_in-tree_of steps postfix = sym (ap waiting_occurrences postfix) ∙ occurrences-stacked [] steps
+occurrences_in-tree_of symbols postfix = sym (ap waiting_occurrences postfix) ∙ occurrences-stacked [] symbols
 
--- one step more
+-- one symbol more
 flat_map-push : {X Y : Type 0} (f : X → List Y) (xs : List X) (x : X) → flat_map f (xs ++ x ∷ []) ≡ flat_map f xs ++ f x
 flat_map-push f [] x = append-nil (f x)
 flat_map-push f (y ∷ xs) x = ap (λ ys. f y ++ ys) (flat_map-push f xs x) ∙ sym (append_assoc (f y) (flat_map f xs) (f x))
 
-pub ranges_more : (sets : List (List ℤ)) (steps : List Step) (i : ℕ) (step : Step) (old new here : List LetterRange) → i < length steps → step ≡ get_or steps i step → AllZip (IsRangeOf sets) (occurrences_of (take i steps)) old
-    → AllZip (IsRangeOf sets) (occurrence_in step) here → new ≡ old ++ here → AllZip (IsRangeOf sets) (occurrences_of (take (i + 1) steps)) new
-ranges_more sets steps i step old new here l e a b f =
-    let one : take (i + 1) steps ≡ take i steps ++ step ∷ [] = take_more steps i step l ∙ ap (λ s. take i steps ++ s ∷ []) (sym e) in
+pub ranges_more : (sets : List (List ℤ)) (symbols : List PostfixSymbol) (i : ℕ) (symbol : PostfixSymbol) (old new here : List LetterRange) → i < length symbols → symbol ≡ get_or symbols i symbol → AllZip (IsRangeOf sets) (occurrences_of (take i symbols)) old
+    → AllZip (IsRangeOf sets) (occurrence_in symbol) here → new ≡ old ++ here → AllZip (IsRangeOf sets) (occurrences_of (take (i + 1) symbols)) new
+ranges_more sets symbols i symbol old new here l e a b f =
+    let one : take (i + 1) symbols ≡ take i symbols ++ symbol ∷ [] = take_more symbols i symbol l ∙ ap (λ s. take i symbols ++ s ∷ []) (sym e) in
     let P : List (Option (List ℤ)) → Type 0 = λ os. AllZip (IsRangeOf sets) os new in
-    let Q : List LetterRange → Type 0 = λ rs. AllZip (IsRangeOf sets) (occurrences_of (take i steps) ++ occurrence_in step) rs in
-    subst P (sym (ap occurrences_of one ∙ flat_map-push occurrence_in (take i steps) step)) (subst Q (sym f) (zip-append (IsRangeOf sets) (occurrences_of (take i steps)) old (occurrence_in step) here a b))
+    let Q : List LetterRange → Type 0 = λ rs. AllZip (IsRangeOf sets) (occurrences_of (take i symbols) ++ occurrence_in symbol) rs in
+    subst P (sym (ap occurrences_of one ∙ flat_map-push occurrence_in (take i symbols) symbol)) (subst Q (sym f) (zip-append (IsRangeOf sets) (occurrences_of (take i symbols)) old (occurrence_in symbol) here a b))
 
-pub ranges_all : (sets : List (List ℤ)) (steps : List Step) (i : ℕ) (made : List LetterRange) → length steps ≤ i → AllZip (IsRangeOf sets) (occurrences_of (take i steps)) made → AllZip (IsRangeOf sets) (occurrences_of steps) made
-ranges_all sets steps i made l a = let P : List Step → Type 0 = λ xs. AllZip (IsRangeOf sets) (occurrences_of xs) made in subst P (take_all i steps l) a
+pub ranges_all : (sets : List (List ℤ)) (symbols : List PostfixSymbol) (i : ℕ) (made : List LetterRange) → length symbols ≤ i → AllZip (IsRangeOf sets) (occurrences_of (take i symbols)) made → AllZip (IsRangeOf sets) (occurrences_of symbols) made
+ranges_all sets symbols i made l a = let P : List PostfixSymbol → Type 0 = λ xs. AllZip (IsRangeOf sets) (occurrences_of xs) made in subst P (take_all i symbols l) a
 
 -- a letter in the range of a place is one that is written there
 at_range : (sets : List (List ℤ)) (os : List (Option (List ℤ))) (ranges : List LetterRange) (k a : ℕ) → AllZip (IsRangeOf sets) os ranges
@@ -133,9 +133,9 @@ pub written_below : (sets : List (List ℤ)) (os : List (Option (List ℤ))) (pl
 written_below sets os zero a h = absurd h
 written_below sets os (suc k) a h = let r = at_below sets os k a h in let l : k < length os = r.0 in (omega arith, r.1)
 
--- the ranges of an expression that is given by its steps
-pub ranges_of_tree : (sets : List (List ℤ)) (steps : List Step) (ranges given : List LetterRange) → IsPostfix steps → given ≡ ranges → AllZip (IsRangeOf sets) (occurrences_of steps) ranges → AllZip (IsRangeOf sets) (occurrences_in (tree_of steps)) given
-ranges_of_tree sets steps ranges given postfix e z =
+-- the ranges of an expression that is given by its symbols
+pub ranges_of_tree : (sets : List (List ℤ)) (symbols : List PostfixSymbol) (ranges given : List LetterRange) → IsPostfix symbols → given ≡ ranges → AllZip (IsRangeOf sets) (occurrences_of symbols) ranges → AllZip (IsRangeOf sets) (occurrences_in (tree_of symbols)) given
+ranges_of_tree sets symbols ranges given postfix e z =
     let P : List (Option (List ℤ)) → Type 0 = λ os. AllZip (IsRangeOf sets) os given in
-    let Q : List LetterRange → Type 0 = λ rs. AllZip (IsRangeOf sets) (occurrences_of steps) rs in
-    subst P (sym (occurrences_in-tree_of steps postfix)) (subst Q (sym e) z)
+    let Q : List LetterRange → Type 0 = λ rs. AllZip (IsRangeOf sets) (occurrences_of symbols) rs in
+    subst P (sym (occurrences_in-tree_of symbols postfix)) (subst Q (sym e) z)

@@ -4,7 +4,7 @@ use Rattle.std.specs.Prelude.{ℤ, ◌<◌, Vec, Result, Ok, ⊤}
 use Rattle.std.specs.declared.alloc.Global.{Global}
 use Rattle.std.proofs.lemmas.List.Sums.{fold-append}
 use Rattle.std.specs.List.{fold}
-use Rattle.regex_build.specs.declared.step.Step.TheVariants as kinds
+use Rattle.regex_build.specs.declared.postfix_symbol.PostfixSymbol.TheVariants as kinds
 use Rattle.regex_build.specs.declared.fault.Refusal.{Refusal}
 use Rattle.regex_build.specs.declared.reading.Group.{Group}
 use Rattle.regex_build.specs.declared.reading.Place.{Place}
@@ -52,12 +52,12 @@ closes_group sets s m n result e h = subst (λ o. Answers o ⊤ closing n result
 
 -- a group is opened
 pub opens : (sets : List (List ℤ)) (r : Reading) (outer : Vec Group Global) (g : Group) → outer.items ≡ r.outer.items ++ r.group ∷ [] → g ≡ fresh → length r.outer.items < 128
-    → Enters sets (state_view r) opening (state_view (record { outer = outer; group = g; place = AtPost; letter = r.letter; steps = r.steps })) (Ok tt)
+    → Enters sets (state_view r) opening (state_view (record { outer = outer; group = g; place = AtPost; letter = r.letter; symbols = r.symbols })) (Ok tt)
 opens sets r outer g e f l =
     let n = length_reversed r.outer.items in
     let os : r.group ∷ fold (λ gs h. h ∷ gs) [] r.outer.items ≡ fold (λ gs h. h ∷ gs) [] outer.items =
     sym (ap (fold (λ gs h. h ∷ gs) []) e ∙ fold-append (λ gs h. h ∷ gs) [] r.outer.items (r.group ∷ [])) in (
-      ap (λ gs. Some (st gs fresh AtPost r.letter r.steps.items)) os
-          ∙ ap (λ h. Some (st (fold (λ gs h. h ∷ gs) [] outer.items) h AtPost r.letter r.steps.items)) (sym f),
+      ap (λ gs. Some (st gs fresh AtPost r.letter r.symbols.items)) os
+          ∙ ap (λ h. Some (st (fold (λ gs h. h ∷ gs) [] outer.items) h AtPost r.letter r.symbols.items)) (sym f),
       omega (arith, n, l),
     )

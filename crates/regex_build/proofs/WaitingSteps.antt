@@ -1,4 +1,4 @@
--- What waits after one more step.
+-- What waits after one more symbol.
 use Rattle.std.proofs.Common.{◌≡◌, ℕ, ◌+◌, ◌<◌, ◌≤◌, ℤ, List, [], ◌∷◌, ◌++◌, length, inl, inr, refl, sym, ap, ◌∙◌, subst, arith, Option, Some, take}
 use Rattle.std.specs.Prelude.{Contains, slice_index_or}
 use Rattle.std.specs.Prelude.{Vec, vec_len}
@@ -6,12 +6,12 @@ use Rattle.std.specs.declared.alloc.Global.{Global}
 use Rattle.std.specs.Option.{option_to_list}
 use Rattle.std.proofs.lemmas.List.{length-append, length_push, get_or_append_left, get_or_push, take_more, take_all}
 use Rattle.regex_build.specs.declared.fragment.Fragment.{Fragment}
-use Rattle.regex_build.specs.declared.step.Step.{Step}
-use Rattle.regex_build.specs.declared.step.Step.TheVariants.{Empty, Letter, Any, Either, Follow, Star, Plus, Optional}
+use Rattle.regex_build.specs.declared.postfix_symbol.PostfixSymbol.{PostfixSymbol}
+use Rattle.regex_build.specs.declared.postfix_symbol.PostfixSymbol.TheVariants.{Empty, Letter, Any, Either, Follow, Star, Plus, Optional}
 use Rattle.regex_build.specs.Expression.{Expression, empty, letter, any, either, follow, star, plus, optional, occurrences_in}
-use Rattle.regex_build.specs.Postfix.{stepped, stacked, tree_of, IsPostfix}
+use Rattle.regex_build.specs.Postfix.{after_symbol, stacked, tree_of, IsPostfix}
 use Rattle.regex_build.specs.Fragments.{IsFragment, IsKeptBelow, HasRows, IsOccurrence, IsEmptyWord, IsPlace, IsEither, IsFollow, IsStar, IsPlus, IsOptional}
-use Rattle.regex_build.specs.Waiting.{AreWaiting, Waits, IsWaiting, Steps, AddsOccurrence}
+use Rattle.regex_build.specs.Waiting.{AreWaiting, Waits, IsWaiting, Takes, AddsOccurrence}
 use Rattle.regex_build.proofs.ListSteps.{middle_is_some, same_ends}
 use Rattle.regex_build.proofs.PlaceWords.{IsWithin}
 use Rattle.regex_build.proofs.FragmentSteps.{last_within, next_within}
@@ -78,38 +78,38 @@ pub waits_more : (stack : List (Expression (List ℤ))) (e : Expression (List �
     → IsFragment n e fragment rows → next ≡ n + length (occurrences_in e) → new ≡ others ++ fragment ∷ [] → AreWaiting (e ∷ stack) new next rows
 waits_more stack e others new fragment n next rows w a end is = (others, fragment, n, is, end, a, w)
 
-stepped-empty : (stack : List (Expression (List ℤ))) → empty ∷ stack ≡ stepped stack Empty
-stepped-empty [] = refl
-stepped-empty (e ∷ []) = refl
-stepped-empty (e ∷ f ∷ stack) = refl
+after_symbol-empty : (stack : List (Expression (List ℤ))) → empty ∷ stack ≡ after_symbol stack Empty
+after_symbol-empty [] = refl
+after_symbol-empty (e ∷ []) = refl
+after_symbol-empty (e ∷ f ∷ stack) = refl
 
-stepped-letter : (x : List ℤ) (stack : List (Expression (List ℤ))) → letter x ∷ stack ≡ stepped stack (Letter x)
-stepped-letter x [] = refl
-stepped-letter x (e ∷ []) = refl
-stepped-letter x (e ∷ f ∷ stack) = refl
+after_symbol-letter : (x : List ℤ) (stack : List (Expression (List ℤ))) → letter x ∷ stack ≡ after_symbol stack (Letter x)
+after_symbol-letter x [] = refl
+after_symbol-letter x (e ∷ []) = refl
+after_symbol-letter x (e ∷ f ∷ stack) = refl
 
-stepped-any : (stack : List (Expression (List ℤ))) → any ∷ stack ≡ stepped stack Any
-stepped-any [] = refl
-stepped-any (e ∷ []) = refl
-stepped-any (e ∷ f ∷ stack) = refl
+after_symbol-any : (stack : List (Expression (List ℤ))) → any ∷ stack ≡ after_symbol stack Any
+after_symbol-any [] = refl
+after_symbol-any (e ∷ []) = refl
+after_symbol-any (e ∷ f ∷ stack) = refl
 
-stepped-star : (e : Expression (List ℤ)) (stack : List (Expression (List ℤ))) → star e ∷ stack ≡ stepped (e ∷ stack) Star
-stepped-star e [] = refl
-stepped-star e (f ∷ stack) = refl
+after_symbol-star : (e : Expression (List ℤ)) (stack : List (Expression (List ℤ))) → star e ∷ stack ≡ after_symbol (e ∷ stack) Star
+after_symbol-star e [] = refl
+after_symbol-star e (f ∷ stack) = refl
 
-stepped-plus : (e : Expression (List ℤ)) (stack : List (Expression (List ℤ))) → plus e ∷ stack ≡ stepped (e ∷ stack) Plus
-stepped-plus e [] = refl
-stepped-plus e (f ∷ stack) = refl
+after_symbol-plus : (e : Expression (List ℤ)) (stack : List (Expression (List ℤ))) → plus e ∷ stack ≡ after_symbol (e ∷ stack) Plus
+after_symbol-plus e [] = refl
+after_symbol-plus e (f ∷ stack) = refl
 
-stepped-optional : (e : Expression (List ℤ)) (stack : List (Expression (List ℤ))) → optional e ∷ stack ≡ stepped (e ∷ stack) Optional
-stepped-optional e [] = refl
-stepped-optional e (f ∷ stack) = refl
+after_symbol-optional : (e : Expression (List ℤ)) (stack : List (Expression (List ℤ))) → optional e ∷ stack ≡ after_symbol (e ∷ stack) Optional
+after_symbol-optional e [] = refl
+after_symbol-optional e (f ∷ stack) = refl
 
 -- the empty word
-pub takes_empty : (old new : List Fragment) (made : Fragment) (rows : List (List ℕ)) → IsEmptyWord made → new ≡ old ++ made ∷ [] → Steps old rows Empty new rows
+pub takes_empty : (old new : List Fragment) (made : Fragment) (rows : List (List ℕ)) → IsEmptyWord made → new ≡ old ++ made ∷ [] → Takes old rows Empty new rows
 takes_empty old new made rows is e stack w =
     let P : List (Expression (List ℤ)) → Type 0 = λ s. Waits s new rows in
-    subst P (stepped-empty stack) (waits_more stack empty old new made (length rows) (length rows) rows w (is (length rows) rows) (omega arith) e)
+    subst P (after_symbol-empty stack) (waits_more stack empty old new made (length rows) (length rows) rows w (is (length rows) rows) (omega arith) e)
 
 -- a letter, or any letter
 pub takes_occurrence : (old new : List Fragment) (made : Fragment) (rows more : List (List ℕ)) (place : ℕ) → place ≡ length rows → IsPlace place made → more ≡ rows ++ [] ∷ [] → new ≡ old ++ made ∷ [] → AddsOccurrence old rows new more
@@ -135,47 +135,47 @@ takes_occurrence old new made rows more place at is f g stack e one w =
     count_of (plus e) h = absurd h
     count_of (optional e) h = absurd h
 
-pub occurrence_is_letter : (x : List ℤ) (old new : List Fragment) (rows more : List (List ℕ)) → AddsOccurrence old rows new more → Steps old rows (Letter x) new more
-occurrence_is_letter x old new rows more adds stack w = let P : List (Expression (List ℤ)) → Type 0 = λ s. Waits s new more in subst P (stepped-letter x stack) (adds stack (letter x) tt w)
+pub occurrence_is_letter : (x : List ℤ) (old new : List Fragment) (rows more : List (List ℕ)) → AddsOccurrence old rows new more → Takes old rows (Letter x) new more
+occurrence_is_letter x old new rows more adds stack w = let P : List (Expression (List ℤ)) → Type 0 = λ s. Waits s new more in subst P (after_symbol-letter x stack) (adds stack (letter x) tt w)
 
-pub occurrence_is_any : (old new : List Fragment) (rows more : List (List ℕ)) → AddsOccurrence old rows new more → Steps old rows Any new more
-occurrence_is_any old new rows more adds stack w = let P : List (Expression (List ℤ)) → Type 0 = λ s. Waits s new more in subst P (stepped-any stack) (adds stack any tt w)
+pub occurrence_is_any : (old new : List Fragment) (rows more : List (List ℕ)) → AddsOccurrence old rows new more → Takes old rows Any new more
+occurrence_is_any old new rows more adds stack w = let P : List (Expression (List ℤ)) → Type 0 = λ s. Waits s new more in subst P (after_symbol-any stack) (adds stack any tt w)
 
 -- a sign behind one expression
-pub takes_star : (old popped new : List Fragment) (fragment made : Fragment) (rows : List (List ℕ)) → old ≡ popped ++ fragment ∷ [] → IsStar fragment made → new ≡ popped ++ made ∷ [] → Steps old rows Star new rows
+pub takes_star : (old popped new : List Fragment) (fragment made : Fragment) (rows : List (List ℕ)) → old ≡ popped ++ fragment ∷ [] → IsStar fragment made → new ≡ popped ++ made ∷ [] → Takes old rows Star new rows
 takes_star old popped new fragment made rows e is f [] w = absurd (middle_is_some popped fragment [] (sym e ∙ w.0))
 takes_star old popped new fragment made rows e is f (x ∷ stack) w =
     let P : List (Expression (List ℤ)) → Type 0 = λ s. Waits s new rows in
     let Q : List Fragment → Type 0 = λ xs. Waits (x ∷ stack) xs rows in
     let t = top_of_waiting x stack popped fragment (length rows) rows (subst Q e w) in
-    subst P (stepped-star x stack) (waits_more stack (star x) popped new made t.n (length rows) rows t.below (is t.n x rows t.top) t.end f)
+    subst P (after_symbol-star x stack) (waits_more stack (star x) popped new made t.n (length rows) rows t.below (is t.n x rows t.top) t.end f)
 
-pub takes_plus : (old popped new : List Fragment) (fragment made : Fragment) (rows : List (List ℕ)) → old ≡ popped ++ fragment ∷ [] → IsPlus fragment made → new ≡ popped ++ made ∷ [] → Steps old rows Plus new rows
+pub takes_plus : (old popped new : List Fragment) (fragment made : Fragment) (rows : List (List ℕ)) → old ≡ popped ++ fragment ∷ [] → IsPlus fragment made → new ≡ popped ++ made ∷ [] → Takes old rows Plus new rows
 takes_plus old popped new fragment made rows e is f [] w = absurd (middle_is_some popped fragment [] (sym e ∙ w.0))
 takes_plus old popped new fragment made rows e is f (x ∷ stack) w =
     let P : List (Expression (List ℤ)) → Type 0 = λ s. Waits s new rows in
     let Q : List Fragment → Type 0 = λ xs. Waits (x ∷ stack) xs rows in
     let t = top_of_waiting x stack popped fragment (length rows) rows (subst Q e w) in
-    subst P (stepped-plus x stack) (waits_more stack (plus x) popped new made t.n (length rows) rows t.below (is t.n x rows t.top) t.end f)
+    subst P (after_symbol-plus x stack) (waits_more stack (plus x) popped new made t.n (length rows) rows t.below (is t.n x rows t.top) t.end f)
 
-pub takes_optional : (old popped new : List Fragment) (fragment made : Fragment) (rows : List (List ℕ)) → old ≡ popped ++ fragment ∷ [] → IsOptional fragment made → new ≡ popped ++ made ∷ [] → Steps old rows Optional new rows
+pub takes_optional : (old popped new : List Fragment) (fragment made : Fragment) (rows : List (List ℕ)) → old ≡ popped ++ fragment ∷ [] → IsOptional fragment made → new ≡ popped ++ made ∷ [] → Takes old rows Optional new rows
 takes_optional old popped new fragment made rows e is f [] w = absurd (middle_is_some popped fragment [] (sym e ∙ w.0))
 takes_optional old popped new fragment made rows e is f (x ∷ stack) w =
     let P : List (Expression (List ℤ)) → Type 0 = λ s. Waits s new rows in
     let Q : List Fragment → Type 0 = λ xs. Waits (x ∷ stack) xs rows in
     let t = top_of_waiting x stack popped fragment (length rows) rows (subst Q e w) in
-    subst P (stepped-optional x stack) (waits_more stack (optional x) popped new made t.n (length rows) rows t.below (is t.n x rows t.top) t.end f)
+    subst P (after_symbol-optional x stack) (waits_more stack (optional x) popped new made t.n (length rows) rows t.below (is t.n x rows t.top) t.end f)
 
 -- a sign with nothing before it is passed over
-pub passes_star : (old new : List Fragment) (rows : List (List ℕ)) → old ≡ [] → new ≡ [] → Steps old rows Star new rows
+pub passes_star : (old new : List Fragment) (rows : List (List ℕ)) → old ≡ [] → new ≡ [] → Takes old rows Star new rows
 passes_star old new rows e f [] w = (f, w.1)
 passes_star old new rows e f (x ∷ stack) w = let Q : List Fragment → Type 0 = λ xs. Waits (x ∷ stack) xs rows in absurd (none_waits x stack (length rows) rows (subst Q e w))
 
-pub passes_plus : (old new : List Fragment) (rows : List (List ℕ)) → old ≡ [] → new ≡ [] → Steps old rows Plus new rows
+pub passes_plus : (old new : List Fragment) (rows : List (List ℕ)) → old ≡ [] → new ≡ [] → Takes old rows Plus new rows
 passes_plus old new rows e f [] w = (f, w.1)
 passes_plus old new rows e f (x ∷ stack) w = let Q : List Fragment → Type 0 = λ xs. Waits (x ∷ stack) xs rows in absurd (none_waits x stack (length rows) rows (subst Q e w))
 
-pub passes_optional : (old new : List Fragment) (rows : List (List ℕ)) → old ≡ [] → new ≡ [] → Steps old rows Optional new rows
+pub passes_optional : (old new : List Fragment) (rows : List (List ℕ)) → old ≡ [] → new ≡ [] → Takes old rows Optional new rows
 passes_optional old new rows e f [] w = (f, w.1)
 passes_optional old new rows e f (x ∷ stack) w = let Q : List Fragment → Type 0 = λ xs. Waits (x ∷ stack) xs rows in absurd (none_waits x stack (length rows) rows (subst Q e w))
 
@@ -186,12 +186,12 @@ two_wait e f stack old next rows w few =
     let two : length w.0 ≡ length w.6.0 + 1 = ap length w.6.3 ∙ length_push w.6.0 w.6.1 in
     omega arith
 
-pub passes_either : (old new : List Fragment) (rows : List (List ℕ)) → length old < 2 → new ≡ old → Steps old rows Either new rows
+pub passes_either : (old new : List Fragment) (rows : List (List ℕ)) → length old < 2 → new ≡ old → Takes old rows Either new rows
 passes_either old new rows few same [] w = let Q : List Fragment → Type 0 = λ xs. Waits [] xs rows in subst Q (sym same) w
 passes_either old new rows few same (f ∷ []) w = let Q : List Fragment → Type 0 = λ xs. Waits (f ∷ []) xs rows in subst Q (sym same) w
 passes_either old new rows few same (f ∷ e ∷ stack) w = absurd (two_wait e f stack old (length rows) rows w few)
 
-pub passes_follow : (old new : List Fragment) (rows more : List (List ℕ)) → length old < 2 → new ≡ old → more ≡ rows → Steps old rows Follow new more
+pub passes_follow : (old new : List Fragment) (rows more : List (List ℕ)) → length old < 2 → new ≡ old → more ≡ rows → Takes old rows Follow new more
 passes_follow old new rows more few same is [] w = let Q : List Fragment → Type 0 = λ xs. Waits [] xs more in let R : List (List ℕ) → Type 0 = λ r. Waits [] old r in subst Q (sym same) (subst R (sym is) w)
 passes_follow old new rows more few same is (f ∷ []) w = let Q : List Fragment → Type 0 = λ xs. Waits (f ∷ []) xs more in let R : List (List ℕ) → Type 0 = λ r. Waits (f ∷ []) old r in subst Q (sym same) (subst R (sym is) w)
 passes_follow old new rows more few same is (f ∷ e ∷ stack) w = absurd (two_wait e f stack old (length rows) rows w few)
@@ -201,7 +201,7 @@ one_is_not_two e others left right next rows w =
     let t = top_of_waiting e [] (others ++ left ∷ []) right next rows w in
     middle_is_some others left [] t.below.0
 
-pub takes_either : (old popped new : List Fragment) (left right made : Fragment) (rows : List (List ℕ)) → old ≡ (popped ++ left ∷ []) ++ right ∷ [] → IsEither left right made → new ≡ popped ++ made ∷ [] → Steps old rows Either new rows
+pub takes_either : (old popped new : List Fragment) (left right made : Fragment) (rows : List (List ℕ)) → old ≡ (popped ++ left ∷ []) ++ right ∷ [] → IsEither left right made → new ≡ popped ++ made ∷ [] → Takes old rows Either new rows
 takes_either old popped new left right made rows e is f [] w = absurd (middle_is_some (popped ++ left ∷ []) right [] (sym e ∙ w.0))
 takes_either old popped new left right made rows e is f (y ∷ []) w = let Q : List Fragment → Type 0 = λ xs. Waits (y ∷ []) xs rows in absurd (one_is_not_two y popped left right (length rows) rows (subst Q e w))
 takes_either old popped new left right made rows e is f (y ∷ x ∷ stack) w =
@@ -214,7 +214,7 @@ takes_either old popped new left right made rows e is f (y ∷ x ∷ stack) w =
     let ue : t.n ≡ u.n + length (occurrences_in x) = u.end in
     waits_more stack (either x y) popped new made u.n (length rows) rows u.below (is u.n x y rows u.top (subst N u.end t.top)) (omega arith) f
 
-pub takes_follow : (old popped new : List Fragment) (left right made : Fragment) (rows more : List (List ℕ)) → old ≡ (popped ++ left ∷ []) ++ right ∷ [] → IsFollow left right made rows more → new ≡ popped ++ made ∷ [] → Steps old rows Follow new more
+pub takes_follow : (old popped new : List Fragment) (left right made : Fragment) (rows more : List (List ℕ)) → old ≡ (popped ++ left ∷ []) ++ right ∷ [] → IsFollow left right made rows more → new ≡ popped ++ made ∷ [] → Takes old rows Follow new more
 takes_follow old popped new left right made rows more e is f [] w = absurd (middle_is_some (popped ++ left ∷ []) right [] (sym e ∙ w.0))
 takes_follow old popped new left right made rows more e is f (y ∷ []) w = let Q : List Fragment → Type 0 = λ xs. Waits (y ∷ []) xs rows in absurd (one_is_not_two y popped left right (length rows) rows (subst Q e w))
 takes_follow old popped new left right made rows more e is f (y ∷ x ∷ stack) w =
@@ -250,20 +250,20 @@ rows_of_two old popped left right rows e waiting = from waiting.0 waiting.1
         let ue : t.n ≡ u.n + length (occurrences_in x) = u.end in
         (rows_of_fragment u.n x left rows (length rows) u.top (omega arith), rows_of_fragment t.n y right rows (length rows) t.top (omega arith))
 
--- the steps taken so far
-stacked-push : (stack : List (Expression (List ℤ))) (steps : List Step) (step : Step) → stacked stack (steps ++ step ∷ []) ≡ stepped (stacked stack steps) step
-stacked-push stack [] step = refl
-stacked-push stack (s ∷ steps) step = stacked-push (stepped stack s) steps step
+-- the symbols taken so far
+stacked-push : (stack : List (Expression (List ℤ))) (symbols : List PostfixSymbol) (symbol : PostfixSymbol) → stacked stack (symbols ++ symbol ∷ []) ≡ after_symbol (stacked stack symbols) symbol
+stacked-push stack [] symbol = refl
+stacked-push stack (s ∷ symbols) symbol = stacked-push (after_symbol stack s) symbols symbol
 
 pub waits_first : (rows : List (List ℕ)) (fragments : List Fragment) → length rows ≡ 1 → fragments ≡ [] → Waits [] fragments rows
 waits_first rows fragments l e = (e, l)
 
-pub waits_next : (steps : List Step) (i : ℕ) (step : Step) (old new : List Fragment) (rows more : List (List ℕ)) → i < length steps → step ≡ slice_index_or steps i step → Waits (stacked [] (take i steps)) old rows → Steps old rows step new more
-    → Waits (stacked [] (take (i + 1) steps)) new more
-waits_next steps i step old new rows more l e w goes =
+pub waits_next : (symbols : List PostfixSymbol) (i : ℕ) (symbol : PostfixSymbol) (old new : List Fragment) (rows more : List (List ℕ)) → i < length symbols → symbol ≡ slice_index_or symbols i symbol → Waits (stacked [] (take i symbols)) old rows → Takes old rows symbol new more
+    → Waits (stacked [] (take (i + 1) symbols)) new more
+waits_next symbols i symbol old new rows more l e w goes =
     let P : List (Expression (List ℤ)) → Type 0 = λ s. Waits s new more in
-    let one : take (i + 1) steps ≡ take i steps ++ step ∷ [] = take_more steps i step l ∙ ap (λ s. take i steps ++ s ∷ []) (sym e) in
-    subst P (sym (ap (stacked []) one ∙ stacked-push [] (take i steps) step)) (goes (stacked [] (take i steps)) w)
+    let one : take (i + 1) symbols ≡ take i symbols ++ symbol ∷ [] = take_more symbols i symbol l ∙ ap (λ s. take i symbols ++ s ∷ []) (sym e) in
+    subst P (sym (ap (stacked []) one ∙ stacked-push [] (take i symbols) symbol)) (goes (stacked [] (take i symbols)) w)
 
 -- at the end the fragment of the whole expression waits
 pub record HasWhole (e : Expression (List ℤ)) (whole : Fragment) (rows : List (List ℕ)) : Type 0 where
@@ -271,21 +271,21 @@ pub record HasWhole (e : Expression (List ℤ)) (whole : Fragment) (rows : List 
   pub is : IsFragment 1 e whole rows
   pub places : HasRows (length rows) whole
 
-whole_waits : (steps : List Step) (i : ℕ) (fragments : List Fragment) (rows : List (List ℕ)) → IsPostfix steps → length steps ≤ i → Waits (stacked [] (take i steps)) fragments rows → Waits (tree_of steps ∷ []) fragments rows
-whole_waits steps i fragments rows postfix l w = let P : List (Expression (List ℤ)) → Type 0 = λ s. Waits s fragments rows in subst P (ap (stacked []) (take_all i steps l) ∙ postfix) w
+whole_waits : (symbols : List PostfixSymbol) (i : ℕ) (fragments : List Fragment) (rows : List (List ℕ)) → IsPostfix symbols → length symbols ≤ i → Waits (stacked [] (take i symbols)) fragments rows → Waits (tree_of symbols ∷ []) fragments rows
+whole_waits symbols i fragments rows postfix l w = let P : List (Expression (List ℤ)) → Type 0 = λ s. Waits s fragments rows in subst P (ap (stacked []) (take_all i symbols l) ∙ postfix) w
 
-pub some_waits : (steps : List Step) (i : ℕ) (fragments : List Fragment) (rows : List (List ℕ)) → IsPostfix steps → length steps ≤ i → Waits (stacked [] (take i steps)) fragments rows → 0 < length fragments
-some_waits steps i fragments rows postfix l w =
-    let v = whole_waits steps i fragments rows postfix l w in
+pub some_waits : (symbols : List PostfixSymbol) (i : ℕ) (fragments : List Fragment) (rows : List (List ℕ)) → IsPostfix symbols → length symbols ≤ i → Waits (stacked [] (take i symbols)) fragments rows → 0 < length fragments
+some_waits symbols i fragments rows postfix l w =
+    let v = whole_waits symbols i fragments rows postfix l w in
     let e : length fragments ≡ length v.0 + 1 = ap length v.3 ∙ length_push v.0 v.1 in
     omega arith
 
-pub whole_of_waiting : (steps : List Step) (i : ℕ) (fragments popped : List Fragment) (whole : Fragment) (rows : List (List ℕ)) → IsPostfix steps → length steps ≤ i → Waits (stacked [] (take i steps)) fragments rows → fragments ≡ popped ++ whole ∷ []
-    → HasWhole (tree_of steps) whole rows
-whole_of_waiting steps i fragments popped whole rows postfix l w e =
-    let Q : List Fragment → Type 0 = λ xs. Waits (tree_of steps ∷ []) xs rows in
-    let t = top_of_waiting (tree_of steps) [] popped whole (length rows) rows (subst Q e (whole_waits steps i fragments rows postfix l w)) in
+pub whole_of_waiting : (symbols : List PostfixSymbol) (i : ℕ) (fragments popped : List Fragment) (whole : Fragment) (rows : List (List ℕ)) → IsPostfix symbols → length symbols ≤ i → Waits (stacked [] (take i symbols)) fragments rows → fragments ≡ popped ++ whole ∷ []
+    → HasWhole (tree_of symbols) whole rows
+whole_of_waiting symbols i fragments popped whole rows postfix l w e =
+    let Q : List Fragment → Type 0 = λ xs. Waits (tree_of symbols ∷ []) xs rows in
+    let t = top_of_waiting (tree_of symbols) [] popped whole (length rows) rows (subst Q e (whole_waits symbols i fragments rows postfix l w)) in
     let first : t.n ≡ 1 = t.below.1 in
-    let end : length rows ≡ t.n + length (occurrences_in (tree_of steps)) = t.end in
-    let N : ℕ → Type 0 = λ m. IsFragment m (tree_of steps) whole rows in
-    record { count = omega arith; is = subst N first t.top; places = rows_of_fragment t.n (tree_of steps) whole rows (length rows) t.top (omega arith) }
+    let end : length rows ≡ t.n + length (occurrences_in (tree_of symbols)) = t.end in
+    let N : ℕ → Type 0 = λ m. IsFragment m (tree_of symbols) whole rows in
+    record { count = omega arith; is = subst N first t.top; places = rows_of_fragment t.n (tree_of symbols) whole rows (length rows) t.top (omega arith) }

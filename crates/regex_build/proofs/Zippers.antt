@@ -2,7 +2,7 @@
 use Rattle.std.proofs.Common.{ℕ, ◌<◌, ◌≤◌, Bool, true, false, List, [], ◌∷◌, length, map, Option, None, Some}
 use Rattle.std.specs.Prelude.{ℤ, ⊤}
 use Rattle.std.specs.List.{AllByRecursion}
-use Rattle.regex_build.specs.declared.step.Step.{Step}
+use Rattle.regex_build.specs.declared.postfix_symbol.PostfixSymbol.{PostfixSymbol}
 use Rattle.regex_build.specs.declared.reading.Group.{Group}
 use Rattle.regex_build.specs.declared.reading.Place.{Place}
 use Rattle.regex_build.specs.declared.reading.Place.TheVariants.{AtPost, Behind, AtNumber, BehindNumber}
@@ -68,22 +68,22 @@ letter_of (at_number None) = []
 letter_of (at_number (Some ns)) = list_of ns
 letter_of (behind_number ns) = list_of ns
 
-abbrev pub alts_on : Option Alt → List Step → List Step
+abbrev pub alts_on : Option Alt → List PostfixSymbol → List PostfixSymbol
 alts_on None ss = ss
 alts_on (Some a) ss = alt_on a ss
 
-abbrev pub cats_on : Option Cat → List Step → List Step
+abbrev pub cats_on : Option Cat → List PostfixSymbol → List PostfixSymbol
 cats_on None ss = ss
 cats_on (Some c) ss = cat_on c ss
 
-abbrev pub front_on : Front → List Step → List Step
+abbrev pub front_on : Front → List PostfixSymbol → List PostfixSymbol
 front_on f ss = cats_on f.sequence (alts_on f.alternatives ss)
 
-abbrev pub outer_on : List Front → List Step
+abbrev pub outer_on : List Front → List PostfixSymbol
 outer_on [] = []
 outer_on (f ∷ fs) = front_on f (outer_on fs)
 
-abbrev pub position_on : Position → List Step → List Step
+abbrev pub position_on : Position → List PostfixSymbol → List PostfixSymbol
 position_on (behind p) ss = post_on p ss
 position_on at_post ss = ss
 position_on (at_number o) ss = ss
@@ -95,7 +95,7 @@ state_of z = record {
   group = group_of z.front;
   place = place_of z.position;
   letter = letter_of z.position;
-  steps = position_on z.position (front_on z.front (outer_on z.outer));
+  symbols = position_on z.position (front_on z.front (outer_on z.outer));
 }
 
 -- the tokens

@@ -3,8 +3,8 @@ use Rattle.std.specs.Prelude.{◌≡◌, ℕ, ◌<◌, ◌≤◌, ◌↔◌, ℤ
 use Rattle.std.specs.List.{flat_map}
 use Rattle.digit_tuple.specs.Tuples.{IsLetterOf}
 use Rattle.regex_build.specs.declared.codes.LetterRange.{LetterRange}
-use Rattle.regex_build.specs.declared.step.Step.{Step}
-use Rattle.regex_build.specs.declared.step.Step.TheVariants.{Letter, Any}
+use Rattle.regex_build.specs.declared.postfix_symbol.PostfixSymbol.{PostfixSymbol}
+use Rattle.regex_build.specs.declared.postfix_symbol.PostfixSymbol.TheVariants.{Letter, Any}
 use Rattle.regex_build.specs.Positions.{IsOf}
 
 -- the members stand at these places of the sets
@@ -24,12 +24,12 @@ IsInRange range a = (range.first ≤ a) × (a < range.end)
 abbrev pub IsRangeOf : List (List ℤ) → Option (List ℤ) → LetterRange → Type 0
 IsRangeOf sets occurrence range = (a : ℕ) → IsInRange range a ↔ IsOf (IsLetterOf sets) occurrence a
 
--- the occurrence that a step is, if it is one
-abbrev pub occurrence_in : Step → List (Option (List ℤ))
+-- the occurrence that a symbol is, if it is one
+abbrev pub occurrence_in : PostfixSymbol → List (Option (List ℤ))
 occurrence_in (Letter x) = Some x ∷ []
 occurrence_in Any = None ∷ []
 occurrence_in _ = []
 
--- the occurrences that steps are
-abbrev pub occurrences_of : List Step → List (Option (List ℤ))
-occurrences_of steps = flat_map occurrence_in steps
+-- the occurrences that symbols are
+abbrev pub occurrences_of : List PostfixSymbol → List (Option (List ℤ))
+occurrences_of symbols = flat_map occurrence_in symbols

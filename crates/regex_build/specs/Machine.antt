@@ -1,45 +1,45 @@
--- A machine that reads tokens to the steps of their expression.
+-- A machine that reads tokens to the symbols of their expression.
 use Rattle.std.specs.Prelude.{ℕ, ◌==◌, nat_lt, Bool, true, false, not, ◌&&◌, ℤ, pos, List, [], ◌∷◌, ◌++◌, length, Option, None, Some}
-use Rattle.regex_build.specs.declared.step.Step.{Step}
-use Rattle.regex_build.specs.declared.step.Step.TheVariants as kinds
+use Rattle.regex_build.specs.declared.postfix_symbol.PostfixSymbol.{PostfixSymbol}
+use Rattle.regex_build.specs.declared.postfix_symbol.PostfixSymbol.TheVariants as kinds
 use Rattle.regex_build.specs.declared.reading.Group.{Group}
 use Rattle.regex_build.specs.declared.reading.Place.{Place}
 use Rattle.regex_build.specs.declared.reading.Place.TheVariants.{AtPost, Behind, AtNumber, BehindNumber}
 use Rattle.regex_build.specs.Tokens.{Token, bar, star, plus, optional, dot, opening, closing, bracket, comma, unbracket, digit, number}
 
--- the groups around, the innermost first; the group that is read; the numbers of an open bracket; the steps so far
+-- the groups around, the innermost first; the group that is read; the numbers of an open bracket; the symbols so far
 pub record State : Type 0 where
   pub outer : List Group
   pub group : Group
   pub place : Place
   pub letter : List ℤ
-  pub steps : List Step
+  pub symbols : List PostfixSymbol
 
 abbrev pub fresh : Group
 fresh = record { alternatives = false; sequence = false }
 
 abbrev pub start : State
-start = record { outer = []; group = fresh; place = AtPost; letter = []; steps = [] }
+start = record { outer = []; group = fresh; place = AtPost; letter = []; symbols = [] }
 
 abbrev pub gate : {X : Type 0} → Bool → Option X → Option X
 gate true o = o
 gate false o = None
 
-abbrev pub step_if : Bool → Step → List Step → List Step
-step_if true x ss = ss ++ x ∷ []
-step_if false x ss = ss
+abbrev pub symbol_if : Bool → PostfixSymbol → List PostfixSymbol → List PostfixSymbol
+symbol_if true x ss = ss ++ x ∷ []
+symbol_if false x ss = ss
 
--- behind one step more
-abbrev pub pushed : State → Step → State
-pushed s x = record s { place = Behind; steps = s.steps ++ x ∷ [] }
+-- behind one symbol more
+abbrev pub pushed : State → PostfixSymbol → State
+pushed s x = record s { place = Behind; symbols = s.symbols ++ x ∷ [] }
 
 -- the last post ends the sequence so far
 abbrev pub followed : State → State
-followed s = record s { group = record s.group { sequence = true }; steps = step_if s.group.sequence kinds.Follow s.steps }
+followed s = record s { group = record s.group { sequence = true }; symbols = symbol_if s.group.sequence kinds.Follow s.symbols }
 
 -- the last sequence ends the alternatives so far
 abbrev pub joined : State → State
-joined s = record s { group = record { alternatives = true; sequence = false }; steps = step_if s.group.alternatives kinds.Either (followed s).steps }
+joined s = record s { group = record { alternatives = true; sequence = false }; symbols = symbol_if s.group.alternatives kinds.Either (followed s).symbols }
 
 -- a group ends
 abbrev pub close : List Group → State → Option State
@@ -76,12 +76,12 @@ step_at tracks s BehindNumber _ = None
 abbrev pub step : ℕ → State → Token → Option State
 step tracks s t = step_at tracks s s.place t
 
--- the steps of a text that ends
-abbrev pub ended_at : List Group → Place → State → Option (List Step)
-ended_at [] Behind s = Some (joined s).steps
+-- the symbols of a text that ends
+abbrev pub ended_at : List Group → Place → State → Option (List PostfixSymbol)
+ended_at [] Behind s = Some (joined s).symbols
 ended_at _ _ s = None
 
-abbrev pub ended : State → Option (List Step)
+abbrev pub ended : State → Option (List PostfixSymbol)
 ended s = ended_at s.outer s.place s
 
 -- whether a bracket is open

@@ -2,7 +2,7 @@
 use Rattle.std.specs.Prelude.{◌≡◌, ℕ, ◌<◌, ◌≤◌, Bool, ℤ, List, [], ◌∷◌, length, drop, All, Option, None, Some, IsSome, Result, Ok, Err, ⊤, Vec}
 use Rattle.std.specs.List.{fold}
 use Rattle.std.specs.declared.alloc.Global.{Global}
-use Rattle.regex_build.specs.declared.step.Step.{Step}
+use Rattle.regex_build.specs.declared.postfix_symbol.PostfixSymbol.{PostfixSymbol}
 use Rattle.regex_build.specs.declared.token.Token.{Token as Rust'}
 use Rattle.regex_build.specs.declared.token.Token.TheVariants as token
 use Rattle.regex_build.specs.declared.lexing.Lexeme.{Lexeme as Lexeme'}
@@ -62,7 +62,7 @@ state_view r = record {
   group = r.group;
   place = r.place;
   letter = r.letter;
-  steps = r.steps.items;
+  symbols = r.symbols.items;
 }
 
 abbrev pub around : State → Around
@@ -95,18 +95,18 @@ fault_at refusals.Number at = faults.Number at
 fault_at refusals.Depth at = faults.Depth at
 fault_at refusals.Memory at = faults.Memory
 
--- the steps of a text that may end here
-abbrev pub Ends : Option (List Step) → Option (Vec Step Global) → Type 0
+-- the symbols of a text that may end here
+abbrev pub Ends : Option (List PostfixSymbol) → Option (Vec PostfixSymbol Global) → Type 0
 Ends o None = o ≡ None
-Ends o (Some steps) = o ≡ Some steps.items
+Ends o (Some symbols) = o ≡ Some symbols.items
 
--- the steps of a text over sets
-pub record AreStepsOf (sets : List (List ℤ)) (text : List ℕ) (steps : List Step) : Type 0 where
-  pub postfix : IsPostfix steps
-  pub letters : All (IsOver sets) steps
-  pub text_of : IsTextOf sets text (record { sets = sets; tree = tree_of steps })
+-- the symbols of a text over sets
+pub record AreSymbolsOf (sets : List (List ℤ)) (text : List ℕ) (symbols : List PostfixSymbol) : Type 0 where
+  pub postfix : IsPostfix symbols
+  pub letters : All (IsOver sets) symbols
+  pub text_of : IsTextOf sets text (record { sets = sets; tree = tree_of symbols })
 
 -- what reading a text over sets gives
-abbrev pub Reads : List (List ℤ) → List ℕ → Result (Vec Step Global) RegexFault → Type 0
-Reads sets text (Ok steps) = AreStepsOf sets text steps.items
+abbrev pub Reads : List (List ℤ) → List ℕ → Result (Vec PostfixSymbol Global) RegexFault → Type 0
+Reads sets text (Ok symbols) = AreSymbolsOf sets text symbols.items
 Reads sets text (Err fault) = Parses sets text (Err fault)

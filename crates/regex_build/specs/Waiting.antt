@@ -1,9 +1,9 @@
--- The fragments of the expressions that wait, while the steps of an expression are taken.
+-- The fragments of the expressions that wait, while the symbols of an expression are taken.
 use Rattle.std.specs.Prelude.{◌≡◌, ℕ, ◌+◌, ◌<◌, ℤ, List, [], ◌∷◌, ◌++◌, length, Option, None, Some}
 use Rattle.regex_build.specs.declared.fragment.Fragment.{Fragment}
-use Rattle.regex_build.specs.declared.step.Step.{Step}
+use Rattle.regex_build.specs.declared.postfix_symbol.PostfixSymbol.{PostfixSymbol}
 use Rattle.regex_build.specs.Expression.{Expression, occurrences_in}
-use Rattle.regex_build.specs.Postfix.{stepped}
+use Rattle.regex_build.specs.Postfix.{after_symbol}
 use Rattle.regex_build.specs.Fragments.{IsFragment, IsOccurrence}
 
 -- The fragments of the expressions that wait, the last one on top: each begins at the place behind the one before it, and the
@@ -21,9 +21,9 @@ Waits stack fragments rows = AreWaiting stack fragments (length rows) rows
 abbrev pub IsWaiting : List Fragment → List (List ℕ) → Type 0
 IsWaiting fragments rows = (stack : List (Expression (List ℤ))) × Waits stack fragments rows
 
--- one more step was taken
-abbrev pub Steps : List Fragment → List (List ℕ) → Step → List Fragment → List (List ℕ) → Type 0
-Steps old rows step new more = (stack : List (Expression (List ℤ))) → Waits stack old rows → Waits (stepped stack step) new more
+-- one more symbol was taken
+abbrev pub Takes : List Fragment → List (List ℕ) → PostfixSymbol → List Fragment → List (List ℕ) → Type 0
+Takes old rows symbol new more = (stack : List (Expression (List ℤ))) → Waits stack old rows → Waits (after_symbol stack symbol) new more
 
 -- one more occurrence waits
 abbrev pub AddsOccurrence : List Fragment → List (List ℕ) → List Fragment → List (List ℕ) → Type 0

@@ -10,7 +10,7 @@ ghost use Rattle.regex_build.specs.Codes.{ArePlaces, IsRangeOf, occurrence_in, o
 ghost use Rattle.regex_build.specs.Patterns.{AreMembers, IsOver};
 
 use crate::letter_tuple::LetterTuple;
-use crate::step::Step;
+use crate::postfix_symbol::PostfixSymbol;
 use digit_tuple::alphabet::Alphabet;
 use digit_tuple::faults::OutOfMemory;
 use digit_tuple::letter_set::LetterSet;
@@ -57,28 +57,28 @@ fn number_of(
     Ok(alphabet.letter_of(places.as_slice()))
 }
 
-// The letters that may stand at the occurrence that the step is, if it is one.
+// The letters that may stand at the occurrence that the symbol is, if it is one.
 fn range_of(
     alloc: Global,
     alphabet: &Alphabet,
     sets: &[LetterSet],
-    step: &Step,
+    symbol: &PostfixSymbol,
 ) -> Result<Option<LetterRange>, OutOfMemory>
     requires sets { All IsLetterSet sets.now }
     requires sizes { alphabet.now ≡ sizes_of sets.now }
-    requires member { IsOver sets.now step.now }
-    ensures { IfOk result (λ range. AllZip (IsRangeOf sets.now) (occurrence_in step.now) (option_to_list range)) }
+    requires member { IsOver sets.now symbol.now }
+    ensures { IfOk result (λ range. AllZip (IsRangeOf sets.now) (occurrence_in symbol.now) (option_to_list range)) }
 {
     let letters = alphabet.letters();
-    match step {
-        Step::Letter(letter) => {
+    match symbol {
+        PostfixSymbol::Letter(letter) => {
             let first = number_of(alloc, alphabet, sets, letter)?;
             Ok(Some(LetterRange {
                 first,
                 end: first + 1,
             }))
         }
-        Step::Any => Ok(Some(LetterRange {
+        PostfixSymbol::Any => Ok(Some(LetterRange {
             first: 0,
             end: letters,
         })),
@@ -92,16 +92,16 @@ pub fn ranges_of(
     alloc: Global,
     alphabet: &Alphabet,
     sets: &[LetterSet],
-    steps: &[Step],
+    symbols: &[PostfixSymbol],
 ) -> Result<Vec<LetterRange>, OutOfMemory>
     requires sets { All IsLetterSet sets.now }
     requires sizes { alphabet.now ≡ sizes_of sets.now }
-    requires members { All (IsOver sets.now) steps.now }
-    ensures { IfOk result (λ made. AllZip (IsRangeOf sets.now) (occurrences_of steps.now) made.items) }
+    requires members { All (IsOver sets.now) symbols.now }
+    ensures { IfOk result (λ made. AllZip (IsRangeOf sets.now) (occurrences_of symbols.now) made.items) }
 {
     let mut made = Vec::new(alloc);
-    for step in steps {
-        if let Some(range) = range_of(alloc, alphabet, sets, step)? {
+    for symbol in symbols {
+        if let Some(range) = range_of(alloc, alphabet, sets, symbol)? {
             made.push(range)?;
         }
     }

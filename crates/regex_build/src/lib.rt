@@ -4,10 +4,10 @@
 /// Letters: tuples of members of sets.
 pub mod letter_tuple;
 
-/// The steps of an expression in postfix order.
-pub mod step;
+/// The symbols of an expression in postfix order.
+pub mod postfix_symbol;
 
-/// Tests of steps in postfix order.
+/// Tests of symbols in postfix order.
 mod postfix;
 
 /// Expressions.
@@ -22,7 +22,7 @@ mod token;
 /// The tokens of a text, read one after the other.
 mod lexing;
 
-/// The tokens of an expression, read to its steps.
+/// The tokens of an expression, read to its symbols.
 mod reading;
 
 /// Parsing of expressions.

@@ -2,14 +2,14 @@
 
 ghost use Rattle.std.specs.Prelude.{◌≡◌, ℕ, ◌<◌, ◌^◌, ◌++◌, ◌∷◌, [], ℤ, List, length, false, slice_index_or, Contains, IsTrue, ◌↔◌, IfOk, OnOk, MatchOption};
 ghost use Rattle.regex_build.specs.Expression.{Expression, occurrences_in};
-ghost use Rattle.regex_build.specs.Postfix.{stepped, tree_of, IsPostfix};
+ghost use Rattle.regex_build.specs.Postfix.{after_symbol, tree_of, IsPostfix};
 ghost use Rattle.regex_build.specs.Fragments.{rows_in, IsFragment, HasRows};
-ghost use Rattle.regex_build.specs.Waiting.{IsWaiting, Waits, Steps, AddsOccurrence, SplitsTwo};
+ghost use Rattle.regex_build.specs.Waiting.{IsWaiting, Waits, Takes, AddsOccurrence, SplitsTwo};
 ghost use Rattle.regex_build.specs.NextPlaces.{AreNextPlaces, FinishesWith};
 
 use crate::fragment::Fragment;
 use crate::links::{follow, pay};
-use crate::step::Step;
+use crate::postfix_symbol::PostfixSymbol;
 use digit_tuple::faults::OutOfMemory;
 use std::alloc::Global;
 
@@ -52,7 +52,7 @@ fn pop_two(waiting: &mut Vec<Fragment>) -> Option<(Fragment, Fragment)>
 }
 
 fn take_either(waiting: &mut Vec<Fragment>) -> Result<(), OutOfMemory>
-    ensures { OnOk result ((rows : List (List ℕ)) → Steps waiting.old.items rows Step.Either waiting.new.items rows) }
+    ensures { OnOk result ((rows : List (List ℕ)) → Takes waiting.old.items rows PostfixSymbol.Either waiting.new.items rows) }
 {
     if let Some((left, right)) = pop_two(waiting) {
         waiting.push(left.either(right)?)?;
@@ -67,7 +67,7 @@ fn take_follow(
 ) -> Result<(), OutOfMemory>
     requires { IsWaiting waiting.old.items (rows_in next.old.items) }
     ensures count { OnOk result (length next.new.items ≡ length next.old.items) }
-    ensures waits { OnOk result (Steps waiting.old.items (rows_in next.old.items) Step.Follow waiting.new.items (rows_in next.new.items)) }
+    ensures waits { OnOk result (Takes waiting.old.items (rows_in next.old.items) PostfixSymbol.Follow waiting.new.items (rows_in next.new.items)) }
 {
     if let Some((left, right)) = pop_two(waiting) {
         waiting.push(follow(alloc, next, left, right)?)?;
@@ -76,7 +76,7 @@ fn take_follow(
 }
 
 fn take_star(alloc: Global, waiting: &mut Vec<Fragment>) -> Result<(), OutOfMemory>
-    ensures { OnOk result ((rows : List (List ℕ)) → Steps waiting.old.items rows Step.Star waiting.new.items rows) }
+    ensures { OnOk result ((rows : List (List ℕ)) → Takes waiting.old.items rows PostfixSymbol.Star waiting.new.items rows) }
 {
     if let Some(fragment) = waiting.pop() {
         waiting.push(fragment.star(alloc)?)?;
@@ -85,7 +85,7 @@ fn take_star(alloc: Global, waiting: &mut Vec<Fragment>) -> Result<(), OutOfMemo
 }
 
 fn take_plus(alloc: Global, waiting: &mut Vec<Fragment>) -> Result<(), OutOfMemory>
-    ensures { OnOk result ((rows : List (List ℕ)) → Steps waiting.old.items rows Step.Plus waiting.new.items rows) }
+    ensures { OnOk result ((rows : List (List ℕ)) → Takes waiting.old.items rows PostfixSymbol.Plus waiting.new.items rows) }
 {
     if let Some(fragment) = waiting.pop() {
         waiting.push(fragment.plus(alloc)?)?;
@@ -94,7 +94,7 @@ fn take_plus(alloc: Global, waiting: &mut Vec<Fragment>) -> Result<(), OutOfMemo
 }
 
 fn take_optional(waiting: &mut Vec<Fragment>) -> Result<(), OutOfMemory>
-    ensures { OnOk result ((rows : List (List ℕ)) → Steps waiting.old.items rows Step.Optional waiting.new.items rows) }
+    ensures { OnOk result ((rows : List (List ℕ)) → Takes waiting.old.items rows PostfixSymbol.Optional waiting.new.items rows) }
 {
     if let Some(fragment) = waiting.pop() {
         waiting.push(fragment.optional())?;
@@ -102,26 +102,26 @@ fn take_optional(waiting: &mut Vec<Fragment>) -> Result<(), OutOfMemory>
     Ok(())
 }
 
-// Takes one step more.
+// Takes one symbol more.
 fn take(
     alloc: Global,
     next: &mut Vec<Vec<u32>>,
     waiting: &mut Vec<Fragment>,
-    step: &Step,
+    symbol: &PostfixSymbol,
 ) -> Result<(), OutOfMemory>
     requires small { length next.old.items < 2 ^ 32 }
     requires waits { IsWaiting waiting.old.items (rows_in next.old.items) }
     ensures small { OnOk result (length next.new.items < 2 ^ 32) }
-    ensures waits { OnOk result (Steps waiting.old.items (rows_in next.old.items) step.now waiting.new.items (rows_in next.new.items)) }
+    ensures waits { OnOk result (Takes waiting.old.items (rows_in next.old.items) symbol.now waiting.new.items (rows_in next.new.items)) }
 {
-    match step {
-        Step::Empty => waiting.push(Fragment::empty(alloc))?,
-        Step::Letter(_) | Step::Any => take_letter(alloc, next, waiting)?,
-        Step::Either => take_either(waiting)?,
-        Step::Follow => take_follow(alloc, next, waiting)?,
-        Step::Star => take_star(alloc, waiting)?,
-        Step::Plus => take_plus(alloc, waiting)?,
-        Step::Optional => take_optional(waiting)?,
+    match symbol {
+        PostfixSymbol::Empty => waiting.push(Fragment::empty(alloc))?,
+        PostfixSymbol::Letter(_) | PostfixSymbol::Any => take_letter(alloc, next, waiting)?,
+        PostfixSymbol::Either => take_either(waiting)?,
+        PostfixSymbol::Follow => take_follow(alloc, next, waiting)?,
+        PostfixSymbol::Star => take_star(alloc, waiting)?,
+        PostfixSymbol::Plus => take_plus(alloc, waiting)?,
+        PostfixSymbol::Optional => take_optional(waiting)?,
     }
     Ok(())
 }
@@ -174,16 +174,16 @@ fn finished(
 /// however deep repetitions stand in each other (after A. Brüggemann-Klein, "Regular expressions into
 /// finite automata"), so all is linear in the pairs, but for moving lists of places from part to
 /// part, where each place is moved as often as its list doubles.
-pub fn next_places(alloc: Global, steps: &[Step]) -> Result<NextPlaces, OutOfMemory>
-    requires { IsPostfix steps.now }
+pub fn next_places(alloc: Global, symbols: &[PostfixSymbol]) -> Result<NextPlaces, OutOfMemory>
+    requires { IsPostfix symbols.now }
     ensures small { IfOk result (λ made. length made.next.items < 2 ^ 32) }
-    ensures places { IfOk result (AreNextPlaces (tree_of steps.now)) }
+    ensures places { IfOk result (AreNextPlaces (tree_of symbols.now)) }
 {
     let mut next = Vec::new(alloc);
     next.push(Vec::new(alloc))?;
     let mut waiting = Vec::new(alloc);
-    for step in steps {
-        take(alloc, &mut next, &mut waiting, step)?;
+    for symbol in symbols {
+        take(alloc, &mut next, &mut waiting, symbol)?;
     }
     let whole = waiting.pop().unwrap();
     finished(alloc, next, whole)

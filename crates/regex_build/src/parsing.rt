@@ -6,9 +6,9 @@ ghost use Rattle.regex_build.specs.Reading.{Reads};
 
 use crate::fault::RegexFault;
 use crate::lexing::next_spot;
+use crate::postfix_symbol::PostfixSymbol;
 use crate::reading::Reading;
 use crate::regex::Regex;
-use crate::step::Step;
 use digit_tuple::header::Header;
 use digit_tuple::sets::Sets;
 use std::alloc::Global;
@@ -34,12 +34,12 @@ pub fn parse(alloc: Global, text: &[u8], header: &Header) -> Result<Regex, Regex
     ensures { Parses (sets_of header.now) text.now result }
 {
     let sets = header.sets(alloc)?;
-    let steps = read(alloc, text, &sets)?;
-    Ok(Regex::new(sets, steps))
+    let symbols = read(alloc, text, &sets)?;
+    Ok(Regex::new(sets, symbols))
 }
 
-// The steps of the text's expression.
-fn read(alloc: Global, text: &[u8], sets: &Sets) -> Result<Vec<Step>, RegexFault>
+// The symbols of the text's expression.
+fn read(alloc: Global, text: &[u8], sets: &Sets) -> Result<Vec<PostfixSymbol>, RegexFault>
     ensures { Reads sets.now text.now result }
 {
     let mut reading = Reading::new(alloc);
@@ -51,7 +51,7 @@ fn read(alloc: Global, text: &[u8], sets: &Sets) -> Result<Vec<Step>, RegexFault
         }
     }
     match reading.finish()? {
-        Some(steps) => Ok(steps),
+        Some(symbols) => Ok(symbols),
         None => Err(RegexFault::Syntax(text.len())),
     }
 }

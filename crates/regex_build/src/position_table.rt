@@ -32,10 +32,10 @@ pub fn positions(alloc: Global, regex: &Regex) -> Result<Nfa, OutOfMemory>
     ensures language { IfOk result (AcceptsTheMatches regex.now.sets regex.now.tree) }
 {
     let sets = regex.sets().as_slice();
-    let steps = regex.steps();
+    let symbols = regex.symbols();
     let alphabet = alphabet_of(alloc, sets)?;
-    let places = next_places(alloc, steps)?;
-    let ranges = ranges_of(alloc, &alphabet, sets, steps)?;
+    let places = next_places(alloc, symbols)?;
+    let ranges = ranges_of(alloc, &alphabet, sets, symbols)?;
     let states = states_of(alloc, &places, &ranges)?;
     Nfa::from_states(alloc, alphabet, states)
 }

@@ -1,25 +1,25 @@
-//! Tests of steps in postfix order.
+//! Tests of symbols in postfix order.
 
 ghost use Rattle.std.specs.Prelude.{◌≡◌, ℤ, ◌+◌, ◌<◌, ◌≤◌, ◌↔◌, List, length, All, IsTrue};
 ghost use Rattle.regex_build.specs.Expression.{Expression};
 ghost use Rattle.regex_build.specs.Patterns.{AreMembers, IsOver};
-ghost use Rattle.regex_build.specs.Postfix.{stepped, IsPostfix};
+ghost use Rattle.regex_build.specs.Postfix.{after_symbol, IsPostfix};
 
-use crate::step::Step;
+use crate::postfix_symbol::PostfixSymbol;
 use digit_tuple::letter_set::LetterSet;
 
-// How many expressions wait after one step more, where so many wait before it.
-fn waiting_after(waiting: usize, step: &Step) -> usize
+// How many expressions wait after one symbol more, where so many wait before it.
+fn waiting_after(waiting: usize, symbol: &PostfixSymbol) -> usize
     requires { waiting < usize.MAX }
-    ensures count { (stack : List (Expression (List ℤ))) → length stack ≡ waiting → length (stepped stack step.now) ≡ result }
+    ensures count { (stack : List (Expression (List ℤ))) → length stack ≡ waiting → length (after_symbol stack symbol.now) ≡ result }
     ensures small { result ≤ waiting + 1 }
 {
-    match step {
-        Step::Empty => waiting + 1,
-        Step::Letter(_) => waiting + 1,
-        Step::Any => waiting + 1,
-        Step::Either => joined(waiting),
-        Step::Follow => joined(waiting),
+    match symbol {
+        PostfixSymbol::Empty => waiting + 1,
+        PostfixSymbol::Letter(_) => waiting + 1,
+        PostfixSymbol::Any => waiting + 1,
+        PostfixSymbol::Either => joined(waiting),
+        PostfixSymbol::Follow => joined(waiting),
         _ => waiting,
     }
 }
@@ -32,13 +32,13 @@ fn joined(waiting: usize) -> usize
     if waiting < 2 { waiting } else { waiting - 1 }
 }
 
-/// Whether the steps are in postfix order.
-pub fn are_postfix(steps: &[Step]) -> bool
-    ensures { IsTrue result ↔ IsPostfix steps.now }
+/// Whether the symbols are in postfix order.
+pub fn are_postfix(symbols: &[PostfixSymbol]) -> bool
+    ensures { IsTrue result ↔ IsPostfix symbols.now }
 {
     let mut waiting = 0;
-    for step in steps {
-        waiting = waiting_after(waiting, step);
+    for symbol in symbols {
+        waiting = waiting_after(waiting, symbol);
     }
     waiting == 1
 }
@@ -59,11 +59,11 @@ fn are_members(sets: &[LetterSet], members: &[i32]) -> bool
 }
 
 /// Whether each letter has a member of each set.
-pub fn have_members(sets: &[LetterSet], steps: &[Step]) -> bool
-    ensures { IsTrue result ↔ All (IsOver sets.now) steps.now }
+pub fn have_members(sets: &[LetterSet], symbols: &[PostfixSymbol]) -> bool
+    ensures { IsTrue result ↔ All (IsOver sets.now) symbols.now }
 {
-    for step in steps {
-        if let Step::Letter(letter) = step {
+    for symbol in symbols {
+        if let PostfixSymbol::Letter(letter) = symbol {
             if !are_members(sets, letter.members()) {
                 return false;
             }

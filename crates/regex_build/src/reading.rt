@@ -1,4 +1,4 @@
-//! The tokens of an expression, read one after the other to its steps.
+//! The tokens of an expression, read one after the other to its symbols.
 //!
 //! A sign between two operands waits for the second, as in Dijkstra's shunting-yard algorithm ("Algol
 //! 60 translation"). In each group at most one of each kind waits, so two flags tell which do.
@@ -11,7 +11,7 @@ ghost use Rattle.regex_build.specs.Reading.{state_view, token_view, IsWritten, A
 
 use crate::fault::Refusal;
 use crate::letter_tuple::LetterTuple;
-use crate::step::Step;
+use crate::postfix_symbol::PostfixSymbol;
 use crate::token::Token;
 use digit_tuple::faults::OutOfMemory;
 use digit_tuple::letter_set::LetterSet;
@@ -44,14 +44,14 @@ pub(crate) enum Place {
 }
 
 /// An expression that is being read: the groups around, the innermost last, the group that is
-/// read, the place in it, the numbers of an open bracket, and the steps so far.
+/// read, the place in it, the numbers of an open bracket, and the symbols so far.
 #[derive(Drop)]
 pub(crate) struct Reading {
     pub outer: Vec<Group>,
     pub group: Group,
     pub place: Place,
     pub letter: LetterTuple,
-    pub steps: Vec<Step>,
+    pub symbols: Vec<PostfixSymbol>,
 }
 
 impl Group {
@@ -98,7 +98,7 @@ impl Reading {
             group: Group::fresh(),
             place: Place::AtPost,
             letter: LetterTuple::new(alloc),
-            steps: Vec::new(alloc),
+            symbols: Vec::new(alloc),
         }
     }
 
@@ -109,11 +109,11 @@ impl Reading {
         matches!(self.place, Place::AtNumber | Place::BehindNumber)
     }
 
-    /// Adds a step, behind which the reading then stands.
-    fn push(&mut self, step: Step) -> Result<(), OutOfMemory>
-        ensures { OnOk result (state_view self.new ≡ machine.pushed (state_view self.old) step) }
+    /// Adds a symbol, behind which the reading then stands.
+    fn push(&mut self, symbol: PostfixSymbol) -> Result<(), OutOfMemory>
+        ensures { OnOk result (state_view self.new ≡ machine.pushed (state_view self.old) symbol) }
     {
-        self.steps.push(step)?;
+        self.symbols.push(symbol)?;
         self.place = Place::Behind;
         Ok(())
     }
@@ -123,7 +123,7 @@ impl Reading {
         ensures { OnOk result (state_view self.new ≡ machine.followed (state_view self.old)) }
     {
         if self.group.sequence {
-            self.steps.push(Step::Follow)?;
+            self.symbols.push(PostfixSymbol::Follow)?;
         }
         self.group.sequence = true;
         Ok(())
@@ -135,7 +135,7 @@ impl Reading {
     {
         self.follow()?;
         if self.group.alternatives {
-            self.steps.push(Step::Either)?;
+            self.symbols.push(PostfixSymbol::Either)?;
         }
         self.group = Group {
             alternatives: true,
@@ -185,7 +185,7 @@ impl Reading {
         };
         let mut letter = LetterTuple::new(alloc);
         letter.push(member)?;
-        self.push(Step::Letter(letter))?;
+        self.push(PostfixSymbol::Letter(letter))?;
         Ok(())
     }
 
@@ -196,7 +196,7 @@ impl Reading {
     {
         match token {
             Token::Digit(digit) => self.digit(alloc, sets, digit),
-            Token::Dot => Ok(self.push(Step::Any)?),
+            Token::Dot => Ok(self.push(PostfixSymbol::Any)?),
             Token::Opening => self.open(),
             Token::Bracket => {
                 if sets.is_empty() {
@@ -217,7 +217,7 @@ impl Reading {
         match token {
             Token::Closing => {
                 if self.group.is_fresh() {
-                    self.push(Step::Empty)?;
+                    self.push(PostfixSymbol::Empty)?;
                     return self.close();
                 }
                 Err(Refusal::Syntax)
@@ -232,9 +232,9 @@ impl Reading {
         ensures { GivesAt Place.Behind sets.now (state_view self.old) (token_view token) (state_view self.new) result }
     {
         match token {
-            Token::Star => Ok(self.push(Step::Star)?),
-            Token::Plus => Ok(self.push(Step::Plus)?),
-            Token::Optional => Ok(self.push(Step::Optional)?),
+            Token::Star => Ok(self.push(PostfixSymbol::Star)?),
+            Token::Plus => Ok(self.push(PostfixSymbol::Plus)?),
+            Token::Optional => Ok(self.push(PostfixSymbol::Optional)?),
             Token::Bar => {
                 self.join()?;
                 self.place = Place::AtPost;
@@ -277,7 +277,7 @@ impl Reading {
             }
             Token::Unbracket if self.letter.len() == sets.len() => {
                 let letter = mem::replace(&mut self.letter, LetterTuple::new(alloc));
-                self.push(Step::Letter(letter))?;
+                self.push(PostfixSymbol::Letter(letter))?;
                 Ok(())
             }
             _ => Err(Refusal::Syntax),
@@ -297,9 +297,9 @@ impl Reading {
         }
     }
 
-    /// The steps of the text that ends here, if it may.
+    /// The symbols of the text that ends here, if it may.
     #[tactic(auto, using(crate::proofs::ReadingSteps::unclosed, crate::proofs::ReadingSteps::unended))]
-    pub fn finish(mut self) -> Result<Option<Vec<Step>>, OutOfMemory>
+    pub fn finish(mut self) -> Result<Option<Vec<PostfixSymbol>>, OutOfMemory>
         ensures { IfOk result (λ o. Ends (machine.ended (state_view self)) o) }
     {
         if !self.outer.is_empty() {
@@ -309,6 +309,6 @@ impl Reading {
             return Ok(None);
         }
         self.join()?;
-        Ok(Some(self.steps))
+        Ok(Some(self.symbols))
     }
 }

@@ -6,7 +6,7 @@ ghost use Rattle.regex_build.specs.Patterns.{IsOver};
 ghost use Rattle.regex_build.specs.Postfix.{IsPostfix, tree_of};
 
 use crate::postfix::{are_postfix, have_members};
-use crate::step::Step;
+use crate::postfix_symbol::PostfixSymbol;
 use digit_tuple::letter_set::LetterSet;
 use digit_tuple::sets::Sets;
 use std::marker::Model;
@@ -16,7 +16,7 @@ use std::marker::Model;
 #[derive(Drop)]
 pub struct Regex {
     tracks: Sets,
-    steps: Vec<Step>,
+    symbols: Vec<PostfixSymbol>,
 }
 
 impl Model for Regex {
@@ -29,33 +29,33 @@ impl Model for Regex {
 
     ghost coded = { pattern_code };
 
-    ghost view = { λ r. record { sets = r.tracks; tree = tree_of r.steps.items } };
+    ghost view = { λ r. record { sets = r.tracks; tree = tree_of r.symbols.items } };
 
-    ghost invariant = { λ r. IsPostfix r.steps.items × All (IsOver r.tracks) r.steps.items };
+    ghost invariant = { λ r. IsPostfix r.symbols.items × All (IsOver r.tracks) r.symbols.items };
 }
 
 impl Regex {
-    /// The expression of these steps, which are in postfix order and whose letters have a member of
+    /// The expression of these symbols, which are in postfix order and whose letters have a member of
     /// each set.
-    pub fn new(sets: Sets, steps: Vec<Step>) -> Self
-        requires postfix { IsPostfix steps.items }
-        requires letters { All (IsOver sets) steps.items }
-        ensures { result ≡ record { sets = sets; tree = tree_of steps.items } }
+    pub fn new(sets: Sets, symbols: Vec<PostfixSymbol>) -> Self
+        requires postfix { IsPostfix symbols.items }
+        requires letters { All (IsOver sets) symbols.items }
+        ensures { result ≡ record { sets = sets; tree = tree_of symbols.items } }
     {
         Regex {
             tracks: sets,
-            steps,
+            symbols,
         }
     }
 
-    /// The expression of these steps, or None if they are in no postfix order or a letter has no
+    /// The expression of these symbols, or None if they are in no postfix order or a letter has no
     /// member of some set, or more members than there are sets.
-    pub fn try_new(sets: Sets, steps: Vec<Step>) -> Option<Self>
-        ensures fits { IsSome result ↔ (IsPostfix steps.items × All (IsOver sets) steps.items) }
-        ensures value { IfSome result (λ regex. regex ≡ record { sets = sets; tree = tree_of steps.items }) }
+    pub fn try_new(sets: Sets, symbols: Vec<PostfixSymbol>) -> Option<Self>
+        ensures fits { IsSome result ↔ (IsPostfix symbols.items × All (IsOver sets) symbols.items) }
+        ensures value { IfSome result (λ regex. regex ≡ record { sets = sets; tree = tree_of symbols.items }) }
     {
-        if are_postfix(&steps) && have_members(sets.as_slice(), &steps) {
-            Some(Regex::new(sets, steps))
+        if are_postfix(&symbols) && have_members(sets.as_slice(), &symbols) {
+            Some(Regex::new(sets, symbols))
         } else {
             None
         }
@@ -68,12 +68,12 @@ impl Regex {
         &self.tracks
     }
 
-    /// The steps, in postfix order.
-    pub fn steps(&self) -> &[Step]
+    /// The symbols, in postfix order.
+    pub fn symbols(&self) -> &[PostfixSymbol]
         ensures tree { tree_of result.now ≡ self.now.tree }
         ensures postfix { IsPostfix result.now }
         ensures letters { All (IsOver self.now.sets) result.now }
     {
-        &self.steps
+        &self.symbols
     }
 }

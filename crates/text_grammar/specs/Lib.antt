@@ -1,3 +1,4 @@
 pub mod Faults
 pub mod Bytes
 pub mod Fronts
+pub mod Numbers

@@ -1,11 +1,11 @@
 use Rattle.std.proofs.Common.{◌≡◌, ◌≤◌, ◌++◌, length, map}
-use Rattle.macro_expand.specs.Filling.{parts, filled}
+use Rattle.macro_expand.specs.Filling.{segments, filled}
 use Rattle.macro_expand.proofs.filling.fill.Given as goal
 
 -- what was made, and what is left with arguments in its places, is the whole
 abbrev pub invariant-loop-rest : goal.invariant-loop-rest
 invariant-loop-rest l = record {
-  told : l.made.items ++ filled (map (λ argument. argument.items) l.arguments) (parts l.rest) ≡ filled (map (λ argument. argument.items) l.arguments) (parts l.text);
+  told : l.made.items ++ filled (map (λ argument. argument.items) l.arguments) (segments l.rest) ≡ filled (map (λ argument. argument.items) l.arguments) (segments l.text);
   short : length l.made.items ≤ 65536;
 }
 

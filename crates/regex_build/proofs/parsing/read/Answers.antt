@@ -1,7 +1,7 @@
 -- A token is read or at fault, and the text ends or ends too early.
 use Rattle.std.proofs.Common.{subst, sym, Bool, List, ℕ, [], drop, ◌≡◌, Option, Vec, Err}
 use Rattle.std.specs.declared.alloc.Global.{Global}
-use Rattle.regex_build.specs.declared.step.Step.{Step}
+use Rattle.regex_build.specs.declared.postfix_symbol.PostfixSymbol.{PostfixSymbol}
 use Rattle.regex_build.specs.declared.fault.RegexFault.{RegexFault}
 use Rattle.regex_build.specs.Machine.{ended}
 use Rattle.regex_build.specs.Spots.{spots_from}
@@ -30,12 +30,12 @@ returns-in-Err c =
 
 pub returns-in-Some-2 : goal.returns-in-Some-2
 returns-in-Some-2 c =
-    byte_end c.args.sets.now c.args.text.now c.loop-spot.at (state_view c.loop-spot.reading) c.in-Some-2.steps.items c.loop-spot.invariant
+    byte_end c.args.sets.now c.args.text.now c.loop-spot.at (state_view c.loop-spot.reading) c.in-Some-2.symbols.items c.loop-spot.invariant
     (subst (λ (b : Bool). NoNext b c.args.text.now c.loop-spot.at) c.in_bracket.ensures c.in_default.ensures)
-    (subst (λ (o : Option (Vec Step Global)). Ends (ended (state_view c.loop-spot.reading)) o) c.in-Some-2.is c.in_ok-steps.ensures)
+    (subst (λ (o : Option (Vec PostfixSymbol Global)). Ends (ended (state_view c.loop-spot.reading)) o) c.in-Some-2.is c.in_ok-symbols.ensures)
 
 pub returns-in-None : goal.returns-in-None
 returns-in-None c =
     byte_early c.args.sets.now c.args.text.now c.loop-spot.at (state_view c.loop-spot.reading) c.loop-spot.invariant
     (subst (λ (b : Bool). NoNext b c.args.text.now c.loop-spot.at) c.in_bracket.ensures c.in_default.ensures)
-    (subst (λ (o : Option (Vec Step Global)). Ends (ended (state_view c.loop-spot.reading)) o) c.in-None.is c.in_ok-steps.ensures)
+    (subst (λ (o : Option (Vec PostfixSymbol Global)). Ends (ended (state_view c.loop-spot.reading)) o) c.in-None.is c.in_ok-symbols.ensures)

@@ -1,10 +1,10 @@
-//! The steps of an expression in postfix order.
+//! The symbols of an expression in postfix order.
 
 use crate::letter_tuple::LetterTuple;
 
-/// A step of an expression in postfix order: a letter, or a sign behind what it is about.
+/// A symbol of an expression in postfix order: a letter, or a sign after what it is about.
 #[derive(Drop)]
-pub enum Step {
+pub enum PostfixSymbol {
     /// The empty word.
     Empty,
     /// A letter.

@@ -2,14 +2,14 @@
 
 ghost use Rattle.std.specs.Prelude.{◌≡◌, ◌<◌, length, map};
 ghost use Rattle.macro_expand.specs.Filling.{number_of as number_in, missing as missing_in, filled};
-ghost use Rattle.macro_expand.specs.Views.{part_len, parts_view, IsFirstPart};
+ghost use Rattle.macro_expand.specs.Views.{segment_len, segments_view, IsFirstSegment};
 
 use crate::bytes::{after, len_before};
 use text_grammar::{Class, front_len};
 
 /// Some bytes outside of places, or the place of an argument: its number, and how many bytes spell it.
 #[derive(Clone, Copy)]
-pub(crate) enum Part<'a> {
+pub(crate) enum Segment<'a> {
     Plain(&'a [u8]),
     Place(u64, usize),
 }
@@ -27,25 +27,25 @@ fn number_of(digits: &[u8]) -> u64
     number
 }
 
-impl<'a> Part<'a> {
+impl<'a> Segment<'a> {
     /// How many bytes of the macro's text it has.
     pub fn len(&self) -> usize
-        ensures { result ≡ part_len self.now }
+        ensures { result ≡ segment_len self.now }
     {
         match self {
-            Part::Plain(bytes) => bytes.len(),
-            Part::Place(_, len) => *len,
+            Segment::Plain(bytes) => bytes.len(),
+            Segment::Place(_, len) => *len,
         }
     }
 
     /// Its number, where so many arguments are too few for it.
-    #[tactic(auto, using(crate::proofs::PartSteps::missing_plain))]
+    #[tactic(auto, using(crate::proofs::SegmentSteps::missing_plain))]
     pub fn missing(&self, given: usize) -> Option<u64>
-        ensures { result ≡ missing_in given (parts_view self.now) }
+        ensures { result ≡ missing_in given (segments_view self.now) }
     {
         match self {
-            Part::Plain(_) => None,
-            Part::Place(number, _) => {
+            Segment::Plain(_) => None,
+            Segment::Place(number, _) => {
                 if *number >= given as u64 {
                     Some(*number)
                 } else {
@@ -56,13 +56,13 @@ impl<'a> Part<'a> {
     }
 
     /// What stands there with these arguments.
-    #[tactic(auto, using(crate::proofs::PartSteps::filled_plain))]
+    #[tactic(auto, using(crate::proofs::SegmentSteps::filled_plain))]
     pub fn text(&self, arguments: &'a [Vec<u8>]) -> &'a [u8]
-        ensures { result.now ≡ filled (map (λ argument. argument.items) arguments.now) (parts_view self.now) }
+        ensures { result.now ≡ filled (map (λ argument. argument.items) arguments.now) (segments_view self.now) }
     {
         match self {
-            Part::Plain(bytes) => bytes,
-            Part::Place(number, _) => match arguments.get(*number as usize) {
+            Segment::Plain(bytes) => bytes,
+            Segment::Place(number, _) => match arguments.get(*number as usize) {
                 Some(argument) => argument.as_slice(),
                 None => &[],
             },
@@ -70,19 +70,19 @@ impl<'a> Part<'a> {
     }
 }
 
-/// The first part of some bytes.
-pub(crate) fn first_part(bytes: &[u8]) -> Part<'_>
+/// The first segment of some bytes.
+pub(crate) fn first_segment(bytes: &[u8]) -> Segment<'_>
     requires { 0 < length bytes.now }
-    ensures { IsFirstPart bytes.now result }
+    ensures { IsFirstSegment bytes.now result }
 {
     let plain = len_before(b'%', bytes);
     if plain > 0 {
-        return Part::Plain(&bytes[..plain]);
+        return Segment::Plain(&bytes[..plain]);
     }
     let ahead = after(1, bytes);
     let digits = front_len(Class::Digit, ahead);
     if digits == 0 {
-        return Part::Plain(&bytes[..1]);
+        return Segment::Plain(&bytes[..1]);
     }
-    Part::Place(number_of(&ahead[..digits]), digits + 1)
+    Segment::Place(number_of(&ahead[..digits]), digits + 1)
 }

@@ -1,6 +1,6 @@
 use Rattle.std.proofs.Common.{refl, arith}
-use Rattle.macro_expand.proofs.PartSteps.{first_plain, first_sign, first_place}
-use Rattle.macro_expand.proofs.part.first_part.Goals as goal
+use Rattle.macro_expand.proofs.SegmentSteps.{first_plain, first_sign, first_place}
+use Rattle.macro_expand.proofs.segment.first_segment.Goals as goal
 
 pub returns-then-plain-gt0 : goal.returns-then-plain-gt0
 returns-then-plain-gt0 c = first_plain c.args.bytes.now c.len_before-plain.result _ c.len_before-plain.ensures.len c.len_before-plain.ensures.within c.if-plain-gt0.true refl

@@ -1,9 +1,9 @@
 -- The number that digits spell, digit by digit.
 use Rattle.std.proofs.Common.{ℕ, ◌+◌, ◌*◌, ◌-◌, ◌<◌, ◌≤◌, suc, List, [], ◌∷◌, length, get_or, drop, arith, drop-cons}
-use Rattle.morph_words.specs.Numbers.{value_after}
+use Rattle.text_grammar.specs.Numbers.{value_after}
 
 -- further digits make no number smaller
-value_after-ge : (n : ℕ) (digits : List ℕ) → n ≤ value_after n digits
+pub value_after-ge : (n : ℕ) (digits : List ℕ) → n ≤ value_after n digits
 value_after-ge n [] = omega arith
 value_after-ge n (digit ∷ digits) =
     let more : 10 * n + (digit - 48) ≤ value_after (10 * n + (digit - 48)) digits = value_after-ge (10 * n + (digit - 48)) digits in

@@ -1,6 +1,6 @@
 use Rattle.std.proofs.Common.{◌∙◌, arith}
 use Rattle.macro_expand.proofs.NumberSteps.{value_digit}
-use Rattle.macro_expand.proofs.part.number_of.Goals as goal
+use Rattle.macro_expand.proofs.segment.number_of.Goals as goal
 
 pub loop-digit-preserved : goal.loop-digit-preserved
 loop-digit-preserved c = (

@@ -1,6 +1,7 @@
 use Rattle.std.proofs.Common.{◌≡◌, ◌≤◌, min, drop}
-use Rattle.macro_expand.specs.Filling.{value_after, number_of as number_in}
-use Rattle.macro_expand.proofs.part.number_of.Given as goal
+use Rattle.text_grammar.specs.Numbers.{value_after}
+use Rattle.macro_expand.specs.Filling.{number_of as number_in}
+use Rattle.macro_expand.proofs.segment.number_of.Given as goal
 
 -- the digits that are left, after the number so far, spell the number
 abbrev pub invariant-loop-digit : goal.invariant-loop-digit

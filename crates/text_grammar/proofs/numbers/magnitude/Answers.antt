@@ -1,6 +1,6 @@
 use Rattle.std.proofs.Common.{arith}
-use Rattle.command_head.proofs.NumberSteps.{value_above}
-use Rattle.command_head.proofs.numbers.magnitude.Goals as goal
+use Rattle.text_grammar.proofs.NumberSteps.{value_above}
+use Rattle.text_grammar.proofs.numbers.magnitude.Goals as goal
 
 pub returns-then-value-gt-FARTHEST : goal.returns-then-value-gt-FARTHEST
 returns-then-value-gt-FARTHEST c =
