@@ -1,0 +1,6 @@
+mod SparseLemmas
+mod WeightLemmas
+mod SumLemmas
+mod AdderLemmas
+mod TableLemmas
+mod KeyEdgesBy

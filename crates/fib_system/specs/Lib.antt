@@ -1,0 +1,3 @@
+pub mod Fibonacci
+pub mod FibonacciLaws
+pub mod Additions
