@@ -5,3 +5,5 @@ pub mod ReverseSizes
 pub mod OneLines
 pub mod OneResults
 pub mod OneOutcomes
+pub mod TrackNumbers
+pub mod DirectionLemmas

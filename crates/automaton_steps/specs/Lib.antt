@@ -8,4 +8,5 @@ pub mod JoinSteps
 pub mod ComplementSteps
 pub mod ProjectSteps
 pub mod OrderSteps
+pub mod Numbered
 pub mod Laws

@@ -26,5 +26,8 @@ pub mod project_step;
 /// The step `order`.
 pub mod order_step;
 
+/// Automata whose tracks are named by their numbers.
+pub mod numbered;
+
 /// Laws of the definitions.
 pub mod laws;

@@ -1,7 +1,7 @@
 -- Lists made over numbers in order.
-use Rattle.std.proofs.Common.{◌≡◌, ℕ, zero, suc, ◌+◌, ◌<◌, ◌≤◌, List, [], ◌∷◌, ◌++◌, sym, ap, ◌∙◌, arith, append_assoc}
+use Rattle.std.proofs.Common.{◌≡◌, ℕ, zero, suc, ◌+◌, ◌-◌, ◌<◌, ◌≤◌, List, [], ◌∷◌, ◌++◌, length, sym, ap, ◌∙◌, arith, append_assoc}
 use Rattle.std.specs.List.{flat_map, range_with_len, AllByRecursion}
-use Rattle.std.proofs.lemmas.List.{append-nil}
+use Rattle.std.proofs.lemmas.List.{append-nil, length-append}
 use Rattle.std.proofs.lemmas.List.Concat.{flat_map-append}
 use Rattle.dfa_text.specs.Parts.{text_of_lines}
 use Rattle.dfa_text.proofs.Joins.{text_of_lines-append}
@@ -27,3 +27,16 @@ lines_more f out before after n h step =
 pub each_number : (P : ℕ → Type 0) (a n : ℕ) → ((i : ℕ) → a ≤ i → i < a + n → P i) → AllByRecursion P (range_with_len a n)
 each_number P a zero h = tt
 each_number P a (suc n) h = (h a (omega arith) (omega arith), each_number P (a + 1) n (λ i low high. h i (omega arith) (omega arith)))
+
+-- further numbers make no text shorter
+pub longer_by_numbers : (f : ℕ → List (List ℕ)) (k n : ℕ) → k ≤ n → length (text_of_lines (flat_map f (range_with_len 0 k))) ≤ length (text_of_lines (flat_map f (range_with_len 0 n)))
+longer_by_numbers f k n h = by (n - k) n (omega arith)
+  where
+    by : (more n : ℕ) → n ≡ k + more → length (text_of_lines (flat_map f (range_with_len 0 k))) ≤ length (text_of_lines (flat_map f (range_with_len 0 n)))
+    by zero n e = let same : k ≡ n = omega arith in omega (arith, ap (λ m. length (text_of_lines (flat_map f (range_with_len 0 m)))) same)
+    by (suc more) n e =
+        let before = by more (k + more) (omega arith) in
+        let one : n ≡ k + more + 1 = omega arith in
+        let split : text_of_lines (flat_map f (range_with_len 0 n)) ≡ text_of_lines (flat_map f (range_with_len 0 (k + more))) ++ text_of_lines (f (k + more)) =
+        ap (λ m. text_of_lines (flat_map f (range_with_len 0 m))) one ∙ ap text_of_lines (flat_map-numbers_more f (k + more)) ∙ text_of_lines-append (flat_map f (range_with_len 0 (k + more))) (f (k + more)) in
+        omega (arith, before, ap length split, length-append (text_of_lines (flat_map f (range_with_len 0 (k + more)))) (text_of_lines (f (k + more))))

@@ -8,13 +8,10 @@ pub mod PrintedParts
 pub mod PrintedHeaders
 pub mod PrintedEntries
 pub mod PrintedTuples
-pub mod Drafts
+pub mod PrintedTracks
+pub mod PrintedDrafts
+pub mod PrintedNames
 pub mod ListedParts
-pub mod RelationRead
+pub mod PrintedRelations
 pub mod RelationPaths
 pub mod RelationTexts
-pub mod ReadLines
-pub mod ReadNumbers
-pub mod ReadHeaders
-pub mod ReadDrafts
-pub mod ReadWords

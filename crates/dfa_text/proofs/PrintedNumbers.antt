@@ -8,7 +8,7 @@ use Rattle.std.proofs.lemmas.Fmt.{decimal_by_steps}
 use mir.Val.{SFits}
 use mir.Syntax.{w32}
 use Rattle.text_grammar.specs.Bytes.{is_digit}
-use Rattle.dfa_text.specs.Numbers.{digits_after, natural_of, kept_below, number_below, negative, integer_of}
+use Rattle.dfa_reading.specs.Numbers.{digits_after, natural_of, kept_below, number_below, negative, integer_of}
 
 is_digit-glyph : (d : ℕ) → d < 10 → is_digit (48 + d) ≡ true
 is_digit-glyph d h = grind (arith, nat_tests)

@@ -9,7 +9,7 @@ use Rattle.std.proofs.lemmas.List.Splits.{length-slice_split}
 use mir.Val.{SFits}
 use mir.Syntax.{w32}
 use Rattle.text_grammar.specs.Bytes.{is_digit, is_blank}
-use Rattle.dfa_text.specs.Lines.{has_bytes, parts_of, is_passed, is_passed_by, arrow_at}
+use Rattle.dfa_reading.specs.Lines.{has_bytes, parts_of, is_passed, is_passed_by, arrow_at}
 use Rattle.dfa_text.proofs.PrintedNumbers.{printed}
 
 -- no byte passes the test

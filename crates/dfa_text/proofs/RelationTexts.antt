@@ -5,19 +5,24 @@ use Rattle.digit_tuple.specs.Letters.{product, IsWord}
 use Rattle.digit_tuple.specs.Tuples.{Codes}
 use Rattle.digit_tuple.proofs.TupleLemmas.{tuples_from_word}
 use Rattle.minimise.proofs.CanonicalLemmas.{canonical_forms}
-use Rattle.dfa_text.specs.Listed.{Listed}
+use Rattle.dfa_reading.specs.Headers.{Header, Truth, Systems, Sets}
+use Rattle.dfa_reading.specs.Listed.{Listed}
+use Rattle.dfa_reading.specs.Reading.{relation_of}
 use Rattle.dfa_text.specs.Meaning.{FileAccepts}
-use Rattle.dfa_text.specs.Reading.{listed_of}
 use Rattle.dfa_text.specs.RelationText.{relation_text}
 use Rattle.dfa_text.specs.RelationLaws.{EqualLanguagesHaveEqualTexts, EqualTextsHaveEqualLanguages}
-use Rattle.dfa_text.proofs.RelationRead.{listed_of-relation_text}
-use Rattle.dfa_text.proofs.RelationPaths.{printed_over, text_accepts_words}
+use Rattle.dfa_text.proofs.RelationPaths.{lists, text_accepts_words}
 
 pub equal_texts : EqualLanguagesHaveEqualTexts
 equal_texts header d e canonical other sizes same = ap (relation_text header) (canonical_forms d e canonical other sizes same)
 
+sets_in : Header → List (List ℤ)
+sets_in (Truth value) = []
+sets_in (Systems names) = []
+sets_in (Sets sets) = sets
+
 sets_read : Result Listed ℕ → List (List ℤ)
-sets_read (Ok listed) = listed.sets
+sets_read (Ok listed) = sets_in listed.header
 sets_read (Err at) = []
 
 same_test : (a b : Bool) → (a ≡ true → b ≡ true) → (b ≡ true → a ≡ true) → a ≡ b
@@ -26,7 +31,7 @@ same_test false true over back = back refl
 same_test false false over back = refl
 
 pub equal_languages : EqualTextsHaveEqualLanguages
-unfolding sets_read
+unfolding sets_read sets_in
 equal_languages sets others d e one two same = (
   sets_same,
   λ w over.
@@ -40,4 +45,4 @@ equal_languages sets others d e one two same = (
 )
   where
     sets_same : sets ≡ others
-    sets_same = ap sets_read (sym (listed_of-relation_text sets d (printed_over sets d one)) ∙ ap listed_of same ∙ listed_of-relation_text others e (printed_over others e two))
+    sets_same = ap sets_read (sym (lists sets d one) ∙ ap relation_of same ∙ lists others e two)

@@ -1,14 +1,5 @@
-pub mod Numbers
-pub mod Lines
-pub mod Headers
-pub mod Entries
-pub mod Listed
-pub mod Reading
 pub mod Parts
 pub mod RelationText
 pub mod Meaning
 pub mod RelationLaws
-pub mod Views
-pub mod EntryViews
-pub mod DraftViews
-pub mod Stepping
+pub mod Lists

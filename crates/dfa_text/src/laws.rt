@@ -1,12 +1,19 @@
 //! Laws of the definitions, each a call that does nothing.
 
 ghost use Rattle.dfa_text.specs.RelationLaws.{TextAcceptsWords, TextAcceptsOnlyCodes, EqualLanguagesHaveEqualTexts, EqualTextsHaveEqualLanguages};
+ghost use Rattle.dfa_text.specs.Lists.{TextListsAutomaton};
 
 /// The text of an automaton over sets, read as a file, accepts a word of tuples exactly where the automaton accepts the
 /// word of their letters, and no word of anything else.
 pub fn text_accepts_as_automaton()
     ensures words { TextAcceptsWords }
     ensures only { TextAcceptsOnlyCodes }
+{}
+
+/// The text of an automaton over sets, or over systems of one direction, is a file that lists the automaton: its header, its
+/// states in order with the output 1 where they accept and 0 where they do not, and its transitions.
+pub fn text_lists_automaton()
+    ensures { TextListsAutomaton }
 {}
 
 /// Two canonical automata over the same tracks with the same language have the same text over a header.

@@ -1,4 +1,4 @@
-//! The texts of automata: what an automaton file means, and the text that an automaton is printed as.
+//! The texts of automata: the text that an automaton is printed as, and what it means, read again as a file.
 #![tactic(auto)]
 
 // numbers and lists of numbers
@@ -7,28 +7,12 @@ mod numbers;
 mod header_text;
 // the text of a deterministic automaton
 mod relation_text;
-// what a file lists, and the faults of files
-pub mod listed;
-// numbers read from a file
-mod read_numbers;
-// lines of a file, and their parts
-mod read_lines;
-// headers read from a file
-mod read_header;
-// the lines below a header
-mod read_entries;
-// what was read of a file so far
-mod draft;
-// a file, read
-mod reading;
-// the words that a file accepts
-mod accepting;
 // laws of the definitions
 mod laws;
 
-pub use accepting::accepts;
+pub use dfa_reading::{FileFault, FileHeader, Listed, ListedLine, read_relation};
 pub use laws::{
     equal_languages_have_equal_texts, equal_texts_have_equal_languages, text_accepts_as_automaton,
+    text_lists_automaton,
 };
-pub use reading::read_listed;
-pub use relation_text::print_relation;
+pub use relation_text::{print_relation, print_within};

@@ -1,6 +1,6 @@
 //! The text of a deterministic automaton.
 
-ghost use Rattle.std.specs.Prelude.{◌≡◌, ◌<◌, ◌==◌, ℕ, ℤ, pos, List, [], ◌++◌, length, slice_index_or, codes, decimal, if◌then◌else◌, OnOk, IfOk};
+ghost use Rattle.std.specs.Prelude.{◌≡◌, ◌<◌, ◌≤◌, ◌↔◌, ◌==◌, ℕ, ℤ, pos, List, [], ◌++◌, length, slice_index_or, codes, decimal, if◌then◌else◌, OnOk, IfOk, IsSome, IfSome};
 ghost use Rattle.std.specs.List.{All, flat_map, join_by};
 ghost use Rattle.std.specs.Fmt.{signed_decimal};
 ghost use Rattle.digit_tuple.specs.Deterministic.{states_of};
@@ -28,14 +28,36 @@ pub fn print_relation(alloc: Global, header: &Header, d: &Dfa) -> Result<Vec<u8>
 {
     let mut out = Vec::new(alloc);
     push_header(&mut out, header)?;
-    let mut scratch = Scratch {
-        places: vec![in alloc; 0; d.alphabet().tracks() as usize]?,
-        row: Vec::new(alloc),
-    };
+    let mut scratch = Scratch::new(alloc, d)?;
     for state in 0..d.states() {
         push_state(&mut out, header, d, &mut scratch, state)?;
     }
     Ok(out)
+}
+
+/// The text of an automaton as `print_relation` gives it, or None where it has more than `most` bytes. Of a text that is longer
+/// no more is made than `most` bytes, the header and the lines of one state. Out of memory gives no answer.
+#[tactic(auto, unfolding(crate::specs::RelationText::relation_text))]
+pub fn print_within(
+    alloc: Global,
+    header: &Header,
+    d: &Dfa,
+    most: usize,
+) -> Result<Option<Vec<u8>>, OutOfMemory>
+    requires { d.now.sizes ≡ sizes_of (sets_of header.now) }
+    ensures text { IfOk result (λ text. IfSome text (λ printed. printed.items ≡ relation_text header.now d.now)) }
+    ensures within { IfOk result (λ text. IsSome text ↔ (length (relation_text header.now d.now) ≤ most)) }
+{
+    let mut out = Vec::new(alloc);
+    push_header(&mut out, header)?;
+    let mut scratch = Scratch::new(alloc, d)?;
+    for state in 0..d.states() {
+        if out.len() > most {
+            return Ok(None);
+        }
+        push_state(&mut out, header, d, &mut scratch, state)?;
+    }
+    Ok(if out.len() > most { None } else { Some(out) })
 }
 
 // What one state after another is printed from.
@@ -45,6 +67,18 @@ struct Scratch {
     places: Vec<u32>,
     // The edges of a state.
     row: Vec<Edge>,
+}
+
+impl Scratch {
+    // Room for the tuples of an automaton.
+    fn new(alloc: Global, d: &Dfa) -> Result<Self, OutOfMemory>
+        ensures { IfOk result (λ scratch. length scratch.places.items ≡ length d.now.sizes) }
+    {
+        Ok(Scratch {
+            places: vec![in alloc; 0; d.alphabet().tracks() as usize]?,
+            row: Vec::new(alloc),
+        })
+    }
 }
 
 // A blank line, the state's number and output, and the lines of its letters.

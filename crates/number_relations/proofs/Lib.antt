@@ -24,3 +24,5 @@ pub mod OverOne
 pub mod GrowthLemmas
 pub mod MultipleLemmas
 pub mod MultiplesDone
+pub mod ReadingLemmas
+pub mod ReadingsDone

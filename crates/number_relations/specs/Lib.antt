@@ -6,5 +6,6 @@ pub mod Complements
 pub mod Projections
 pub mod Constants
 pub mod Multiples
+pub mod Readings
 pub mod StepLaws
 pub mod Laws

@@ -6,7 +6,7 @@
 pub mod relation;
 
 /// What sealed systems tell.
-mod sealed;
+pub mod sealed;
 
 /// True and false sentences.
 pub mod truth;
@@ -40,6 +40,9 @@ pub mod constant;
 
 /// Multiples of a number by a factor.
 pub mod multiple;
+
+/// Relations read from what files list.
+pub mod reading;
 
 /// Laws of relations.
 pub mod laws;

@@ -8,8 +8,8 @@ ghost use Rattle.num_system.specs.Sealed.{IsSealed};
 use num_system::system::System;
 use std::rc::Rc;
 
-// A system that was sealed has the laws.
-pub(crate) fn is_sealed(system: &System)
+/// A system that was sealed has the laws. It does nothing.
+pub fn is_sealed(system: &System)
     ensures { IsSealed system.now }
 {
     let _ = system.language();
@@ -20,7 +20,7 @@ pub(crate) fn is_sealed(system: &System)
     let _ = system.zero();
 }
 
-// And so have all of some systems.
+/// And so have all of some systems.
 pub(crate) fn are_sealed(systems: &[Rc<System>])
     ensures { AllByRecursion IsSealed (map rc_value systems.now) }
 {

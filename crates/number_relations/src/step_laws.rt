@@ -1,6 +1,6 @@
 //! Laws of the relations that steps make, each a call that does nothing.
 
-ghost use Rattle.number_relations.specs.StepLaws.{ComplementsAreRelations, ComplementsHold, ConstantsAreRelations, ConstantsHold, JoinsAreRelations, JoinsHold, MultiplesHold, ProjectionsAreRelations, ProjectionsHold, RelationComplementHasOneOutcome, RelationConstantHasOneOutcome, RelationJoinHasOneOutcome, RelationProjectHasOneOutcome, StepsMakeMultiples};
+ghost use Rattle.number_relations.specs.StepLaws.{ComplementsAreRelations, ComplementsHold, ConstantsAreRelations, ConstantsHold, JoinsAreRelations, JoinsHold, MultiplesHold, ProjectionsAreRelations, ProjectionsHold, ReadingsAreRelations, ReadingsHold, RelationComplementHasOneOutcome, RelationConstantHasOneOutcome, RelationJoinHasOneOutcome, RelationProjectHasOneOutcome, StepsMakeMultiples};
 
 /// A join holds of numbers as its connective says of the relations on those of their tracks. The step has
 /// one outcome.
@@ -37,4 +37,11 @@ pub fn constants_hold()
 pub fn multiples_hold()
     ensures holds { MultiplesHold }
     ensures steps { StepsMakeMultiples }
+{}
+
+/// A relation that was read holds of the numbers of which some spelling is accepted by the listed
+/// automaton.
+pub fn readings_hold()
+    ensures holds { ReadingsHold }
+    ensures relation { ReadingsAreRelations }
 {}

@@ -1,9 +1,7 @@
-pub mod DirectionLemmas
 pub mod ValidWords
 pub mod SpelledWords
 pub mod OneRegex
 pub mod RelationLemmas
-pub mod TrackNumbers
 pub mod OneRelation
 pub mod OneLanguages
 pub mod RelationDone

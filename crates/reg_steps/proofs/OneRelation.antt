@@ -9,7 +9,7 @@ use Rattle.automaton_steps.specs.PadSteps.{IsPadStep, PadExceeds}
 use Rattle.automaton_steps.specs.ValidSteps.{IsValidStep, ValidExceeds}
 use Rattle.automaton_steps.proofs.OneOutcomes.{pad_outcome, valid_outcome}
 use Rattle.automaton_steps.proofs.OneResults.{one_closure}
-use Rattle.reg_steps.specs.Numbered.{numbered}
+use Rattle.automaton_steps.specs.Numbered.{numbered}
 use Rattle.reg_steps.specs.RelationSteps.{IsClosed, AreRelationSteps, SecondExceeds, ThirdExceeds}
 use Rattle.reg_steps.proofs.OneRegex.{one_automaton, one_line, within_or_above}
 

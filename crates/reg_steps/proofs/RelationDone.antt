@@ -13,8 +13,8 @@ use Rattle.digit_tuple.specs.declared.step_fault.StepFault.TheVariants as faults
 use Rattle.reg_steps.specs.RegexSteps.{IsRegexStep}
 use Rattle.automaton_steps.specs.PadSteps.{IsPadStep}
 use Rattle.automaton_steps.specs.ValidSteps.{IsValidStep, ValidExceeds, DoesValid}
-use Rattle.reg_steps.specs.Numbered.{numbered}
-use Rattle.reg_steps.proofs.TrackNumbers.{numbered_too}
+use Rattle.automaton_steps.specs.Numbered.{numbered}
+use Rattle.automaton_steps.proofs.TrackNumbers.{numbered_too}
 use Rattle.reg_steps.specs.RelationSteps.{IsClosed}
 use Rattle.reg_steps.specs.Refusals.{DoesRelation}
 

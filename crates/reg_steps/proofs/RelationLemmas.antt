@@ -22,7 +22,7 @@ use Rattle.reg_steps.specs.RelationSteps.{AreRelationSteps}
 use Rattle.reg_steps.specs.Relations.{HasMatch, IsRelation, AreSystemLanguages}
 use Rattle.reg_steps.specs.Laws.{StepsMakeTheRelation, OneRelation}
 use Rattle.reg_steps.proofs.OneRegex.{same_truth}
-use Rattle.reg_steps.proofs.DirectionLemmas.{same_without_zeros, same_strip}
+use Rattle.automaton_steps.proofs.DirectionLemmas.{same_without_zeros, same_strip}
 use Rattle.reg_steps.proofs.SpelledWords.{valid_spells, spelled_valid}
 
 module _ (limit : ℕ) (direction : Direction) (ss : List System) (languages : List Automaton) (sets : List (List ℤ)) (e : Expression (List ℤ)) (d : Automaton) (valid : StepLine)

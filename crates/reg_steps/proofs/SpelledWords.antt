@@ -14,7 +14,7 @@ use Rattle.numeration.specs.Spelling.{Spells, sizes_of}
 use Rattle.numeration.proofs.TrackLemmas.{track, numerals_from_spelling, spelling_from_numerals}
 use Rattle.reg_steps.proofs.ValidWords.{each_track, all_tracks, IsInLanguage}
 use Rattle.reg_steps.specs.Relations.{AreSystemLanguages}
-use Rattle.reg_steps.proofs.DirectionLemmas.{part-in_order}
+use Rattle.automaton_steps.proofs.DirectionLemmas.{part-in_order}
 
 -- what stands for a system that is not there
 abbrev pub no_system : System

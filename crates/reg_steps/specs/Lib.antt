@@ -1,6 +1,5 @@
 -- Definitions that the contracts cite, in reading order.
 pub mod RegexSteps
-pub mod Numbered
 pub mod RelationSteps
 pub mod Relations
 pub mod Laws

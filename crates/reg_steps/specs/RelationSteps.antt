@@ -7,7 +7,7 @@ use Rattle.regex_build.specs.Expression.{Expression}
 use Rattle.reg_steps.specs.RegexSteps.{IsRegexStep}
 use Rattle.automaton_steps.specs.PadSteps.{IsPadStep, PadExceeds}
 use Rattle.automaton_steps.specs.ValidSteps.{IsValidStep, ValidExceeds}
-use Rattle.reg_steps.specs.Numbered.{numbered}
+use Rattle.automaton_steps.specs.Numbered.{numbered}
 
 -- the expression's own automaton, and the closure of that, each by a step
 pub record IsClosed (limit : ℕ) (direction : Direction) (sets : List (List ℤ)) (expression : Expression (List ℤ)) : Type 0 where

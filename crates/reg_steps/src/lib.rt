@@ -5,9 +5,6 @@
 /// The step `regex`.
 pub mod regex_step;
 
-/// Automata whose tracks are named by their numbers.
-mod numbered;
-
 /// The three steps over numeration systems.
 pub mod relation_steps;
 

@@ -6,8 +6,8 @@ ghost use Rattle.digit_tuple.specs.Sets.{sizes_of};
 ghost use Rattle.product_op.specs.Validity.{AreLanguages};
 ghost use Rattle.reg_steps.specs.Refusals.{DoesRelation};
 
-use crate::numbered::numbered;
 use crate::regex_step::regex_step;
+use automaton_steps::numbered::numbered;
 use automaton_steps::pad_step::pad_step;
 use automaton_steps::valid_step::valid_step;
 use digit_tuple::dfa::Dfa;

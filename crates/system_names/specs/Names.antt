@@ -1,26 +1,47 @@
--- The names of the numeration systems that are built in: base k in either direction, k from 2 to 40.
-use Rattle.std.specs.Prelude.{◌≡◌, ℕ, ◌≤◌, List, ◌++◌, codes, decimal}
+-- The names of the numeration systems that are built in, each in either direction: base k, k from 2 to 40, and the Fibonacci system.
+use Rattle.std.specs.Prelude.{◌≡◌, ℕ, ◌≤◌, List, ◌++◌, codes, decimal, ⊤}
 use Rattle.digit_tuple.specs.declared.direction.Direction.{Direction}
 use Rattle.digit_tuple.specs.declared.direction.Direction.TheVariants.{Msd, Lsd}
+use Rattle.system_names.specs.declared.system_kind.SystemKind.{SystemKind}
+use Rattle.system_names.specs.declared.system_kind.SystemKind.TheVariants.{Base, Fibonacci}
 
--- the name of base k in a direction
-abbrev pub base_name : Direction → ℕ → List ℕ
-base_name Msd k = codes "msd_" ++ decimal k
-base_name Lsd k = codes "lsd_" ++ decimal k
+-- how a name says the direction
+abbrev pub direction_part : Direction → List ℕ
+direction_part Msd = codes "msd_"
+direction_part Lsd = codes "lsd_"
+
+-- and how it says the kind after that
+abbrev pub kind_part : SystemKind → List ℕ
+kind_part (Base k) = decimal k
+kind_part Fibonacci = codes "fib"
+
+-- the name of a system in a direction
+abbrev pub system_name : Direction → SystemKind → List ℕ
+system_name way kind = direction_part way ++ kind_part kind
 
 -- there is such a base
 pub record IsBase (k : ℕ) : Type 0 where
   pub least : 2 ≤ k
   pub most : k ≤ 40
 
--- the name is that of base k in a direction
-abbrev pub IsBuiltIn : Direction → ℕ → List ℕ → Type 0
-IsBuiltIn way k name = IsBase k × (name ≡ base_name way k)
+-- there is such a system
+abbrev pub IsSystemKind : SystemKind → Type 0
+IsSystemKind (Base k) = IsBase k
+IsSystemKind Fibonacci = ⊤
+
+-- how many digits it has
+abbrev pub digit_count : SystemKind → ℕ
+digit_count (Base k) = k
+digit_count Fibonacci = 2
+
+-- the name is that of a system in a direction
+abbrev pub IsBuiltIn : Direction → SystemKind → List ℕ → Type 0
+IsBuiltIn way kind name = IsSystemKind kind × (name ≡ system_name way kind)
 
 -- the name is that of a system that is built in
 abbrev pub IsBuiltInName : List ℕ → Type 0
-IsBuiltInName name = (way : Direction) × (k : ℕ) × IsBuiltIn way k name
+IsBuiltInName name = (way : Direction) × (kind : SystemKind) × IsBuiltIn way kind name
 
--- a name has one direction and one base, at most
+-- a name has one direction and one kind, at most
 abbrev pub NamesTellSystems : Type 0
-NamesTellSystems = (way other : Direction) (k n : ℕ) (name : List ℕ) → IsBuiltIn way k name → IsBuiltIn other n name → (way ≡ other) × (k ≡ n)
+NamesTellSystems = (way other : Direction) (kind another : SystemKind) (name : List ℕ) → IsBuiltIn way kind name → IsBuiltIn other another name → (way ≡ other) × (kind ≡ another)

@@ -1,0 +1,13 @@
+pub mod Splits
+pub mod ReadLines
+pub mod ReadNumbers
+pub mod SystemNames
+pub mod ReadHeaders
+pub mod Options
+pub mod Places
+pub mod Drafts
+pub mod ReadEntries
+pub mod ReadDrafts
+pub mod Letters
+pub mod Rows
+pub mod Words

@@ -1,0 +1,33 @@
+use Rattle.std.proofs.Common.{◌≡◌, ◌+◌, ◌-◌, ◌<◌, drop, sym, ap, ◌∙◌, subst, arith, List, ℕ}
+use Rattle.std.specs.List.{All}
+use Rattle.digit_tuple.specs.Letters.{product}
+use Rattle.dfa_reading.specs.LineLetters.{letters_taken}
+use Rattle.dfa_reading.proofs.Letters.{last_product, letters_below, with_track-weight}
+use Rattle.dfa_reading.proofs.line_letters.letters_from_last.Goals as goal
+
+pub with_track-requires-clause-small : goal.with_track-requires-clause-small
+with_track-requires-clause-small c =
+    let sizes = c.args.sizes.now in
+    let i = c.tracks.track - 1 in
+    let next : i + 1 ≡ c.tracks.track = omega arith in
+    let heavy : c.tracks.weight ≡ product (drop (i + 1) sizes) = c.tracks.invariant.weight ∙ ap (λ (k : ℕ). product (drop k sizes)) (sym next) in
+    let more = with_track-weight sizes i c.tracks.weight (omega (arith, c.tracks.invariant.within)) heavy in
+    let less = last_product sizes i c.requires.some in
+    omega (arith, more, less.0, c.requires.few)
+
+pub with_track-requires-clause-letters : goal.with_track-requires-clause-letters
+with_track-requires-clause-letters c =
+    let sizes = c.args.sizes.now in
+    let P : ℕ → List ℕ → Type 0 = λ weight letters. All (λ letter. letter < weight) letters in
+    subst (λ (letters : List ℕ). P c.tracks.weight letters) (sym (c.deref.ensures.value ∙ c.tracks.invariant.letters))
+    (subst (λ (weight : ℕ). P weight (letters_taken (drop c.tracks.track sizes) (drop c.tracks.track c.args.digits.now))) (sym c.tracks.invariant.weight) (letters_below (drop c.tracks.track sizes) (drop c.tracks.track c.args.digits.now)))
+
+pub overflow_mul-weight : goal.overflow_mul-weight
+overflow_mul-weight c =
+    let sizes = c.args.sizes.now in
+    let i = c.tracks.track - 1 in
+    let next : i + 1 ≡ c.tracks.track = omega arith in
+    let heavy : c.tracks.weight ≡ product (drop (i + 1) sizes) = c.tracks.invariant.weight ∙ ap (λ (k : ℕ). product (drop k sizes)) (sym next) in
+    let more = with_track-weight sizes i c.tracks.weight (omega (arith, c.tracks.invariant.within)) heavy in
+    let less = last_product sizes i c.requires.some in
+    record { fits = omega (arith, more, less.0, c.requires.few) }

@@ -1,0 +1,38 @@
+-- The rows of listed states, as they are built.
+use Rattle.std.specs.Prelude.{◌≡◌, ℕ, ◌<◌, ◌^◌, not, ℤ, pos, List, [], ◌∷◌, ◌++◌, map, length, slice_set}
+use Rattle.std.specs.List.{All, AllPairs}
+use Rattle.std.specs.Ordering.{int_eq}
+use Rattle.digit_tuple.specs.Automaton.{Branch, IsBefore}
+use Rattle.digit_tuple.specs.Reversed.{branch_at, SameBranch}
+use Rattle.digit_tuple.specs.declared.edges.Edge.{Edge}
+use Rattle.dfa_reading.specs.Listed.{ListedLine, Listed, IsListedLine}
+use Rattle.dfa_reading.specs.LineLetters.{edges_of_line}
+
+-- a state with an output, without edges
+abbrev pub bare_row : ℤ → Branch
+bare_row output = record { accepting = not (int_eq output (pos 0)); edges = [] }
+
+-- a state with further edges
+abbrev pub with_edges : Branch → List Edge → Branch
+with_edges row edges = record { accepting = row.accepting; edges = row.edges ++ edges }
+
+-- rows with the edges of a line
+abbrev pub with_line : List ℕ → List Branch → ListedLine → List Branch
+with_line sizes rows line = slice_set rows line.state (with_edges (branch_at rows line.state) (edges_of_line sizes line))
+
+-- and of lines, one after another
+abbrev pub rows_after : List ℕ → List Branch → List ListedLine → List Branch
+rows_after sizes rows [] = rows
+rows_after sizes rows (line ∷ lines) = rows_after sizes (with_line sizes rows line) lines
+
+-- the rows have the same edges, and those of the first rows are in order, each once
+pub record AreInOrder (old new : List Branch) (count : ℕ) : Type 0 where
+  pub size : length new ≡ length old
+  pub same : (q : ℕ) → SameBranch (branch_at old q) (branch_at new q)
+  pub ascending : (q : ℕ) → q < count → AllPairs IsBefore (branch_at new q).edges
+
+-- the rows are those of the listed states, in order
+pub record AreRowsOf (sizes : List ℕ) (listed : Listed) (rows : List Branch) : Type 0 where
+  pub ordered : AreInOrder (rows_after sizes (map bare_row listed.outputs) listed.lines) rows (length rows)
+  pub small : length listed.outputs < 2 ^ 32
+  pub lines : All (IsListedLine (length sizes) (length listed.outputs)) listed.lines

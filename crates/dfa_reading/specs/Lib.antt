@@ -1,0 +1,15 @@
+pub mod Numbers
+pub mod Lines
+pub mod Systems
+pub mod Headers
+pub mod Views
+pub mod HeaderViews
+pub mod Entries
+pub mod Listed
+pub mod Reading
+pub mod EntryViews
+pub mod LineViews
+pub mod DraftViews
+pub mod LineLetters
+pub mod Branching
+pub mod BranchRows

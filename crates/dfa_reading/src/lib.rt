@@ -1,0 +1,36 @@
+//! Automaton files, read back: what a file lists, from its bytes, or the line of its first fault.
+#![tactic(auto)]
+
+// why a file is not read
+mod fault;
+// numbers read from a file
+mod read_numbers;
+// lines of a file, and their parts
+mod read_lines;
+// names of systems in a header
+mod system_name;
+// what the first line says of the tracks
+mod header;
+// headers read from a file
+mod read_header;
+// the lines below a header
+mod read_entries;
+// what a file lists
+mod listed;
+// what was read of a file so far
+mod draft;
+// a file, read
+mod reading;
+// the letters by which a line leads
+mod line_letters;
+// the branching automaton of what a file lists
+mod branching;
+// laws of the definitions
+mod laws;
+
+pub use fault::FileFault;
+pub use header::FileHeader;
+pub use laws::branching_accepts_listed;
+pub use listed::{Listed, ListedLine};
+pub use reading::read_relation;
+pub use system_name::SystemName;

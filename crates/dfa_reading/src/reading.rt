@@ -1,0 +1,39 @@
+//! Files, read line by line. The time is in proportion to the bytes, with a look-up by hash for each number of a state.
+
+ghost use Rattle.std.specs.Prelude.{◌<◌, ◌^◌, length};
+ghost use Rattle.dfa_reading.specs.Reading.{relation_of};
+ghost use Rattle.dfa_reading.specs.DraftViews.{Gives};
+
+use crate::draft::Draft;
+use crate::fault::FileFault;
+use crate::listed::Listed;
+use crate::read_lines::cut_at;
+use std::alloc::Global;
+
+/// What a relation's file lists.
+///
+/// # Errors
+/// `File` names the line of the first fault, counted from one: the first line that breaks the format, and where there is none,
+/// that of the first transition with a target that is no state; a file that ends too early has the line after its last. Out of
+/// memory gives nothing. No slice of bytes is as long as the condition forbids.
+#[tactic(auto, unfolding(crate::specs::Reading::relation_of))]
+pub fn read_relation(alloc: Global, text: &[u8]) -> Result<Listed, FileFault>
+    requires { length text.now < 2 ^ 63 }
+    ensures { Gives (λ listed. listed) result (relation_of text.now) }
+{
+    let mut draft = Draft::new(alloc);
+    let mut rest = text;
+    let mut at: u64 = 1;
+    'lines: loop {
+        let (line, others) = cut_at(b'\n', rest);
+        if !draft.add_line(alloc, at, line)? {
+            return Err(FileFault::File(at));
+        }
+        let Some(next) = others else {
+            let after = if line.is_empty() { at } else { at + 1 };
+            return draft.finish(alloc, after);
+        };
+        rest = next;
+        at += 1;
+    }
+}

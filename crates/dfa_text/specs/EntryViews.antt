@@ -1,8 +1,0 @@
--- What entries of the code stand for.
-use Rattle.dfa_text.specs.Entries.{Entry, State, Line}
-use Rattle.dfa_text.specs.declared.read_entries.Entry.{Entry as EntryRead}
-use Rattle.dfa_text.specs.declared.read_entries.Entry.TheVariants as read
-
-abbrev pub entry_view : EntryRead → Entry
-entry_view (read.State n output) = State n output
-entry_view (read.Line digits targets) = Line digits.items targets.items

@@ -1,0 +1,81 @@
+-- The three steps of a relation that is read, one after another.
+use Rattle.std.proofs.Common.{◌≡◌, ℕ, List, [], ◌∷◌, Err, inl, inr, ◌⊎◌, ap, ◌∙◌, subst}
+use Rattle.digit_tuple.specs.Automaton.{Branching}
+use Rattle.digit_tuple.specs.Deterministic.{Automaton}
+use Rattle.digit_tuple.specs.Letters.{IsAlphabet}
+use Rattle.digit_tuple.specs.StepResults.{IsDone, IsRefusedBy}
+use Rattle.digit_tuple.specs.Steps.{StepLog, with_line}
+use Rattle.digit_tuple.specs.declared.step_fault.StepFault.{StepFault}
+use Rattle.digit_tuple.specs.declared.step_fault.StepFault.TheVariants as faults
+use Rattle.minimise.specs.Tracked.{NamedAutomaton}
+use Rattle.automaton_steps.specs.Numbered.{numbered}
+use Rattle.automaton_steps.specs.PadSteps.{IsPadStep, DoesPad, PadExceeds}
+use Rattle.automaton_steps.specs.ReadSteps.{IsReadStep, DoesRead}
+use Rattle.automaton_steps.specs.ValidSteps.{IsValidStep, DoesValid, ValidExceeds}
+use Rattle.num_system.specs.Sealed.{SystemValue}
+use Rattle.number_relations.specs.Relations.{relation_over, way_of}
+use Rattle.number_relations.specs.Joins.{languages_of}
+use Rattle.number_relations.specs.Multiples.{with_lines}
+use Rattle.number_relations.specs.Readings.{IsPaddedReading, IsReadDone, PassesReading}
+use Rattle.number_relations.proofs.MultiplesDone.{with_more}
+
+-- the first step is refused
+pub read_stops : (old new : StepLog) (systems : List SystemValue) (listed : Branching) (fault : StepFault) → DoesRead old listed (Err fault) new → (fault ≡ faults.Memory) ⊎ PassesReading old systems listed fault
+read_stops old new systems listed fault refused = inr (inl refused.by_limit)
+
+module _ (old mid : StepLog) (systems : List SystemValue) (listed : Branching) (read : Automaton) (first : IsDone old (IsReadStep old.limit listed read) mid) where
+  mid_limit : mid.limit ≡ old.limit
+  mid_limit = ap (λ (log : StepLog). log.limit) first.new_is
+
+  -- the second is
+  pub pad_stops : (new : StepLog) (fault : StepFault) → DoesPad mid (way_of systems) read (Err fault) new → (fault ≡ faults.Memory) ⊎ PassesReading old systems listed fault
+  pad_stops new fault refused = inr (inr (inl (record {
+    read = read;
+    first = first.line;
+    read_step = first.step;
+    refused =
+        subst (λ (log : StepLog). IsRefusedBy log ⊥ (PadExceeds old.limit (way_of systems) read) fault) first.new_is
+        (subst (λ (limit : ℕ). IsRefusedBy mid ⊥ (PadExceeds limit (way_of systems) read) fault) mid_limit refused.by_limit);
+  })))
+
+  module _ (late : StepLog) (closed : Automaton) (second : IsDone mid (IsPadStep mid.limit (way_of systems) read closed) late) where
+    late_limit : late.limit ≡ old.limit
+    late_limit = ap (λ (log : StepLog). log.limit) second.new_is ∙ mid_limit
+
+    abbrev before : IsPaddedReading old.limit (way_of systems) listed
+    before = record {
+      read = read;
+      closed = closed;
+      first = first.line;
+      second = second.line;
+      read_step = first.step;
+      pad_step = subst (λ (limit : ℕ). IsPadStep limit (way_of systems) read closed second.line) mid_limit second.step;
+    }
+
+    late_is : late ≡ with_lines old (first.line ∷ second.line ∷ [])
+    late_is = second.new_is ∙ ap (λ (log : StepLog). with_line log second.line) first.new_is ∙ with_more old (first.line ∷ []) (second.line ∷ [])
+
+    -- the third is
+    pub valid_stops : (new : StepLog) (fault : StepFault) → DoesValid late (languages_of systems) (numbered closed) (Err fault) new → (fault ≡ faults.Memory) ⊎ PassesReading old systems listed fault
+    valid_stops new fault refused = inr (inr (inr (record {
+      before = before;
+      refused =
+          subst (λ (log : StepLog). IsRefusedBy log ⊥ (ValidExceeds old.limit (languages_of systems) (numbered closed)) fault) late_is
+          (subst (λ (limit : ℕ). IsRefusedBy late ⊥ (ValidExceeds limit (languages_of systems) (numbered closed)) fault) late_limit refused.by_limit);
+    })))
+
+    -- or all are done
+    pub reading_done : (new : StepLog) (part : NamedAutomaton) → IsAlphabet listed.sizes → IsDone late (IsValidStep late.limit (languages_of systems) (numbered closed) part) new
+        → IsReadDone old systems listed (relation_over part systems) new
+    reading_done new part alphabet third = record {
+      lines = first.line ∷ second.line ∷ third.line ∷ [];
+      steps = record {
+        alphabet = alphabet;
+        before = before;
+        third = third.line;
+        systems_are = λ i. systems;
+        valid_step = subst (λ (limit : ℕ). IsValidStep limit (languages_of systems) (numbered closed) part third.line) late_limit third.step;
+        lines_are = λ i. first.line ∷ second.line ∷ third.line ∷ [];
+      };
+      new_is = third.new_is ∙ ap (λ (log : StepLog). with_line log third.line) late_is ∙ with_more old (first.line ∷ second.line ∷ []) (third.line ∷ []);
+    }

@@ -1,0 +1,61 @@
+//! Relations read from what files list.
+
+ghost use Rattle.std.specs.Prelude.{◌≡◌, map, IfOk};
+ghost use Rattle.std.specs.Rc.{rc_value};
+ghost use Rattle.numeration.specs.Spelling.{sizes_of};
+ghost use Rattle.number_relations.specs.Relations.{HaveOneWay, systems_of};
+ghost use Rattle.number_relations.specs.Readings.{DoesReading};
+
+use crate::relation::Relation;
+use crate::sealed::are_sealed;
+use crate::track_systems::{direction_of, languages_of};
+use automaton_steps::numbered::numbered;
+use automaton_steps::pad_step::pad_step;
+use automaton_steps::read_step::read_step;
+use automaton_steps::valid_step::valid_step;
+use digit_tuple::faults::OutOfMemory;
+use digit_tuple::nfa::Nfa;
+use digit_tuple::step_fault::StepFault;
+use digit_tuple::steps::Steps;
+use num_system::system::System;
+use std::alloc::Global;
+use std::rc::Rc;
+
+/// The relation that holds of the numbers of which the listed automaton accepts some spelling, by the
+/// steps `read`, `pad` and `valid` as the next ones. There is a system for each of its tracks, with the
+/// track's number of digits, and all have one direction. The tracks have their numbers as names, counted
+/// from 0. The widths and the costs are those of the steps.
+///
+/// # Errors
+/// `States` exactly at the first step that passes the limit.
+pub fn reading_steps(
+    alloc: Global,
+    listed: &Nfa,
+    systems: &[Rc<System>],
+    steps: &mut Steps,
+) -> Result<Relation, StepFault>
+    requires sizes { listed.now.sizes ≡ sizes_of (systems_of (map rc_value systems.now)) }
+    requires direction { HaveOneWay (map rc_value systems.now) }
+    ensures { DoesReading steps.old (map rc_value systems.now) listed.now result steps.new }
+{
+    are_sealed(systems);
+    let _ = listed.alphabet().tracks();
+    let kept = shared(alloc, systems)?;
+    let languages = languages_of(alloc, systems)?;
+    let read = read_step(alloc, listed, steps)?;
+    let closed = pad_step(alloc, &read, direction_of(systems), steps)?;
+    let relation = numbered(alloc, closed)?;
+    let valid = valid_step(alloc, &relation, &languages, steps)?;
+    Ok(Relation::from_parts(valid, kept))
+}
+
+// The same systems once more.
+fn shared(alloc: Global, systems: &[Rc<System>]) -> Result<Vec<Rc<System>>, OutOfMemory>
+    ensures { IfOk result (λ again. map rc_value again.items ≡ map rc_value systems.now) }
+{
+    let mut again = Vec::with_capacity(alloc, systems.len())?;
+    for system in systems {
+        again.push(system.clone()?)?;
+    }
+    Ok(again)
+}
