@@ -11,7 +11,7 @@ pub mod WholeSteps
 pub mod RegexTexts
 pub mod TrackWidths
 pub mod NameLemmas
-pub mod BaseSteps
+pub mod KnownSteps
 pub mod RegexPlans
 pub mod RegSteps
 pub mod OneLimits

@@ -4,27 +4,26 @@ use Rattle.std.specs.List.{AllByRecursion}
 use Rattle.std.proofs.lemmas.List.{length-map}
 use Rattle.digit_tuple.specs.declared.direction.Direction.{Direction}
 use Rattle.numeration.specs.Systems.{System}
-use Rattle.base_k.specs.Positional.{base}
 use Rattle.system_names.specs.Names.{IsBuiltInName}
 use Rattle.system_names.proofs.OneSystem.{one_system}
 use Rattle.session_cli.specs.Tracks.{NamedSystem, names_of}
-use Rattle.session_cli.specs.Named.{Custom, IsSystemNamed, IsOf, IsKnown, AreKnown, IsFirstWithout, AreNamed, AreSystemsOf, PartInDirection}
+use Rattle.session_cli.specs.Named.{Custom, built_in_system, IsSystemNamed, IsOf, IsKnown, AreKnown, IsFirstWithout, AreNamed, AreSystemsOf, PartInDirection}
 
 -- what a name means: one direction and one system
 pub one_meaning : (custom : Custom) (name : List ℕ) (way other : Direction) (s r : System) → IsSystemNamed custom name way s → IsSystemNamed custom name other r → (way ≡ other) × (s ≡ r)
-one_meaning custom name way other s r (k, named, is) (n, named', is') =
-    let same = one_system way other k n name named named' in
-    (same.0, is ∙ (ap base same.1 ∙ sym is'))
+one_meaning custom name way other s r (kind, named, is) (another, named', is') =
+    let same = one_system way other kind another name named named' in
+    (same.0, is ∙ (ap built_in_system same.1 ∙ sym is'))
 
 pub one_direction : (custom : Custom) (way other : Direction) (name : List ℕ) → IsOf custom way name → IsOf custom other name → way ≡ other
 one_direction custom way other name (s, named) (r, named') = (one_meaning custom name way other s r named named').0
 
 -- the names that are known are those of built-in systems
 pub known_of : (custom : Custom) (name : List ℕ) → IsBuiltInName name → IsKnown custom name
-known_of custom name (way, k, named) = (way, (base k, (k, named, refl)))
+known_of custom name (way, kind, named) = (way, (built_in_system kind, (kind, named, refl)))
 
 pub of_known : (custom : Custom) (name : List ℕ) → IsKnown custom name → IsBuiltInName name
-of_known custom name (way, (s, (k, named, is))) = (way, k, named)
+of_known custom name (way, (s, (kind, named, is))) = (way, kind, named)
 
 pub one_first : (P : List ℕ → Type 0) (names : List (List ℕ)) (a b : List ℕ) → IsFirstWithout P names a → IsFirstWithout P names b → a ≡ b
 one_first P [] a b one other = absurd one

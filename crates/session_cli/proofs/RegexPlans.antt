@@ -14,6 +14,10 @@ use Rattle.dfa_text.specs.RelationText.{relation_text}
 use Rattle.product_op.specs.Validity.{AreLanguages}
 use Rattle.numeration.specs.Spelling as spelling
 use Rattle.base_k.specs.BaseLaws.{base_is_system}
+use Rattle.fib_system.specs.FibonacciLaws.{fibonacci_is_system}
+use Rattle.system_names.specs.declared.system_kind.SystemKind.{SystemKind}
+use Rattle.system_names.specs.declared.system_kind.SystemKind.TheVariants.{Base, Fibonacci}
+use Rattle.system_names.specs.Names.{IsSystemKind}
 use Rattle.numeration.specs.Systems.{System, IsSystem, AreSystems}
 use Rattle.digit_tuple.specs.declared.step_fault.StepFault.{StepFault}
 use Rattle.digit_tuple.specs.declared.step_fault.StepFault.TheVariants as step_faults
@@ -28,8 +32,8 @@ use Rattle.reg_steps.proofs.RelationLemmas.{relation_made}
 use Rattle.session_cli.specs.declared.fault.Fault.{Fault}
 use Rattle.session_cli.specs.declared.fault.Fault.TheVariants as faults
 use Rattle.session_cli.specs.Checks.{Pure, Fails}
-use Rattle.session_cli.specs.Named.{Custom, IsSystemNamed, AreNamed}
-use Rattle.session_cli.specs.Bases.{fault_of}
+use Rattle.session_cli.specs.Named.{Custom, built_in_system, IsSystemNamed, AreNamed}
+use Rattle.session_cli.specs.TrackSystems.{fault_of}
 use Rattle.session_cli.specs.Lines.{shown_steps}
 use Rattle.session_cli.specs.Tracks.{NamedSystem, systems_of, Tracks, OverSets, OverSystems, letter_sets, header_of}
 use Rattle.session_cli.specs.declared.plan.Made.{Made}
@@ -53,7 +57,11 @@ system_sizes way (s ∷ named) = ap (λ (n : ℕ). n ∷ sizes_of (letter_sets (
 
 -- what a name means is a system
 named_is_system : (custom : Custom) (name : List ℕ) (way : Direction) (s : System) → IsSystemNamed custom name way s → IsSystem s
-named_is_system custom name way s (k, named, is) = subst IsSystem (sym is) (base_is_system k named.0.least)
+named_is_system custom name way s (kind, named, is) = subst IsSystem (sym is) (by_kind kind named.0)
+  where
+    by_kind : (k : SystemKind) → IsSystemKind k → IsSystem (built_in_system k)
+    by_kind (Base k) base = base_is_system k base.least
+    by_kind Fibonacci fib = fibonacci_is_system
 
 named_are_systems : (custom : Custom) (way : Direction) (named : List NamedSystem) → AreNamed custom way named → AreSystems (systems_of named)
 named_are_systems custom way [] are = tt

@@ -17,7 +17,8 @@ pub mod Whole
 pub mod Laws
 -- what functions inside the crate do
 pub mod Plans
-pub mod Bases
+pub mod KnownSystems
+pub mod TrackSystems
 pub mod Commands
 pub mod Tallies
 pub mod Handing

@@ -4,6 +4,9 @@ use Rattle.std.specs.List.{AllByRecursion}
 use Rattle.digit_tuple.specs.declared.direction.Direction.{Direction}
 use Rattle.numeration.specs.Systems.{System}
 use Rattle.base_k.specs.Positional.{base}
+use Rattle.fib_system.specs.Fibonacci.{fibonacci}
+use Rattle.system_names.specs.declared.system_kind.SystemKind.{SystemKind}
+use Rattle.system_names.specs.declared.system_kind.SystemKind.TheVariants.{Base, Fibonacci}
 use Rattle.system_names.specs.Names.{IsBuiltIn}
 use Rattle.command_head.specs.Heads as heads
 use Rattle.session_cli.specs.Tracks.{Tracks, OverSets, OverSystems, NamedSystem, names_of}
@@ -13,9 +16,14 @@ use Rattle.session_cli.specs.Trees.{Entry}
 abbrev pub Custom : Type 0
 Custom = List ℕ → Option Entry
 
--- the name means this system, read in this direction: base k is built in
+-- the systems that are built in: base k, and the Fibonacci system
+abbrev pub built_in_system : SystemKind → System
+built_in_system (Base k) = base k
+built_in_system Fibonacci = fibonacci
+
+-- the name means this system, read in this direction
 abbrev pub IsSystemNamed : Custom → List ℕ → Direction → System → Type 0
-IsSystemNamed custom name way s = (k : ℕ) × IsBuiltIn way k name × (s ≡ base k)
+IsSystemNamed custom name way s = (kind : SystemKind) × IsBuiltIn way kind name × (s ≡ built_in_system kind)
 
 -- the name means a system that is read in this direction
 abbrev pub IsOf : Custom → Direction → List ℕ → Type 0

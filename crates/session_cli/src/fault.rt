@@ -1,6 +1,6 @@
 ghost use Rattle.std.specs.Prelude.{◌≡◌};
 ghost use Rattle.session_cli.specs.declared.fault.Fault.TheVariants.{Memory};
-ghost use Rattle.session_cli.specs.Bases.{fault_of};
+ghost use Rattle.session_cli.specs.TrackSystems.{fault_of};
 
 use digit_tuple::faults::OutOfMemory;
 use digit_tuple::name::Name;

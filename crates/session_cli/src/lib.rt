@@ -11,8 +11,10 @@ mod lines;
 mod printed;
 // what an accepted command leaves
 mod plan;
+// a system that is known
+mod known_system;
 // the systems of tracks, by their names
-mod bases;
+mod track_systems;
 // the words with which commands begin
 mod command_word;
 // the command `reg`

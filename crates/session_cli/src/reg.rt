@@ -8,13 +8,13 @@ ghost use Rattle.session_cli.specs.Trees.{Ledger};
 ghost use Rattle.session_cli.specs.Tracks.{OverSystems, OverSets};
 ghost use Rattle.session_cli.specs.Named.{Custom};
 ghost use Rattle.session_cli.specs.RegOutcomes.{reg_checks, after_head, after_tracks};
-ghost use Rattle.session_cli.specs.Bases.{AreBases, named_in};
+ghost use Rattle.session_cli.specs.TrackSystems.{AreTrackSystems, named_in};
 ghost use Rattle.session_cli.specs.Plans.{AreFormedAlphabets, Makes, ParsesTo, Plans, Prints};
 
-use crate::bases::Bases;
 use crate::fault::{Fault, Grammar};
 use crate::plan::{Made, Plan};
 use crate::printed::Printed;
+use crate::track_systems::TrackSystems;
 use command_head::{Alphabets, HeadFault, RegParts, reg_parts};
 use dfa_text::print_relation;
 use digit_tuple::dfa::Dfa;
@@ -70,8 +70,8 @@ fn made_over(
     match alphabets {
         Alphabets::Sets(sets) => regex_over(alloc, limit, sets, body, shown),
         Alphabets::Systems(names) => {
-            let bases = Bases::of_names(alloc, names)?;
-            regex_over_bases(alloc, limit, &bases, body, shown)
+            let systems = TrackSystems::of_names(alloc, names)?;
+            regex_over_systems(alloc, limit, &systems, body, shown)
         }
     }
 }
@@ -95,21 +95,21 @@ fn regex_over(
 }
 
 /// What is made of the expression in a quoted text over systems, by the steps `regex`, `pad` and `valid`.
-fn regex_over_bases(
+fn regex_over_systems(
     alloc: Global,
     limit: u32,
-    bases: &Bases,
+    systems: &TrackSystems,
     body: &[u8],
     shown: bool,
 ) -> Result<Made, Fault>
-    requires { AreBases bases.now }
-    ensures { (name : List ℕ) → Makes (after_tracks limit name body.now (OverSystems bases.now.direction (named_in bases.now.systems.items))) shown result }
+    requires { AreTrackSystems systems.now }
+    ensures { (name : List ℕ) → Makes (after_tracks limit name body.now (OverSystems systems.now.direction (named_in systems.now.systems.items))) shown result }
 {
-    let header = Header::Systems(bases.tracks(alloc)?);
+    let header = Header::Systems(systems.tracks(alloc)?);
     let regex = parsed(alloc, body, &header)?;
-    let languages = bases.languages(alloc)?;
+    let languages = systems.languages(alloc)?;
     let mut steps = Steps::new(alloc, limit);
-    let relation = relation_steps(alloc, &regex, bases.direction, &languages, &mut steps)?;
+    let relation = relation_steps(alloc, &regex, systems.direction, &languages, &mut steps)?;
     made_of(alloc, &header, relation.dfa(), &steps, shown)
 }
 

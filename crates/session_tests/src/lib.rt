@@ -26,6 +26,10 @@ mod set_rows;
 #[cfg(test)]
 mod system_rows;
 
+// the rows of expressions over the Fibonacci system
+#[cfg(test)]
+mod fibonacci_rows;
+
 // words of the command line
 #[cfg(test)]
 mod words;

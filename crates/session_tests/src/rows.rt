@@ -1,6 +1,7 @@
 //! Scripts with what they print, their status and, where a name is given, what stands under it.
 
 use crate::command_rows::COMMANDS;
+use crate::fibonacci_rows::FIBONACCI;
 use crate::set_rows::SETS;
 use crate::system_rows::SYSTEMS;
 use crate::whole::{Left, SURE, expect_stored, run_script};
@@ -26,7 +27,8 @@ fn scripts_print_and_store_as_listed(rt: HostRuntime) -> Result<(), Fail> {
 
 #[test]
 fn expressions_over_systems_print_and_store_as_listed(rt: HostRuntime) -> Result<(), Fail> {
-    expect_rows(&rt, rt.alloc(), &SYSTEMS)
+    expect_rows(&rt, rt.alloc(), &SYSTEMS)?;
+    expect_rows(&rt, rt.alloc(), &FIBONACCI)
 }
 
 fn expect_rows(rt: &impl Abort, alloc: Global, rows: &[Row]) -> Result<(), Fail> {

@@ -3,8 +3,8 @@ use Rattle.std.specs.List.{AllByRecursion}
 use Rattle.system_names.specs.Names.{IsBuiltInName}
 use Rattle.session_cli.specs.Named.{IsFirstWithout}
 use Rattle.session_cli.proofs.NameLemmas.{first_at}
-use Rattle.session_cli.proofs.BaseSteps.{built_in_names}
-use Rattle.session_cli.proofs.bases.known_bases.Goals as goal
+use Rattle.session_cli.proofs.KnownSteps.{built_in_names}
+use Rattle.session_cli.proofs.track_systems.known_systems.Goals as goal
 
 pub returns-in-None : goal.returns-in-None
 returns-in-None c =

@@ -1,4 +1,4 @@
--- Bases that were found, one after another.
+-- Systems that were found, one after another.
 use Rattle.std.proofs.Common.{◌≡◌, ◌⊎◌, ℕ, zero, suc, ◌+◌, ◌<◌, ◌≤◌, List, [], ◌∷◌, ◌++◌, length, map, take, get_or, inl, inr, refl, sym, ap, ◌∙◌, subst, arith}
 use Rattle.std.specs.List.{All, AllByRecursion}
 use Rattle.std.proofs.lemmas.Bool.{cases_lt}
@@ -12,48 +12,53 @@ use Rattle.product_op.specs.Validity.{language_at, no_language}
 use Rattle.numeration.specs.Systems.{System}
 use Rattle.numeration.specs.Relations.{IsLanguageOf}
 use Rattle.number_order.proofs.KeptLemmas.{language_kept}
-use Rattle.base_k.specs.declared.base_k.BaseK.{BaseK}
-use Rattle.base_k.specs.Positional.{base}
-use Rattle.base_k.specs.BaseLaws.{base_is_system}
 use Rattle.reg_steps.specs.Relations.{IsSystemLanguage, AreSystemLanguages}
-use Rattle.system_names.specs.Names.{IsBase, IsBuiltInName}
+use Rattle.system_names.specs.declared.system_kind.SystemKind.TheVariants as kinds
+use Rattle.system_names.specs.Names.{IsBuiltInName}
 use Rattle.session_cli.specs.Tracks.{names_of, systems_of, track_of, header_tracks}
 use Rattle.session_cli.specs.Named.{Custom, IsSystemNamed, IsOf, IsKnown, AreNamed, AreSystemsOf, IsFirstWithout, PartInDirection}
 use Rattle.command_head.specs.Heads as heads
-use Rattle.session_cli.specs.declared.bases.Bases.{Bases}
+use Rattle.session_cli.specs.declared.known_system.KnownSystem.{KnownSystem}
+use Rattle.session_cli.specs.declared.known_system.KnownSystem.TheVariants.{Base, Fibonacci}
+use Rattle.session_cli.specs.declared.track_systems.TrackSystems.{TrackSystems}
 use Rattle.session_cli.specs.declared.fault.Fault.{Fault}
 use Rattle.session_cli.specs.declared.fault.Fault.TheVariants as faults
 use Rattle.session_cli.specs.Checks.{Pure, Fails}
 use Rattle.session_cli.specs.RegOutcomes.{TracksAnswers}
-use Rattle.session_cli.specs.Bases.{name_of, named_of, named_in, AreBasesOf, IsIn, IsUnknown, IsFirstApart}
+use Rattle.session_cli.specs.KnownSystems.{system_of, way_of, known_is_system, name_of}
+use Rattle.session_cli.specs.TrackSystems.{named_of, named_in, AreTrackSystemsOf, IsIn, IsUnknown, IsFirstApart}
 use Rattle.session_cli.proofs.NameLemmas.{one_direction, known_of, of_known, first_so}
 
--- the bounds of a base
-pub base_bounds : (s : BaseK) → IsBase s.base
-base_bounds s = record { least = s.at_least; most = s.at_most }
+-- the name of a system that is known is that of a system that is built in
+built_in_name : (s : KnownSystem) → IsBuiltInName (name_of s)
+built_in_name (Base s) = (s.direction, kinds.Base s.base, (record { least = s.at_least; most = s.at_most }, refl))
+built_in_name (Fibonacci s) = (s.direction, kinds.Fibonacci, (tt, refl))
 
--- names of bases are known
-pub built_in_names : (systems : List BaseK) → AllByRecursion IsBuiltInName (map name_of systems)
+pub built_in_names : (systems : List KnownSystem) → AllByRecursion IsBuiltInName (map name_of systems)
 built_in_names [] = tt
-built_in_names (s ∷ systems) = ((s.direction, s.base, (base_bounds s, refl)), built_in_names systems)
+built_in_names (s ∷ systems) = (built_in_name s, built_in_names systems)
 
-pub names_known : (custom : Custom) (systems : List BaseK) → AllByRecursion (IsKnown custom) (map name_of systems)
+pub names_known : (custom : Custom) (systems : List KnownSystem) → AllByRecursion (IsKnown custom) (map name_of systems)
 names_known custom [] = tt
-names_known custom (s ∷ systems) = (known_of custom (name_of s) (s.direction, s.base, (base_bounds s, refl)), names_known custom systems)
+names_known custom (s ∷ systems) = (known_of custom (name_of s) (built_in_name s), names_known custom systems)
 
--- bases have the names under which they stand
-pub names_in : (systems : List BaseK) → map name_of systems ≡ names_of (named_in systems)
+-- systems have the names under which they stand
+pub names_in : (systems : List KnownSystem) → map name_of systems ≡ names_of (named_in systems)
 names_in [] = refl
 names_in (s ∷ systems) = ap (λ (ns : List (List ℕ)). name_of s ∷ ns) (names_in systems)
 
--- what the name of a base means
-base_named : (custom : Custom) (way : Direction) (s : BaseK) → IsIn way s → IsSystemNamed custom (name_of s) way (base s.base)
-base_named custom way s is = let P : Direction → Type 0 = λ d. IsSystemNamed custom (name_of s) d (base s.base) in subst P is (s.base, (base_bounds s, refl), refl)
+-- what the name of a system that is known means
+its_name_means : (custom : Custom) (s : KnownSystem) → IsSystemNamed custom (name_of s) (way_of s) (system_of s)
+its_name_means custom (Base s) = (kinds.Base s.base, (record { least = s.at_least; most = s.at_most }, refl), refl)
+its_name_means custom (Fibonacci s) = (kinds.Fibonacci, (tt, refl), refl)
 
--- bases in one direction are what their names mean
-pub bases_named : (custom : Custom) (way : Direction) (systems : List BaseK) → All (IsIn way) systems → AreNamed custom way (named_in systems)
-bases_named custom way [] all = tt
-bases_named custom way (s ∷ systems) all = (base_named custom way s (all 0 s (omega arith)), bases_named custom way systems (λ i d within. all (suc i) d (omega (arith, within))))
+known_named : (custom : Custom) (way : Direction) (s : KnownSystem) → IsIn way s → IsSystemNamed custom (name_of s) way (system_of s)
+known_named custom way s is = let P : Direction → Type 0 = λ d. IsSystemNamed custom (name_of s) d (system_of s) in subst P is (its_name_means custom s)
+
+-- systems in one direction are what their names mean
+pub all_named : (custom : Custom) (way : Direction) (systems : List KnownSystem) → All (IsIn way) systems → AreNamed custom way (named_in systems)
+all_named custom way [] all = tt
+all_named custom way (s ∷ systems) all = (known_named custom way s (all 0 s (omega arith)), all_named custom way systems (λ i d within. all (suc i) d (omega (arith, within))))
 
 -- one language more
 pub languages_push : (direction : Direction) (ss : List System) (languages : List Automaton) (s : System) (d : Automaton) → AreSystemLanguages direction ss languages → IsSystemLanguage direction s d → AreSystemLanguages direction (ss ++ s ∷ []) (languages ++ d ∷ [])
@@ -73,26 +78,26 @@ languages_push direction ss languages s d are last = record {
         let two : language_at (languages ++ d ∷ []) track ≡ d = get_or_push languages d no_language track (are.count ∙ at) in
         subst (λ (y : System). IsSystemLanguage direction y (language_at (languages ++ d ∷ []) track)) (sym one) (subst (λ (e : Automaton). IsSystemLanguage direction s e) (sym two) last)
 
-pub systems_push : (systems : List BaseK) (s : BaseK) → systems_of (named_in (systems ++ s ∷ [])) ≡ systems_of (named_in systems) ++ base s.base ∷ []
+pub systems_push : (systems : List KnownSystem) (s : KnownSystem) → systems_of (named_in (systems ++ s ∷ [])) ≡ systems_of (named_in systems) ++ system_of s ∷ []
 systems_push [] s = refl
-systems_push (x ∷ systems) s = ap (λ (ss : List System). base x.base ∷ ss) (systems_push systems s)
+systems_push (x ∷ systems) s = ap (λ (ss : List System). system_of x ∷ ss) (systems_push systems s)
 
--- the canonical language of a base
-pub base_language : (direction : Direction) (s : BaseK) (d e : Automaton) → IsIn direction s → IsLanguageOf s.direction (base s.base) d → e.sizes ≡ d.sizes → SameLanguage d e → IsCanonical e → IsSystemLanguage direction (base s.base) e
-base_language direction s d e is language sizes same canonical =
-    let kept : IsLanguageOf s.direction (base s.base) e = language_kept s.direction (base s.base) d e (base_is_system s.base s.at_least) language sizes same canonical in
-    record { of_system = subst (λ (x : Direction). IsLanguageOf x (base s.base) e) is kept; canonical = canonical }
+-- the canonical language of a system
+pub known_language : (direction : Direction) (s : KnownSystem) (d e : Automaton) → IsIn direction s → IsLanguageOf (way_of s) (system_of s) d → e.sizes ≡ d.sizes → SameLanguage d e → IsCanonical e → IsSystemLanguage direction (system_of s) e
+known_language direction s d e is language sizes same canonical =
+    let kept : IsLanguageOf (way_of s) (system_of s) e = language_kept (way_of s) (system_of s) d e (known_is_system s) language sizes same canonical in
+    record { of_system = subst (λ (x : Direction). IsLanguageOf x (system_of s) e) is kept; canonical = canonical }
 
--- the first base of another direction has the first name of the other direction
-first_apart : (custom : Custom) (d : Direction) (systems : List BaseK) (j : ℕ) (other : List ℕ) → j < length systems → All (IsIn d) (take j systems) → ((x : BaseK) → ¬ IsIn d (get_or systems j x)) → other ≡ get_or (map name_of systems) j other
+-- the first system of another direction has the first name of the other direction
+first_apart : (custom : Custom) (d : Direction) (systems : List KnownSystem) (j : ℕ) (other : List ℕ) → j < length systems → All (IsIn d) (take j systems) → ((x : KnownSystem) → ¬ IsIn d (get_or systems j x)) → other ≡ get_or (map name_of systems) j other
     → IsFirstWithout (IsOf custom d) (map name_of systems) other
 first_apart custom d [] j other within all apart is = absurd (omega (arith, within))
 first_apart custom d (s ∷ systems) zero other within all apart is =
-    inl ((λ of. apart s (one_direction custom s.direction d (name_of s) (base s.base, base_named custom s.direction s refl) of)), is)
+    inl ((λ of. apart s (one_direction custom (way_of s) d (name_of s) (system_of s, known_named custom (way_of s) s refl) of)), is)
 first_apart custom d (s ∷ systems) (suc j) other within all apart is =
-    inr ((base s.base, base_named custom d s (all 0 s (omega arith))), first_apart custom d systems j other (omega (arith, within)) (λ i x inside. all (suc i) x (omega (arith, inside))) apart is)
+    inr ((system_of s, known_named custom d s (all 0 s (omega arith))), first_apart custom d systems j other (omega (arith, within)) (λ i x inside. all (suc i) x (omega (arith, inside))) apart is)
 
-pub parted : (custom : Custom) (names : List (List ℕ)) (systems : List BaseK) (d : Direction) (place : ℕ) (first other : List ℕ) → names ≡ map name_of systems → ((x : BaseK) → IsIn d (get_or systems 0 x)) → IsFirstApart d systems place
+pub parted : (custom : Custom) (names : List (List ℕ)) (systems : List KnownSystem) (d : Direction) (place : ℕ) (first other : List ℕ) → names ≡ map name_of systems → ((x : KnownSystem) → IsIn d (get_or systems 0 x)) → IsFirstApart d systems place
     → first ≡ get_or names 0 first → other ≡ get_or names place other → PartInDirection custom names first other
 parted custom names [] d place first other named head apart is is' = absurd (omega (arith, apart.within))
 parted custom names (s ∷ systems) d zero first other named head apart is is' = absurd (apart.apart s (head s))
@@ -101,7 +106,7 @@ parted custom names (s ∷ systems) d (suc j) first other named head apart is is
   way = d;
   rest = map name_of systems;
   names_are = named ∙ ap (λ (n : List ℕ). n ∷ map name_of systems) (sym firsts);
-  first_of = (base s.base, let P : List ℕ → Type 0 = λ n. IsSystemNamed custom n d (base s.base) in subst P (sym firsts) (base_named custom d s (head s)));
+  first_of = (system_of s, let P : List ℕ → Type 0 = λ n. IsSystemNamed custom n d (system_of s) in subst P (sym firsts) (known_named custom d s (head s)));
   other_is = first_apart custom d systems j other (omega (arith, apart.within)) (λ i x inside. apart.before (suc i) x (omega (arith, inside))) apart.apart (is' ∙ ap (λ (ns : List (List ℕ)). get_or ns (suc j) other) named);
 }
   where
@@ -109,18 +114,18 @@ parted custom names (s ∷ systems) d (suc j) first other named head apart is is
     firsts = is ∙ ap (λ (ns : List (List ℕ)). get_or ns 0 first) named
 
 -- one track more
-pub tracks_push : (systems : List BaseK) (s : BaseK) → header_tracks (named_in (systems ++ s ∷ [])) ≡ header_tracks (named_in systems) ++ (record { name = name_of s; digits = s.base }) ∷ []
+pub tracks_push : (systems : List KnownSystem) (s : KnownSystem) → header_tracks (named_in (systems ++ s ∷ [])) ≡ header_tracks (named_in systems) ++ (record { name = name_of s; digits = (system_of s).digits }) ∷ []
 tracks_push [] s = refl
 tracks_push (x ∷ systems) s = ap (λ (ts : List SystemTrack). track_of (named_of x) ∷ ts) (tracks_push systems s)
 
--- the name of a base at a place
-pub name_at : (systems : List BaseK) (place : ℕ) (s : BaseK) (d : List ℕ) → place < length systems → s ≡ get_or systems place s → get_or (names_of (named_in systems)) place d ≡ name_of s
+-- the name of a system at a place
+pub name_at : (systems : List KnownSystem) (place : ℕ) (s : KnownSystem) (d : List ℕ) → place < length systems → s ≡ get_or systems place s → get_or (names_of (named_in systems)) place d ≡ name_of s
 name_at systems place s d within is =
     ap (λ (ns : List (List ℕ)). get_or ns place d) (sym (names_in systems)) ∙ (get_or-map name_of systems place s d within ∙ ap name_of (sym is))
 
--- bases are the systems that their names mean
-pub named_so : (custom : Custom) (b : Bases) (names : List (List ℕ)) → AreBasesOf names b → AreSystemsOf custom names b.direction (named_in b.systems.items)
-named_so custom b names (kept, are) = record { names_are = sym kept ∙ are.names_are; are = are.are custom; some = subst (λ (ns : List (List ℕ)). 0 < length ns) kept are.some }
+-- the systems of tracks are those that their names mean
+pub named_so : (custom : Custom) (t : TrackSystems) (names : List (List ℕ)) → AreTrackSystemsOf names t → AreSystemsOf custom names t.direction (named_in t.systems.items)
+named_so custom t names (kept, are) = record { names_are = sym kept ∙ are.names_are; are = are.are custom; some = subst (λ (ns : List (List ℕ)). 0 < length ns) kept are.some }
 
 -- a name that is not known is so whatever users defined
 pub unknown_named : (custom : Custom) (names : List (List ℕ)) (fault : Fault) → IsUnknown names fault → Fails (Pure (TracksAnswers custom (heads.Systems names))) fault

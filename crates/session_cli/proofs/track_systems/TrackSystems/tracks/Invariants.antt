@@ -1,7 +1,7 @@
 use Rattle.std.proofs.Common.{◌≡◌, take}
 use Rattle.session_cli.specs.Tracks.{header_tracks}
-use Rattle.session_cli.specs.Bases.{named_in}
-use Rattle.session_cli.proofs.bases.Bases.tracks.Given as goal
+use Rattle.session_cli.specs.TrackSystems.{named_in}
+use Rattle.session_cli.proofs.track_systems.TrackSystems.tracks.Given as goal
 
 abbrev pub invariant-loop-place : goal.invariant-loop-place
 invariant-loop-place l = l.tracks ≡ header_tracks (named_in (take l.place l.self.systems.items))

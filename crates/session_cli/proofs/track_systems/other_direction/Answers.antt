@@ -2,8 +2,8 @@ use Rattle.std.proofs.Common.{rules, subst, arith}
 use Rattle.std.specs.List.{All}
 use Rattle.std.proofs.lemmas.List.{take_all}
 use Rattle.std.proofs.lemmas.List.Elements.{All-more}
-use Rattle.session_cli.specs.Bases.{IsIn}
-use Rattle.session_cli.proofs.bases.other_direction.Goals as goal
+use Rattle.session_cli.specs.TrackSystems.{IsIn}
+use Rattle.session_cli.proofs.track_systems.other_direction.Goals as goal
 
 pub loop-place-preserved : goal.loop-place-preserved
 loop-place-preserved c =

@@ -2,9 +2,10 @@ use Rattle.std.proofs.Common.{◌≡◌, ◌∙◌, ◌+◌, ◌<◌, [], ◌∷
 use Rattle.std.proofs.lemmas.List.{take_more}
 use Rattle.digit_tuple.specs.declared.systems.SystemTrack.{SystemTrack}
 use Rattle.session_cli.specs.Tracks.{header_tracks}
-use Rattle.session_cli.specs.Bases.{name_of, named_in}
-use Rattle.session_cli.proofs.BaseSteps.{tracks_push, name_at}
-use Rattle.session_cli.proofs.bases.Bases.tracks.Goals as goal
+use Rattle.session_cli.specs.KnownSystems.{system_of, name_of}
+use Rattle.session_cli.specs.TrackSystems.{named_in}
+use Rattle.session_cli.proofs.KnownSteps.{tracks_push, name_at}
+use Rattle.session_cli.proofs.track_systems.TrackSystems.tracks.Goals as goal
 
 pub loop-place-preserved : goal.loop-place-preserved
 loop-place-preserved c =
@@ -17,7 +18,8 @@ loop-place-preserved c =
     let named : c.in_ok-copy.field-0 ≡ name_of s =
     c.in_ok-copy.ensures ∙ c.index.ensures ∙ ap (λ ns. get_or ns i c.index.result.now) c.requires.names_are ∙ name_at items i s c.index.result.now within is in
     c.in_ok-push.ensures.ok
-    ∙ ap (λ ts. ts ++ (let t : SystemTrack = record { name = c.in_ok-copy.field-0; digits = s.base } in t) ∷ []) c.loop-place.invariant
-    ∙ ap (λ n. header_tracks (named_in (take i items)) ++ (let t : SystemTrack = record { name = n; digits = s.base } in t) ∷ []) named
+    ∙ ap (λ n. c.loop-place.tracks ++ (let t : SystemTrack = record { name = c.in_ok-copy.field-0; digits = n } in t) ∷ []) c.digits.ensures
+    ∙ ap (λ ts. ts ++ (let t : SystemTrack = record { name = c.in_ok-copy.field-0; digits = (system_of s).digits } in t) ∷ []) c.loop-place.invariant
+    ∙ ap (λ n. header_tracks (named_in (take i items)) ++ (let t : SystemTrack = record { name = n; digits = (system_of s).digits } in t) ∷ []) named
     ∙ sym (tracks_push (take i items) s)
     ∙ ap (λ xs. header_tracks (named_in xs)) (sym front)

@@ -1,12 +1,12 @@
 use Rattle.std.proofs.Common.{◌≡◌, ◌∙◌, ◌+◌, ◌<◌, [], ◌∷◌, ◌++◌, length, map, take, get_or, ap, sym, subst, arith}
 use Rattle.std.specs.Rc.{rc_value}
 use Rattle.std.proofs.lemmas.List.{take_more, map-append}
-use Rattle.base_k.specs.Positional.{base}
 use Rattle.reg_steps.specs.Relations.{AreSystemLanguages}
-use Rattle.session_cli.specs.Bases.{named_in, IsIn}
+use Rattle.session_cli.specs.KnownSystems.{system_of}
+use Rattle.session_cli.specs.TrackSystems.{named_in, IsIn}
 use Rattle.session_cli.specs.Tracks.{systems_of}
-use Rattle.session_cli.proofs.BaseSteps.{languages_push, systems_push, base_language}
-use Rattle.session_cli.proofs.bases.Bases.languages.Goals as goal
+use Rattle.session_cli.proofs.KnownSteps.{languages_push, systems_push, known_language}
+use Rattle.session_cli.proofs.track_systems.TrackSystems.languages.Goals as goal
 
 pub loop-system-preserved : goal.loop-system-preserved
 loop-system-preserved c =
@@ -18,9 +18,9 @@ loop-system-preserved c =
     let within : i < length items = omega (arith, c.loop-system-test.true, ap length c.deref-system-items.ensures.value) in
     let is : s ≡ get_or items i s = c.system-item.is ∙ ap (λ xs. get_or xs i s) c.deref-system-items.ensures.value in
     let front : take (i + 1) items ≡ take i items ++ s ∷ [] = take_more items i s within ∙ ap (λ x. take i items ++ x ∷ []) (sym is) in
-    let language = base_language d s c.in_ok-language.language c.in_ok-canonical.field-0 (subst (IsIn d) (sym is) (c.requires i s within)) c.in_ok-language.ensures c.in_ok-canonical.ensures.sizes c.in_ok-canonical.ensures.language c.in_ok-canonical.ensures.canonical in
-    let more = languages_push d (systems_of (named_in (take i items))) (map rc_value ls) (base s.base) c.in_ok-canonical.field-0 c.loop-system.invariant language in
-    let systems : systems_of (named_in (take i items)) ++ base s.base ∷ [] ≡ systems_of (named_in (take (i + 1) items)) = sym (systems_push (take i items) s) ∙ ap (λ xs. systems_of (named_in xs)) (sym front) in
+    let language = known_language d s c.in_ok-language.language c.in_ok-canonical.field-0 (subst (IsIn d) (sym is) (c.requires i s within)) c.in_ok-language.ensures c.in_ok-canonical.ensures.sizes c.in_ok-canonical.ensures.language c.in_ok-canonical.ensures.canonical in
+    let more = languages_push d (systems_of (named_in (take i items))) (map rc_value ls) (system_of s) c.in_ok-canonical.field-0 c.loop-system.invariant language in
+    let systems : systems_of (named_in (take i items)) ++ system_of s ∷ [] ≡ systems_of (named_in (take (i + 1) items)) = sym (systems_push (take i items) s) ∙ ap (λ xs. systems_of (named_in xs)) (sym front) in
     let pushed : map rc_value c.push.new.self.items ≡ map rc_value ls ++ c.in_ok-canonical.field-0 ∷ [] =
     ap (map rc_value) c.in_ok-push.ensures.items ∙ map-append rc_value ls (c.in_ok-new.field-0 ∷ []) ∙ ap (λ x. map rc_value ls ++ x ∷ []) c.in_ok-new.ensures.ok in
-    subst (λ ss. AreSystemLanguages d ss (map rc_value c.push.new.self.items)) systems (subst (λ xs. AreSystemLanguages d (systems_of (named_in (take i items)) ++ base s.base ∷ []) xs) (sym pushed) more)
+    subst (λ ss. AreSystemLanguages d ss (map rc_value c.push.new.self.items)) systems (subst (λ xs. AreSystemLanguages d (systems_of (named_in (take i items)) ++ system_of s ∷ []) xs) (sym pushed) more)
