@@ -1,0 +1,89 @@
+-- What comes first, each once.
+use Rattle.std.proofs.Common.{◌≡◌, ◌≢◌, refl, sym, ap, subst, ◌∙◌, ℕ, zero, suc, ◌+◌, ◌<◌, Bool, true, false, ◌||◌, cond, List, [], ◌∷◌, ◌++◌, map, length, take, get_or, fold, bytes_eq, inl, inr, arith, rules}
+use Rattle.std.specs.List.{flat_map}
+use Rattle.std.proofs.lemmas.Bool.{false_from_ne_true}
+use Rattle.std.proofs.lemmas.List.{take_more, append-nil, length-map}
+use Rattle.std.proofs.lemmas.Grind.{flat_map-append}
+use Rattle.std.proofs.lemmas.List.Elements.{Contains-append_right}
+use Rattle.std.proofs.lemmas.List.Sums.{fold-append}
+use Rattle.std.proofs.lemmas.Slice.Eq.{bytes_eq-Decides}
+use Rattle.digit_tuple.specs.Explored.{AreApart, IsNumbered}
+use Rattle.digit_tuple.proofs.MemberLemmas.{AllPairs-tail, AllPairs-head}
+use Rattle.formula_resolve.specs.FirstMentions.{has, with_new, is_same_file, file_key}
+use Rattle.formula_resolve.specs.declared.file.File.{File}
+use Rattle.formula_resolve.specs.declared.file.File.TheVariants.{Automaton, Word}
+
+-- one that is there
+has_at : (keys : List (List ℕ)) (i : ℕ) (key : List ℕ) → i < length keys → get_or keys i [] ≡ key → has bytes_eq keys key ≡ true
+has_at [] i key within at = absurd (omega arith)
+has_at (k ∷ keys) zero key within at = ap (λ b. b || has bytes_eq keys key) ((bytes_eq-Decides k key).1 at)
+has_at (k ∷ keys) (suc i) key within at = ap (λ b. bytes_eq k key || b) (has_at keys i key (omega arith) at) ∙ or_true (bytes_eq k key)
+  where
+    or_true : (b : Bool) → (b || true) ≡ true
+    or_true true = refl
+    or_true false = refl
+
+-- and one that is not
+has_not : (keys : List (List ℕ)) (key : List ℕ) → AreApart (keys ++ key ∷ []) → has bytes_eq keys key ≡ false
+has_not [] key apart = refl
+has_not (k ∷ keys) key apart =
+    ap (λ b. b || has bytes_eq keys key) (false_from_ne_true (bytes_eq k key) (λ same. AllPairs-head (λ m n. m ≢ n) k (keys ++ key ∷ []) key apart (Contains-append_right keys (key ∷ []) key (search rules)) ((bytes_eq-Decides k key).0 same)))
+    ∙ has_not keys key (AllPairs-tail (λ m n. m ≢ n) k (keys ++ key ∷ []) apart)
+
+-- a key that has the next number is new
+pub numbered_new : (old new : List (List ℕ)) (key : List ℕ) (number : ℕ) → IsNumbered old new key number → number ≡ length old → (new ≡ old ++ key ∷ []) × (has bytes_eq old key ≡ false)
+numbered_new old new key number numbered next =
+    elim numbered.old_or_new [
+      | inl before ↦ absurd (omega (arith, before.1, next))
+      | inr fresh ↦ (fresh.1, has_not old key (subst AreApart fresh.1 numbered.apart))
+    ]
+
+pub numbered_old : (old new : List (List ℕ)) (key : List ℕ) (number : ℕ) → IsNumbered old new key number → number ≢ length old → (new ≡ old) × (has bytes_eq old key ≡ true)
+numbered_old old new key number numbered other =
+    elim numbered.old_or_new [
+      | inl before ↦ (before.0, has_at old number key before.1 (ap (λ ks. get_or ks number []) (sym before.0) ∙ numbered.key_is))
+      | inr fresh ↦ absurd (other fresh.0)
+    ]
+
+pub flat_fold : {X Y : Type 0} (f : List Y → Y → List Y) (g : X → List Y) (xs : List X) (i : ℕ) (x : X) → i < length xs → x ≡ get_or xs i x → fold f [] (flat_map g (take (i + 1) xs)) ≡ fold f (fold f [] (flat_map g (take i xs))) (g x)
+flat_fold f g xs i x within at =
+    ap (λ ys. fold f [] (flat_map g ys)) (take_more xs i x within ∙ ap (λ y. take i xs ++ y ∷ []) (sym at))
+    ∙ ap (fold f []) (flat_map-append g (take i xs) (x ∷ []))
+    ∙ fold-append f [] (flat_map g (take i xs)) (flat_map g (x ∷ []))
+    ∙ ap (fold f (fold f [] (flat_map g (take i xs)))) (append-nil (g x))
+
+-- a name whose key has the next number goes last
+pub added_new : (names : List (List ℕ)) (seen new : List (List ℕ)) (key name : List ℕ) (number : ℕ) → seen ≡ names → key ≡ name → IsNumbered seen new key number → number ≡ length names → names ++ name ∷ [] ≡ with_new bytes_eq names name
+added_new names seen new key name number same is numbered next =
+    sym (ap (λ b. cond b names (names ++ name ∷ [])) ((λ i. has bytes_eq (sym same i) (sym is i)) ∙ (numbered_new seen new key number numbered (next ∙ ap length (sym same))).1))
+
+-- and one whose key has a number before is there
+pub kept_old : (names : List (List ℕ)) (seen new : List (List ℕ)) (key name : List ℕ) (number : ℕ) → seen ≡ names → key ≡ name → IsNumbered seen new key number → number ≢ length names → names ≡ with_new bytes_eq names name
+kept_old names seen new key name number same is numbered other =
+    sym (ap (λ b. cond b names (names ++ name ∷ [])) ((λ i. has bytes_eq (sym same i) (sym is i)) ∙ (numbered_old seen new key number numbered (λ at. other (at ∙ ap length same))).1))
+
+-- files are told apart by their keys
+same_file_key : (f g : File) → is_same_file f g ≡ bytes_eq (file_key f) (file_key g)
+same_file_key (Automaton m) (Automaton n) = refl
+same_file_key (Automaton m) (Word n) = refl
+same_file_key (Word m) (Automaton n) = refl
+same_file_key (Word m) (Word n) = refl
+
+has_file : (files : List File) (f : File) → has is_same_file files f ≡ has bytes_eq (map file_key files) (file_key f)
+has_file [] f = refl
+has_file (g ∷ files) f = λ i. same_file_key g f i || has_file files f i
+
+map_length : (files : List File) → length (map file_key files) ≡ length files
+map_length files = simp length-map
+
+-- a file whose key has the next number goes last
+pub file_added : (files : List File) (seen new : List (List ℕ)) (key : List ℕ) (f : File) (number : ℕ) → seen ≡ map file_key files → key ≡ file_key f → IsNumbered seen new key number → number ≡ length files → files ++ f ∷ [] ≡ with_new is_same_file files f
+file_added files seen new key f number same is numbered next =
+    sym (ap (λ b. cond b files (files ++ f ∷ []))
+    (has_file files f ∙ (λ i. has bytes_eq (sym same i) (sym is i)) ∙ (numbered_new seen new key number numbered (next ∙ sym (map_length files) ∙ ap length (sym same))).1))
+
+-- and one whose key has a number before is there
+pub file_there : (files : List File) (seen new : List (List ℕ)) (key : List ℕ) (f : File) (number : ℕ) → seen ≡ map file_key files → key ≡ file_key f → IsNumbered seen new key number → number ≢ length files → files ≡ with_new is_same_file files f
+file_there files seen new key f number same is numbered other =
+    sym (ap (λ b. cond b files (files ++ f ∷ []))
+    (has_file files f ∙ (λ i. has bytes_eq (sym same i) (sym is i)) ∙ (numbered_old seen new key number numbered (λ at. other (at ∙ ap length same ∙ map_length files))).1))

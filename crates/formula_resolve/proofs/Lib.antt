@@ -1,0 +1,12 @@
+pub mod MapLemmas
+pub mod ListLemmas
+pub mod ScopeLemmas
+pub mod OccurrenceLemmas
+pub mod MeetingLemmas
+pub mod WalkLemmas
+pub mod AnswerLemmas
+pub mod ClashLemmas
+pub mod VariableLemmas
+pub mod FirstLemmas
+pub mod FreeLemmas
+pub mod ConsistentLemmas

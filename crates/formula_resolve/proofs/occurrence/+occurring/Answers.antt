@@ -1,0 +1,35 @@
+use Rattle.std.proofs.Common.{◌≡◌, ap, sym, subst, ◌∙◌, ◌++◌, ◌∷◌, [], OnOk}
+use Rattle.std.proofs.lemmas.List.{take_all, append-nil}
+use Rattle.formula_parse.specs.Trees as trees
+use Rattle.formula_parse.specs.Views.{term_view, factors_view, addends_view}
+use Rattle.formula_parse.proofs.ViewSteps.{view_variable, view_numeral, view_product, view_sum}
+use Rattle.formula_resolve.specs.Occurrences.{term_occurrences, factor_occurrences, addend_occurrences}
+use Rattle.formula_resolve.specs.Scopes.{binders_of}
+use Rattle.formula_resolve.proofs.ListLemmas.{added_twice}
+use Rattle.formula_resolve.proofs.occurrence.+occurring.Goals as goal
+
+pub add_term-returns-in_ok-push-in-Variable : goal.add_term-returns-in_ok-push-in-Variable
+add_term-returns-in_ok-push-in-Variable t c =
+    c.in_ok-push-in-Variable.ensures.items
+    ∙ (λ i. c.args.found.now.items ++ record { name = c.in_ok-copy-in-Variable.ensures i; binder = c.binder.ensures i; system = c.in_ok-copy-in-Variable-2.ensures i } ∷ [])
+    ∙ ap (λ s. c.args.found.now.items ++ term_occurrences c.args.system.now (binders_of c.args.scope.now) s) (sym (ap term_view c.in-Variable.is ∙ view_variable c.in-Variable.name))
+
+pub add_term-returns-in-Numeral : goal.add_term-returns-in-Numeral
+add_term-returns-in-Numeral t c =
+    sym (append-nil c.args.found.now.items)
+    ∙ ap (λ s. c.args.found.now.items ++ term_occurrences c.args.system.now (binders_of c.args.scope.now) s) (sym (ap term_view c.in-Numeral.is ∙ view_numeral c.in-Numeral.field-0))
+
+pub add_term-returns-after-loop-factor : goal.add_term-returns-after-loop-factor
+add_term-returns-after-loop-factor t c =
+    c.loop-factor.invariant
+    ∙ ap (λ fs. c.args.found.now.items ++ factor_occurrences c.args.system.now (binders_of c.args.scope.now) (factors_view fs)) (take_all c.loop-factor.factor-index c.deref-factor-items.result.now c.loop-factor-test.false ∙ c.deref-factor-items.ensures.value)
+    ∙ ap (λ s. c.args.found.now.items ++ term_occurrences c.args.system.now (binders_of c.args.scope.now) s) (sym (ap term_view c.in-Product.is ∙ view_product c.in-Product.factors))
+
+pub add_term-returns-after-loop-addend : goal.add_term-returns-after-loop-addend
+add_term-returns-after-loop-addend t c =
+    subst (λ (s : trees.Term). OnOk c.add_term-in-Sum.result (c.add_term-in-Sum.new.found.items ≡ c.args.found.now.items ++ term_occurrences c.args.system.now (binders_of c.args.scope.now) s))
+    (sym (ap term_view c.in-Sum.is ∙ view_sum c.in-Sum.addends c.in-Sum.last ∙ ap (λ u. trees.sum (addends_view c.in-Sum.addends.items) (term_view u)) (sym c.deref.ensures)))
+    (added_twice c.add_term-in-Sum.result c.args.found.now.items c.loop-addend.found.items c.add_term-in-Sum.new.found.items
+    (addend_occurrences c.args.system.now (binders_of c.args.scope.now) (addends_view c.in-Sum.addends.items)) (term_occurrences c.args.system.now (binders_of c.args.scope.now) (term_view c.deref.result.now))
+    (c.loop-addend.invariant ∙ ap (λ ss. c.args.found.now.items ++ addend_occurrences c.args.system.now (binders_of c.args.scope.now) (addends_view ss)) (take_all c.loop-addend.addend-index c.deref-addend-items.result.now c.loop-addend-test.false ∙ c.deref-addend-items.ensures.value))
+    c.add_term-in-Sum.ensures)

@@ -1,0 +1,87 @@
+//! The resolution of a formula.
+
+ghost use Rattle.std.specs.Prelude.{◌≡◌, IfOk, [], None};
+ghost use Rattle.std.specs.Option.{option_map};
+ghost use Rattle.std.specs.FinMap as finite;
+ghost use Rattle.formula_parse.specs.Views.{formula_view};
+ghost use Rattle.formula_resolve.specs.Answers.{Tells};
+ghost use Rattle.formula_resolve.specs.Occurrences.{all_occurrences};
+ghost use Rattle.formula_resolve.specs.Directions.{first_turn};
+ghost use Rattle.formula_resolve.specs.Resolving.{direction_fault, Resolves};
+
+use crate::arity::check_uses;
+use crate::clash::check_systems;
+use crate::direction::Turn;
+use crate::fault::ResolveFault;
+use crate::headers::Headers;
+use crate::mention::mentions;
+use crate::scope::Scope;
+use crate::variable::{Variable, free_variables};
+use crate::walk::{Walk, walk_formula};
+use digit_tuple::faults::OutOfMemory;
+use formula_parse::tree::Formula;
+use std::alloc::Global;
+
+/// What a formula is built with.
+#[derive(Drop)]
+pub struct Resolved {
+    /// The free variables in byte order, with their systems.
+    pub variables: Vec<Variable>,
+}
+
+/// The resolution of a formula: its free variables in byte order with their systems, where its names,
+/// systems and directions are as they may be. A name without a header has no tracks.
+///
+/// It takes time in the length of the formula times its nesting and the logarithm of the number of
+/// names, and calls itself no deeper than the nesting.
+///
+/// # Errors
+/// The first misuse of a name from the left: `Plain` where an automaton over sets is called, `Arity`
+/// where a name has another number of tracks than is given. Else `Clash`: the first occurrence of a
+/// variable whose system is not that of the first one under the same binding. Else `Direction`: the
+/// first chain or atom, inner before outer and left before right, whose free variables or two words
+/// have systems of two directions. `Memory` where there is not enough.
+pub fn resolve(
+    alloc: Global,
+    formula: &Formula,
+    headers: &Headers,
+) -> Result<Resolved, ResolveFault>
+    ensures { Resolves headers.now (formula_view formula.now) result }
+{
+    let mentioned = mentions(alloc, formula)?;
+    check_uses(alloc, &mentioned, headers)?;
+    let Walk {
+        occurrences,
+        turn,
+        ..
+    } = walk_whole(alloc, formula, headers)?;
+    check_systems(alloc, &occurrences)?;
+    check_directions(turn)?;
+    let variables = free_variables(alloc, &occurrences)?;
+    Ok(Resolved { variables })
+}
+
+/// The walk through a whole formula.
+fn walk_whole(alloc: Global, formula: &Formula, headers: &Headers) -> Result<Walk, OutOfMemory>
+    ensures occurrences { IfOk result (λ w. w.occurrences.items ≡ all_occurrences headers.now (formula_view formula.now)) }
+    ensures turn { IfOk result (λ w. w.turn ≡ first_turn headers.now (formula_view formula.now)) }
+{
+    let mut walk = Walk {
+        scope: Scope::new(alloc),
+        next: 1,
+        occurrences: Vec::new(alloc),
+        turn: None,
+    };
+    walk_formula(alloc, formula, headers, &mut walk)?;
+    Ok(walk)
+}
+
+/// Ok where no two directions meet.
+fn check_directions(turn: Option<Turn>) -> Result<(), ResolveFault>
+    ensures { Tells (option_map direction_fault turn) result }
+{
+    match turn {
+        Some(Turn { first, other }) => Err(ResolveFault::Direction(first, other)),
+        None => Ok(()),
+    }
+}
