@@ -8,3 +8,14 @@ pub mod AgreementLemmas
 pub mod QuantifierLemmas
 pub mod FormulaLemmas
 pub mod LinearLemmas
+pub mod MakingLemmas
+pub mod PlanningLemmas
+pub mod MultiplesMade
+pub mod TermsMade
+pub mod FactsMade
+pub mod OwnTracks
+pub mod SameNames
+pub mod FreeNameLemmas
+pub mod NamesAdded
+pub mod OwnFormulas
+pub mod FormulasMade

@@ -1,0 +1,230 @@
+-- Plans of atoms, made part by part.
+use Rattle.std.specs.List.{fold}
+use Rattle.std.proofs.Common.{◌≡◌, inl, inr, ℕ, suc, ◌+◌, ◌<◌, ◌≤◌, List, [], ◌∷◌, ◌++◌, map, length, get_or, take, Some, Result, Ok, Err, IfOk, refl, sym, ◌∙◌, ap, subst, arith, append-nil, append_assoc, length-append, below_more}
+use Rattle.std.proofs.lemmas.List.{take_more, take_all, map-append, get_or_append_left}
+use Rattle.std.proofs.Math.Seq.{get_or-append_seam}
+use Rattle.std.proofs.lemmas.List.Sums.{fold-append}
+use Rattle.formula_parse.specs.Tokens.{Name, Relation}
+use Rattle.formula_parse.specs.Trees.{Term, Terms, no_terms, terms}
+use Rattle.formula_parse.specs.Views.{term_view, terms_view}
+use Rattle.formula_parse.specs.declared.tree.Term as parsed
+use Rattle.formula_plan.specs.Tracks.{Track}
+use Rattle.formula_plan.specs.Plans.{Plan, compared}
+use Rattle.formula_plan.specs.TermPlans.{Placed, TermPlan, closed, closing, term_plan}
+use Rattle.formula_plan.specs.FactPlans.{Places, no_places, places, tracks_of, all_places, closed_all, closing_all, TermPlans, and_term, over_terms, count, argument_plans, Form, long, named, named_by, compare_by}
+use Rattle.formula_plan.specs.Makings.{track_view, plan_at}
+use Rattle.formula_plan.specs.Planning.{Adds, IsAt, Does, DoesTerm, DoesTerms, base_made, step_made, closed_made, closed_all_made, placed_at, places_at, IsWithin, AreWithin, tracks_in}
+use Rattle.formula_plan.specs.FactPlanning.{IsForm}
+use Rattle.formula_plan.specs.declared.planner.Planner.{Planner}
+use Rattle.formula_plan.specs.declared.planner.Placed as found
+use Rattle.formula_plan.specs.declared.comparisons.Short.{Short}
+use Rattle.formula_plan.proofs.PlanningLemmas.{adds_none, adds_then, within_later, placed_later}
+
+-- terms, one more at a time
+count_all : (front : Terms) (ts : List Term) → count (fold terms front ts) ≡ count front + length ts
+count_all front [] = omega arith
+count_all front (t ∷ ts) = let rest = count_all (terms front t) ts in omega (arith, rest)
+
+length_map : (ts : List parsed.Term) → length (map term_view ts) ≡ length ts
+length_map [] = refl
+length_map (t ∷ ts) = ap suc (length_map ts)
+
+count_front : (ts : List parsed.Term) (i : ℕ) → length (take i ts) ≡ i → count (terms_view (take i ts)) ≡ i
+count_front ts i far = let all = count_all no_terms (map term_view (take i ts)) in let same = length_map (take i ts) in omega (arith, all, same, far)
+
+pub terms_more : (ts : List parsed.Term) (i : ℕ) (d : parsed.Term) → i < length ts → terms_view (take (i + 1) ts) ≡ terms (terms_view (take i ts)) (term_view (get_or ts i d))
+terms_more ts i d within =
+    ap terms_view (take_more ts i d within)
+    ∙ ap (fold terms no_terms) (map-append term_view (take i ts) (get_or ts i d ∷ []))
+    ∙ fold-append terms no_terms (map term_view (take i ts)) (term_view (get_or ts i d) ∷ [])
+
+-- places in a list with more plans
+places_later : (xs ys ss : List Plan) (ps : List found.Placed) → Adds xs ys ss → AreWithin xs ps → places_at ys ps ≡ places_at xs ps
+places_later xs ys ss ps adds are = ap (fold places no_places) (same ps are)
+  where
+    same : (qs : List found.Placed) → AreWithin xs qs → map (placed_at ys) qs ≡ map (placed_at xs) qs
+    same [] inside = refl
+    same (q ∷ qs) inside = ap (λ p. p ∷ map (placed_at ys) qs) (placed_later xs ys ss q adds (inside 0 q (omega arith))) ∙ ap (λ l. placed_at xs q ∷ l) (same qs (λ i d below. inside (suc i) d (omega (arith, below))))
+
+pub are_within_later : (xs ys ss : List Plan) (ps : List found.Placed) → Adds xs ys ss → AreWithin xs ps → AreWithin ys ps
+are_within_later xs ys ss ps adds are = λ i d below. within_later xs ys ss (get_or ps i d).relation adds (are i d below)
+
+are_within_more : (plans : List Plan) (ps : List found.Placed) (p : found.Placed) → AreWithin plans ps → IsWithin plans p.relation → AreWithin plans (ps ++ p ∷ [])
+are_within_more plans ps p are here i d below =
+    below_more (λ j. (e : found.Placed) → IsWithin plans (get_or (ps ++ p ∷ []) j e).relation) (length ps)
+    (λ j inside e. subst (λ (q : found.Placed). IsWithin plans q.relation) (sym (get_or_append_left ps (p ∷ []) e j inside)) (are j e inside))
+    (λ e. subst (λ (q : found.Placed). IsWithin plans q.relation) (sym (get_or-append_seam ps p [] e)) here)
+    i (omega (arith, length-append ps (p ∷ []), below)) d
+
+places_end : (plans : List Plan) (ps : List found.Placed) (p : found.Placed) → places_at plans (ps ++ p ∷ []) ≡ places (places_at plans ps) (placed_at plans p)
+places_end plans ps p = ap (fold places no_places) (map-append (placed_at plans) ps (p ∷ [])) ∙ fold-append places no_places (map (placed_at plans) ps) (placed_at plans p ∷ [])
+
+-- one argument more
+pub arguments_more : (ss : List Name) (ts : List parsed.Term) (i : ℕ) (t : parsed.Term) (old mid new : Planner) (ps qs : List found.Placed) (v : found.Placed) → i < length ts → t ≡ get_or ts i t → length (take i ts) ≡ i
+    → DoesTerms old mid ps (argument_plans ss (terms_view (take i ts)) old.next) → DoesTerm mid new v (term_plan (get_or ss i []) (term_view t) mid.next) → qs ≡ ps ++ v ∷ []
+    → DoesTerms old new qs (argument_plans ss (terms_view (take (i + 1) ts)) old.next)
+arguments_more ss ts i t old mid new ps qs v within at far first second more =
+    let front : TermPlans = argument_plans ss (terms_view (take i ts)) old.next in
+    let one : TermPlan = term_plan (get_or ss i []) (term_view t) front.next in
+    let here : DoesTerm mid new v one = subst (λ k. DoesTerm mid new v (term_plan (get_or ss i []) (term_view t) k)) first.next second in
+    let whole : DoesTerms old new (ps ++ v ∷ []) (and_term front one) = record {
+      adds = adds_then old.plans mid.plans new.plans front.steps one.steps first.adds here.adds;
+      within = are_within_more new.plans ps v (are_within_later mid.plans new.plans one.steps ps here.adds first.within) here.within;
+      places_are = places_end new.plans ps v ∙ ap (λ q. places q (placed_at new.plans v)) (places_later mid.plans new.plans one.steps ps here.adds first.within ∙ first.places_are)
+          ∙ ap (λ q. places front.placed q) here.placed_is;
+      next = here.next;
+    } in
+    subst (λ l. DoesTerms old new l (argument_plans ss (terms_view (take (i + 1) ts)) old.next)) (sym more)
+    (subst (λ x. DoesTerms old new (ps ++ v ∷ []) (argument_plans ss x old.next)) (sym (terms_more ts i t within ∙ ap (λ x. terms (terms_view (take i ts)) (term_view x)) (sym at)))
+    (subst (λ n. DoesTerms old new (ps ++ v ∷ []) (and_term front (term_plan (get_or ss n []) (term_view t) front.next))) (sym (count_front ts i far)) whole))
+
+pub arguments_none : (ss : List Name) (old : Planner) (ps : List found.Placed) → ps ≡ [] → DoesTerms old old ps (argument_plans ss no_terms old.next)
+arguments_none ss old ps none = subst (λ l. DoesTerms old old l (argument_plans ss no_terms old.next)) (sym none) (record {
+  adds = adds_none old.plans;
+  within = λ i d below. absurd (omega (arith, below));
+  places_are = refl;
+  next = refl;
+})
+
+pub arguments_all : (ss : List Name) (ts : List parsed.Term) (i : ℕ) (old new : Planner) (ps : List found.Placed) → length ts ≤ i
+    → DoesTerms old new ps (argument_plans ss (terms_view (take i ts)) old.next) → DoesTerms old new ps (argument_plans ss (terms_view ts) old.next)
+arguments_all ss ts i old new ps far does = subst (λ l. DoesTerms old new ps (argument_plans ss (terms_view l) old.next)) (take_all i ts far) does
+
+-- the tracks of places
+tracks_after : (plans : List Plan) (front : Places) (ps : List found.Placed) → tracks_of (fold places front (map (placed_at plans) ps)) ≡ tracks_of front ++ tracks_in ps
+tracks_after plans front [] = sym (append-nil (tracks_of front))
+tracks_after plans front (p ∷ ps) = tracks_after plans (places front (placed_at plans p)) ps ∙ append_assoc (tracks_of front) (track_view p.track ∷ []) (tracks_in ps)
+
+pub tracks_there : (plans : List Plan) (ps : List found.Placed) → tracks_of (places_at plans ps) ≡ tracks_in ps
+tracks_there plans ps = tracks_after plans no_places ps
+
+-- two values compared
+pub compared_does : (old left right base half new : Planner) (v w : found.Placed) (i j k : ℕ) (s : Name) (r : Relation) (t u : Term) → DoesTerm old left v (term_plan s t old.next) → DoesTerm left right w (term_plan s u left.next)
+    → Does right base i (base_made (compared s r (track_view v.track) (track_view w.track)) right.next) → Does base half j (closed_made base.next (placed_at base.plans v) (plan_at base.plans i))
+    → Does half new k (closed_made half.next (placed_at half.plans w) (plan_at half.plans j))
+    → Does old new k (compare_by long s t r u old.next)
+compared_does old left right base half new v w i j k s r t u first second third fourth fifth =
+    let p : TermPlan = term_plan s t old.next in
+    let q : TermPlan = term_plan s u p.next in
+    let other : DoesTerm left right w q = subst (λ l. DoesTerm left right w (term_plan s u l)) first.next second in
+    let ground : Plan = compared s r p.placed.track q.placed.track in
+    let made : Does right base i (base_made ground right.next) =
+    subst (λ x. Does right base i (base_made (compared s r p.placed.track x) right.next)) (ap (λ (z : Placed). z.track) other.placed_is)
+    (subst (λ x. Does right base i (base_made (compared s r x (track_view w.track)) right.next)) (ap (λ (z : Placed). z.track) first.placed_is) third) in
+    let left_there : placed_at base.plans v ≡ p.placed =
+    placed_later right.plans base.plans [] v made.adds (within_later left.plans right.plans q.steps v.relation other.adds first.within)
+    ∙ placed_later left.plans right.plans q.steps v other.adds first.within ∙ first.placed_is in
+    let closes : Does base half j (closed_made base.next p.placed ground) =
+    subst (λ x. Does base half j (closed_made base.next x ground)) left_there
+    (subst (λ x. Does base half j (closed_made base.next (placed_at base.plans v) x)) made.last.is fourth) in
+    let up : Adds right.plans half.plans (closing p.placed ground) = adds_then right.plans base.plans half.plans [] (closing p.placed ground) made.adds closes.adds in
+    let right_there : placed_at half.plans w ≡ q.placed = placed_later right.plans half.plans (closing p.placed ground) w up other.within ∙ other.placed_is in
+    let last : Does half new k (closed_made half.next q.placed (closed p.placed ground)) =
+    subst (λ x. Does half new k (closed_made half.next x (closed p.placed ground))) right_there
+    (subst (λ x. Does half new k (closed_made half.next (placed_at half.plans w) x)) closes.last.is fifth) in
+    record {
+      adds = adds_then old.plans right.plans new.plans (p.steps ++ q.steps) (closing p.placed ground ++ closing q.placed (closed p.placed ground))
+          (adds_then old.plans left.plans right.plans p.steps q.steps first.adds other.adds)
+          (adds_then right.plans half.plans new.plans (closing p.placed ground) (closing q.placed (closed p.placed ground)) up last.adds);
+      last = last.last;
+      next = last.next ∙ closes.next ∙ made.next ∙ other.next;
+    }
+
+-- a short equation
+pub named_does : (old mid new : Planner) (v : found.Placed) (i : ℕ) (s n : Name) (p : TermPlan) → DoesTerm old mid v p
+    → Does mid new i (base_made (named_by s n (placed_at mid.plans v).track (placed_at mid.plans v).relation) mid.next) → Does old new i (named s n p)
+named_does old mid new v i s n p first second =
+    let here : Does mid new i (base_made (named_by s n p.placed.track p.placed.relation) mid.next) =
+    subst (λ (z : Placed). Does mid new i (base_made (named_by s n z.track z.relation) mid.next)) first.placed_is second in
+    record {
+      adds = subst (λ l. Adds old.plans new.plans l) (append-nil p.steps) (adds_then old.plans mid.plans new.plans p.steps [] first.adds here.adds);
+      last = here.last;
+      next = here.next ∙ first.next;
+    }
+
+pub short_answers : {E : Type 0} (r : Result ℕ E) (old new : Planner) (f : Form) (s : Name) (t u : parsed.Term) (e : Relation) (x : Short) → IsForm f t u (Some x)
+    → IfOk r (λ i. Does old new i (named s x.name.now (term_plan s (term_view x.term.now) old.next))) → IfOk r (λ i. Does old new i (compare_by f s (term_view t) e (term_view u) old.next))
+short_answers (Ok i) old new f s t u e x (inl is) does =
+    subst (λ g. Does old new i (compare_by g s (term_view t) e (term_view u) old.next)) (sym is.0)
+    (subst (λ y. Does old new i (named s x.name.now (term_plan s (term_view y) old.next))) is.1 does)
+short_answers (Ok i) old new f s t u e x (inr is) does =
+    subst (λ g. Does old new i (compare_by g s (term_view t) e (term_view u) old.next)) (sym is.0)
+    (subst (λ y. Does old new i (named s x.name.now (term_plan s (term_view y) old.next))) is.1 does)
+short_answers (Err b) old new f s t u e x is does = does
+
+pub long_answers : {E : Type 0} (r : Result ℕ E) (old new : Planner) (f : Form) (s : Name) (t u : Term) (e : Relation) → f ≡ long
+    → IfOk r (λ i. Does old new i (compare_by long s t e u old.next)) → IfOk r (λ i. Does old new i (compare_by f s t e u old.next))
+long_answers (Ok i) old new f s t u e is does = subst (λ g. Does old new i (compare_by g s t e u old.next)) (sym is) does
+long_answers (Err b) old new f s t u e is does = does
+
+-- a base over several values, whose tracks are closed then
+over_does : (old mid base new : Planner) (ps : List found.Placed) (i j : ℕ) (qs : TermPlans) (ground : Plan) → DoesTerms old mid ps qs → Does mid base i (base_made ground mid.next)
+    → Does base new j (closed_all_made base.next (places_at base.plans ps) (plan_at base.plans i)) → Does old new j (over_terms qs [] ground)
+over_does old mid base new ps i j qs ground first second third =
+    let there : places_at base.plans ps ≡ qs.placed = places_later mid.plans base.plans [] ps second.adds first.within ∙ first.places_are in
+    let closes : Does base new j (closed_all_made base.next qs.placed ground) =
+    subst (λ x. Does base new j (closed_all_made base.next x ground)) there
+    (subst (λ x. Does base new j (closed_all_made base.next (places_at base.plans ps) x)) second.last.is third) in
+    record {
+      adds = adds_then old.plans mid.plans new.plans qs.steps (closing_all qs.placed ground) first.adds
+          (adds_then mid.plans base.plans new.plans [] (closing_all qs.placed ground) second.adds closes.adds);
+      last = closes.last;
+      next = closes.next ∙ second.next ∙ first.next;
+    }
+
+pub base_does : (old mid base new : Planner) (ps ds es : List found.Placed) (i j : ℕ) (qs : TermPlans) (f : List Track → Plan) → ds ≡ ps → es ≡ ps → DoesTerms old mid ps qs
+    → Does mid base i (base_made (f (tracks_in ds)) mid.next) → Does base new j (closed_all_made base.next (places_at base.plans es) (plan_at base.plans i)) → Does old new j (over_terms qs [] (f (tracks_of qs.placed)))
+base_does old mid base new ps ds es i j qs f same_ds same_es first second third =
+    over_does old mid base new ps i j qs (f (tracks_of qs.placed)) first
+    (subst (λ ts. Does mid base i (base_made (f ts) mid.next)) (ap tracks_in same_ds ∙ sym (tracks_there mid.plans ps) ∙ ap tracks_of first.places_are) second)
+    (subst (λ l. Does base new j (closed_all_made base.next (places_at base.plans l) (plan_at base.plans i))) same_es third)
+
+-- the values of two words
+closed_both : (ps qs : Places) (base : Plan) → closed_all (all_places ps qs) base ≡ closed_all qs (closed_all ps base)
+closed_both ps no_places base = refl
+closed_both ps (places qs q) base = ap (closed q) (closed_both ps qs base)
+
+closing_both : (ps qs : Places) (base : Plan) → closing_all (all_places ps qs) base ≡ closing_all ps base ++ closing_all qs (closed_all ps base)
+closing_both ps no_places base = sym (append-nil (closing_all ps base))
+closing_both ps (places qs q) base =
+    ap (λ l. l ++ closing q (closed_all (all_places ps qs) base)) (closing_both ps qs base)
+    ∙ ap (λ b. (closing_all ps base ++ closing_all qs (closed_all ps base)) ++ closing q b) (closed_both ps qs base)
+    ∙ append_assoc (closing_all ps base) (closing_all qs (closed_all ps base)) (closing q (closed_all qs (closed_all ps base)))
+
+both_does : (old left right base half new : Planner) (ps qs : List found.Placed) (i j k : ℕ) (xs ys : TermPlans) (ground : Plan) → DoesTerms old left ps xs → DoesTerms left right qs ys
+    → Does right base i (record { steps = ground ∷ []; last = ground; next = right.next }) → Does base half j (closed_all_made base.next (places_at base.plans ps) (plan_at base.plans i))
+    → Does half new k (closed_all_made half.next (places_at half.plans qs) (plan_at half.plans j))
+    → Does old new k (over_terms (record { steps = xs.steps ++ ys.steps; placed = all_places xs.placed ys.placed; next = ys.next }) (ground ∷ []) ground)
+both_does old left right base half new ps qs i j k xs ys ground first second third fourth fifth =
+    let left_there : places_at base.plans ps ≡ xs.placed =
+    places_later right.plans base.plans (ground ∷ []) ps third.adds (are_within_later left.plans right.plans ys.steps ps second.adds first.within)
+    ∙ places_later left.plans right.plans ys.steps ps second.adds first.within ∙ first.places_are in
+    let closes : Does base half j (closed_all_made base.next xs.placed ground) =
+    subst (λ x. Does base half j (closed_all_made base.next x ground)) left_there
+    (subst (λ x. Does base half j (closed_all_made base.next (places_at base.plans ps) x)) third.last.is fourth) in
+    let up : Adds right.plans half.plans (ground ∷ closing_all xs.placed ground) = adds_then right.plans base.plans half.plans (ground ∷ []) (closing_all xs.placed ground) third.adds closes.adds in
+    let right_there : places_at half.plans qs ≡ ys.placed = places_later right.plans half.plans (ground ∷ closing_all xs.placed ground) qs up second.within ∙ second.places_are in
+    let last : Does half new k (closed_all_made half.next ys.placed (closed_all xs.placed ground)) =
+    subst (λ x. Does half new k (closed_all_made half.next x (closed_all xs.placed ground))) right_there
+    (subst (λ x. Does half new k (closed_all_made half.next (places_at half.plans qs) x)) closes.last.is fifth) in
+    let rest : List Plan = closing_all ys.placed (closed_all xs.placed ground) in
+    record {
+      adds = subst (λ l. Adds old.plans new.plans ((xs.steps ++ ys.steps) ++ (ground ∷ l))) (sym (closing_both xs.placed ys.placed ground))
+          (adds_then old.plans right.plans new.plans (xs.steps ++ ys.steps) (ground ∷ (closing_all xs.placed ground ++ rest))
+          (adds_then old.plans left.plans right.plans xs.steps ys.steps first.adds second.adds)
+          (adds_then right.plans half.plans new.plans (ground ∷ closing_all xs.placed ground) rest up last.adds));
+      last = subst (λ p. IsAt new.plans k p) (sym (closed_both xs.placed ys.placed ground)) last.last;
+      next = last.next ∙ closes.next ∙ third.next ∙ second.next;
+    }
+
+pub pair_does : (old left right base half new : Planner) (ps ds es qs fs gs : List found.Placed) (i j k : ℕ) (xs ys : TermPlans) (f : List Track → List Track → Plan)
+    → ds ≡ ps → es ≡ ps → fs ≡ qs → gs ≡ qs → DoesTerms old left ps xs → DoesTerms left right qs ys
+    → Does right base i (step_made (f (tracks_in ds) (tracks_in fs)) right.next) → Does base half j (closed_all_made base.next (places_at base.plans es) (plan_at base.plans i))
+    → Does half new k (closed_all_made half.next (places_at half.plans gs) (plan_at half.plans j))
+    → Does old new k (over_terms (record { steps = xs.steps ++ ys.steps; placed = all_places xs.placed ys.placed; next = ys.next }) (f (tracks_of xs.placed) (tracks_of ys.placed) ∷ []) (f (tracks_of xs.placed) (tracks_of ys.placed)))
+pair_does old left right base half new ps ds es qs fs gs i j k xs ys f same_ds same_es same_fs same_gs first second third fourth fifth =
+    both_does old left right base half new ps qs i j k xs ys (f (tracks_of xs.placed) (tracks_of ys.placed)) first second
+    (subst (λ ts. Does right base i (step_made (f (tracks_of xs.placed) ts) right.next)) (ap tracks_in same_fs ∙ sym (tracks_there right.plans qs) ∙ ap tracks_of second.places_are)
+    (subst (λ ts. Does right base i (step_made (f ts (tracks_in fs)) right.next)) (ap tracks_in same_ds ∙ sym (tracks_there left.plans ps) ∙ ap tracks_of first.places_are) third))
+    (subst (λ l. Does base half j (closed_all_made base.next (places_at base.plans l) (plan_at base.plans i))) same_es fourth)
+    (subst (λ l. Does half new k (closed_all_made half.next (places_at half.plans l) (plan_at half.plans j))) same_gs fifth)

@@ -1,0 +1,15 @@
+use Rattle.std.proofs.Common.{Some, refl, subst}
+use Rattle.formula_plan.specs.Planning.{placed_at}
+use Rattle.formula_plan.specs.TermPlanning.{IsSumWithin}
+use Rattle.formula_plan.specs.declared.track.Track.TheVariants.{Fresh}
+use Rattle.formula_plan.proofs.TermsMade.{sum_does, sum_answers}
+use Rattle.formula_plan.proofs.terms.added.Goals as goal
+
+pub returns : goal.returns
+returns c =
+    sum_answers c.args.system.now c.args.planner.now.plans c.args.before c.in-Some.before (placed_at c.args.planner.now.plans c.args.value) c.args.planner.now.next c.args.planner.now c.close-2.new.self
+    (record { track = Fresh c.in_ok-fresh.field-0; relation = Some c.in_ok-closed.closed }) c.in-Some.is
+    (sum_does c.args.planner.now c.fresh.new.self c.sum_base.new.planner c.close.new.self c.close-2.new.self c.in-Some.before c.args.value (record { track = Fresh c.in_ok-fresh.field-0; relation = Some c.in_ok-closed.closed })
+    c.in_ok-base.base c.in_ok-half.half c.in_ok-closed.closed c.in_ok-fresh.field-0 c.args.system.now
+    (subst (IsSumWithin c.args.planner.now.plans) c.in-Some.is c.requires.before) c.requires.value
+    c.in_ok-fresh.ensures.0 c.in_ok-fresh.ensures.1 c.in_ok-fresh.ensures.2 c.in_ok-base.ensures c.in_ok-half.ensures c.in_ok-closed.ensures c.in_ok-closed.ensures.last.within refl)

@@ -1,0 +1,65 @@
+-- Formulas part by part: the operands of a chain, and quantified variables.
+use Rattle.std.specs.Prelude.{◌≡◌, ℕ, ◌<◌, Bool, true, false, List, [], ◌∷◌, map, length, Option, None, Some, slice_index_or, ⊤}
+use Rattle.std.specs.List.{fold}
+use Rattle.formula_parse.specs.Tokens.{Name}
+use Rattle.formula_parse.specs.Trees.{Joint}
+use Rattle.formula_parse.specs.Views.{connective_view}
+use Rattle.formula_plan.specs.Tracks.{own, has_track}
+use Rattle.formula_plan.specs.Plans.{Plan, joined, projected, tracks, Made}
+use Rattle.formula_plan.specs.FormulaPlans.{MadeOperands, none_made, made, chained, chaining, OperandPlans}
+use Rattle.formula_plan.specs.Makings.{plan_at}
+use Rattle.formula_plan.specs.OwnNames.{has_name}
+use Rattle.formula_plan.specs.Planning.{Adds, Does}
+use Rattle.formula_plan.specs.declared.planner.Planner.{Planner}
+use Rattle.formula_plan.specs.declared.chains.Front.{Front}
+
+-- what stands at the places of operands
+abbrev pub with_made : MadeOperands → (Plan × Joint) → MadeOperands
+with_made os o = made os o.0 o.1
+
+abbrev pub operand_at : List Plan → Front → Plan × Joint
+operand_at plans f = (plan_at plans f.place, connective_view f.connective)
+
+abbrev pub operands_at : List Plan → List Front → MadeOperands
+operands_at plans fs = fold with_made none_made (map (operand_at plans) fs)
+
+abbrev pub AreOperandsWithin : List Plan → List Front → Type 0
+AreOperandsWithin plans fs = (i : ℕ) (d : Front) → i < length fs → (slice_index_or fs i d).place < length plans
+
+abbrev pub IsFrontWithin : List Plan → Option Front → Type 0
+IsFrontWithin plans None = ⊤
+IsFrontWithin plans (Some f) = f.place < length plans
+
+-- an operand after what came before it
+abbrev pub joined_front : List Plan → Option Front → Plan → ℕ → Made
+joined_front plans None p k = record { steps = []; last = p; next = k }
+joined_front plans (Some f) p k = record {
+  steps = joined (connective_view f.connective) (plan_at plans f.place) p ∷ [];
+  last = joined (connective_view f.connective) (plan_at plans f.place) p;
+  next = k;
+}
+
+abbrev pub chained_made : ℕ → MadeOperands → Plan → Made
+chained_made k os p = record { steps = chaining os p; last = chained os p; next = k }
+
+-- the products of some operands are there, for what comes after them
+abbrev pub IsFrontOf : MadeOperands → Planner → Planner → Option Front → Type 0
+IsFrontOf os old new None = (os ≡ none_made) × (new ≡ old)
+IsFrontOf os old new (Some f) =
+    (front : MadeOperands) × (p : Plan) × (os ≡ made front p (connective_view f.connective)) × Does old new f.place (chained_made old.next front p)
+
+-- all that operands make is added, and stands so
+pub record DoesOperands (old new : Planner) (fs : List Front) (ps : OperandPlans) : Type 0 where
+  pub adds : Adds old.plans new.plans ps.steps
+  pub within : AreOperandsWithin new.plans fs
+  pub operands_are : operands_at new.plans fs ≡ ps.operands
+  pub next : new.next ≡ ps.next
+
+-- the own tracks of a plan are those of these variables
+pub record AgreeOn (p : Plan) (ms : List Name) : Type 0 where
+  pub agree : (n : Name) → has_track (tracks p) (own n) ≡ has_name ms n
+
+-- a variable projected, where it is to be
+abbrev pub projected_where : Bool → Name → Plan → ℕ → Made
+projected_where true n p k = record { steps = projected (own n) p ∷ []; last = projected (own n) p; next = k }
+projected_where false n p k = record { steps = []; last = p; next = k }

@@ -1,0 +1,177 @@
+//! Plans of terms.
+
+ghost use Rattle.std.specs.Prelude.{◌≡◌, ℕ, List, None, IfOk};
+ghost use Rattle.formula_parse.specs.Tokens.{Name as Named};
+ghost use Rattle.formula_parse.specs.Views.{term_view, factor_view, factors_view, sign_view};
+ghost use Rattle.formula_plan.specs.TermPlans.{begun, factor_plans, sum_relation, term_plan};
+ghost use Rattle.formula_plan.specs.Makings.{track_view};
+ghost use Rattle.formula_plan.specs.Planning.{Does, DoesTerm, IsWithin, base_made, placed_at};
+ghost use Rattle.formula_plan.specs.TermPlanning.{numeral_in, IsOther, IsSumWithin, sum_of, term_of};
+
+use crate::multiples::{multiplied_by_all, numeral};
+use crate::planner::{Placed, Planner};
+use crate::track::Track;
+use digit_tuple::faults::OutOfMemory;
+use digit_tuple::name::Name;
+use formula_parse::tree::{Factor, Sign, Term};
+use std::alloc::Global;
+
+/// A sum so far, and the sign after it.
+#[derive(Drop)]
+pub(crate) struct Before {
+    pub sum: Placed,
+    pub sign: Sign,
+}
+
+/// The numeral that a factor is, if it is one.
+#[tactic(auto, using(formula_parse::proofs::ViewSteps::view_times, formula_parse::proofs::ViewSteps::view_numeral, formula_parse::proofs::ViewSteps::view_variable, formula_parse::proofs::ViewSteps::view_product, formula_parse::proofs::ViewSteps::view_sum))]
+fn numeral_of(factor: &Factor) -> Option<u64>
+    ensures { numeral_in (factor_view factor.now) ≡ result }
+{
+    match factor {
+        Factor::Times(Term::Numeral(number)) => Some(*number),
+        Factor::Times(Term::Variable(_)) => None,
+        Factor::Times(Term::Product(_)) => None,
+        Factor::Times(Term::Sum(..)) => None,
+    }
+}
+
+/// The index of the factor that is no numeral; of the last one, where there are several.
+pub(crate) fn other_factor(factors: &[Factor]) -> Option<usize>
+    ensures { IsOther factors.now result }
+{
+    let mut other = None;
+    for (i, factor) in factors.iter().enumerate() {
+        if numeral_of(factor).is_none() {
+            other = Some(i);
+        }
+    }
+    other
+}
+
+/// The numerals among the factors, in their order.
+fn numerals(alloc: Global, factors: &[Factor]) -> Result<Vec<u64>, OutOfMemory>
+    ensures { IfOk result (λ numbers. (s : Named) → (factor_plans s (factors_view factors.now)).numerals ≡ numbers.items) }
+{
+    let mut numbers = Vec::new(alloc);
+    for factor in factors {
+        if let Some(number) = numeral_of(factor) {
+            numbers.push(number)?;
+        }
+    }
+    Ok(numbers)
+}
+
+/// The product of numerals, of which the first is placed; 1, where there are none.
+fn numeral_product(
+    planner: &mut Planner,
+    system: &Name,
+    numbers: &[u64],
+) -> Result<Placed, OutOfMemory>
+    ensures { IfOk result (λ placed. DoesTerm planner.old planner.new placed (begun system.now None numbers.now planner.old.next)) }
+{
+    let Some((first, rest)) = numbers.split_first() else {
+        return numeral(planner, system, 1);
+    };
+    let value = numeral(planner, system, *first)?;
+    multiplied_by_all(planner, system, value, rest)
+}
+
+/// Two tracks and the track of their sum, or of their difference.
+fn sum_base(
+    planner: &mut Planner,
+    system: &Name,
+    before: &Before,
+    value: &Track,
+    sum: &Track,
+) -> Result<usize, OutOfMemory>
+    ensures { IfOk result (λ place. Does planner.old planner.new place (base_made (sum_relation system.now (sign_view before.now.sign) (track_view before.now.sum.track) (track_view value.now) (track_view sum.now)) planner.old.next)) }
+{
+    match before.sign {
+        Sign::Plus => planner.added(system, &before.sum.track, value, sum),
+        Sign::Minus => planner.added(system, value, sum, &before.sum.track),
+    }
+}
+
+/// A value after what came before it: their sum or difference, on a fresh track.
+fn added(
+    planner: &mut Planner,
+    system: &Name,
+    before: Option<Before>,
+    value: Placed,
+) -> Result<Placed, OutOfMemory>
+    requires before { IsSumWithin planner.old.plans before }
+    requires value { IsWithin planner.old.plans value.relation }
+    ensures { IfOk result (λ placed. DoesTerm planner.old planner.new placed (sum_of system.now planner.old.plans before (placed_at planner.old.plans value) planner.old.next)) }
+{
+    let Some(before) = before else {
+        return Ok(value);
+    };
+    let track = Track::Fresh(planner.fresh()?);
+    let base = sum_base(planner, system, &before, &value.track, &track)?;
+    let half = planner.close(&before.sum, base)?;
+    let closed = planner.close(&value, half)?;
+    Ok(Placed {
+        track,
+        relation: Some(closed),
+    })
+}
+
+/// The plan of the term that a factor multiplies by.
+#[tactic(auto, using(formula_parse::proofs::ViewSteps::view_times))]
+#[cycle(terms)]
+fn term_of_factor(
+    planner: &mut Planner,
+    system: &Name,
+    factor: &Factor,
+) -> Result<Placed, OutOfMemory>
+    ensures { IfOk result (λ placed. DoesTerm planner.old planner.new placed (term_plan system.now (term_of (factor_view factor.now)) planner.old.next)) }
+{
+    match factor {
+        Factor::Times(inside) => term(planner, system, inside),
+    }
+}
+
+/// The plan of a term: where its value stands. Calls go no deeper than the nesting of the term.
+#[cycle(terms)]
+pub(crate) fn term(
+    planner: &mut Planner,
+    system: &Name,
+    whole: &Term,
+) -> Result<Placed, OutOfMemory>
+    ensures { IfOk result (λ placed. DoesTerm planner.old planner.new placed (term_plan system.now (term_view whole.now) planner.old.next)) }
+{
+    match whole {
+        Term::Variable(name) => {
+            let name = name.copy(planner.alloc)?;
+            Ok(Placed {
+                track: Track::Own(name),
+                relation: None,
+            })
+        }
+        Term::Numeral(number) => numeral(planner, system, *number),
+        Term::Product(factors) => {
+            let numbers = numerals(planner.alloc, factors)?;
+            match other_factor(factors) {
+                Some(i) => {
+                    let first = term_of_factor(planner, system, &factors[i])?;
+                    multiplied_by_all(planner, system, first, &numbers)
+                }
+                None => numeral_product(planner, system, &numbers),
+            }
+        }
+        Term::Sum(addends, last) => {
+            let mut before = None;
+            for addend in addends {
+                let value = term(planner, system, &addend.term)?;
+                let sum = added(planner, system, before, value)?;
+                before = Some(Before {
+                    sum,
+                    sign: addend.sign,
+                });
+            }
+            let value = term(planner, system, last)?;
+            added(planner, system, before, value)
+        }
+    }
+}
