@@ -1,0 +1,181 @@
+-- The names in the plan of a resolved formula stand for something, where those that it names do.
+use Rattle.std.specs.Prelude.{⊤}
+use Rattle.std.proofs.Common.{◌≡◌, ℕ, zero, suc, ◌+◌, ◌-◌, ◌/◌, ◌%◌, ◌<◌, ◌==◌, Bool, true, false, if◌then◌else◌, List, [], ◌∷◌, slice_index_or, Option, None, Some, arith}
+use Rattle.formula_parse.specs.Tokens.{Name, Sign, plus, minus, Relation, equal, Quantifier, some, every}
+use Rattle.formula_parse.specs.Trees.{Term, variable, numeral, product, sum, Factors, no_factors, factors, times, Terms, no_terms, terms, Addends, no_addends, addends, Fact, compare, words, word_letter, letter_word, call, Formula, atom, negated, chain, quantified, marked, Operands, no_operands, operands}
+use Rattle.formula_plan.specs.Tracks.{Track, own, fresh}
+use Rattle.formula_plan.specs.Plans.{Plan, compared, added, called, complement, projected, tracks, Made}
+use Rattle.formula_plan.specs.TermPlans.{TermPlan, closed_by, closed, no_times, linked, multiple, times_numeral, times_numerals, sum_relation, with_addend, numeral_plan, begun, term_plan, factor_plans, sum_plan}
+use Rattle.formula_plan.specs.FactPlans.{Places, no_places, places, tracks_of, closed_all, count, argument_plans, Form, long, variable_left, variable_right, form_by, is_equal, as_variable, named_by, compare_by, fact_plan}
+use Rattle.formula_plan.specs.FormulaPlans.{chained, kept, projected_all, quantified_made, plan_of, operand_plans}
+use Rattle.formula_resolve.specs.Headers.{Headers, automaton_tracks}
+use Rattle.formula_resolve.specs.Mentions.{marks, mentions, mentions_among, fact_mentions}
+use Rattle.formula_resolve.specs.Mentions as mentioned
+use Rattle.formula_resolve.specs.Arity.{misuse, first_misuse}
+use Rattle.formula_resolve.specs.declared.mention.Mention.TheVariants.{Called}
+use Rattle.num_system.specs.Sealed.{SystemValue}
+use Rattle.number_relations.specs.Relations.{absent_system}
+use Rattle.digit_tuple.specs.declared.direction.Direction.{Direction}
+use Rattle.formula_build.specs.Libraries.{LibraryValue, IsSystemIn}
+use Rattle.formula_build.specs.KnownNames.{IsKnownFact, AreKnownIn, AreKnownAmong}
+use Rattle.formula_build.specs.Resolved.{plan_headers}
+use Rattle.formula_build.specs.TrackSystems.{IsKnown, Fits}
+use Rattle.formula_build.proofs.FactOverLemmas.{neither, automaton_counted}
+use Rattle.formula_build.proofs.FormulaOverLemmas.{right_both}
+
+module _ (l : LibraryValue) where
+  abbrev IsSystem : Name → Type 0
+  IsSystem s = (system : SystemValue) × IsSystemIn l s system
+
+  abbrev IsValueKnown : Option Plan → Type 0
+  IsValueKnown None = ⊤
+  IsValueKnown (Some r) = IsKnown l r
+
+  closed_known : (t : Track) (r : Option Plan) (base : Plan) → IsValueKnown r → IsKnown l base → IsKnown l (closed_by t r base)
+  closed_known t None base value known = known
+  closed_known t (Some r) base value known = (value, known)
+
+  if_known : (b : Bool) (m n : Made) → IsKnown l m.last → IsKnown l n.last → IsKnown l (if b then m else n).last
+  if_known true m n first second = first
+  if_known false m n first second = second
+
+  multiple_known : (most : ℕ) (s : Name) (c : ℕ) (x y : Track) (k : ℕ) → IsSystem s → IsKnown l (multiple most s c x y k).last
+  multiple_known zero s c x y k is = (is, is)
+  multiple_known (suc most) s c x y k is =
+      if_known (c == 0) (no_times s x y k) (if c == 1 then one else (if c == 2 then two else (if c % 2 == 0 then even else odd))) (is, is)
+      (if_known (c == 1) one (if c == 2 then two else (if c % 2 == 0 then even else odd)) is
+      (if_known (c == 2) two (if c % 2 == 0 then even else odd) is
+      (if_known (c % 2 == 0) even odd
+      (multiple_known most s (c / 2) x (fresh k) (k + 1) is, is)
+      (multiple_known most s (c - 1) x (fresh k) (k + 1) is, is))))
+    where
+      one : Made
+      one = record { steps = []; last = compared s equal x y; next = k }
+
+      two : Made
+      two = record { steps = []; last = added s x x y; next = k }
+
+      even : Made
+      even = linked (multiple most s (c / 2) x (fresh k) (k + 1)) (fresh k) (added s (fresh k) (fresh k) y)
+
+      odd : Made
+      odd = linked (multiple most s (c - 1) x (fresh k) (k + 1)) (fresh k) (added s (fresh k) x y)
+
+  abbrev IsTermKnown : TermPlan → Type 0
+  IsTermKnown p = IsValueKnown p.placed.relation
+
+  times_known : (s : Name) (p : TermPlan) (c : ℕ) → IsSystem s → IsTermKnown p → IsTermKnown (times_numeral s p c)
+  times_known s p c is known =
+      closed_known p.placed.track p.placed.relation (multiple c s c p.placed.track (fresh p.next) (p.next + 1)).last known
+      (multiple_known c s c p.placed.track (fresh p.next) (p.next + 1) is)
+
+  numerals_known : (s : Name) (p : TermPlan) (cs : List ℕ) → IsSystem s → IsTermKnown p → IsTermKnown (times_numerals s p cs)
+  numerals_known s p [] is known = known
+  numerals_known s p (c ∷ cs) is known = numerals_known s (times_numeral s p c) cs is (times_known s p c is known)
+
+  sum_known : (s : Name) (sign : Sign) (x y z : Track) → IsSystem s → IsKnown l (sum_relation s sign x y z)
+  sum_known s plus x y z is = is
+  sum_known s minus x y z is = is
+
+  addend_known : (s : Name) (sign : Sign) (p q : TermPlan) → IsSystem s → IsTermKnown p → IsTermKnown q → IsTermKnown (with_addend s sign p q)
+  addend_known s sign p q is first second =
+      let base = sum_relation s sign p.placed.track q.placed.track (fresh q.next) in
+      closed_known q.placed.track q.placed.relation (closed p.placed base) second
+      (closed_known p.placed.track p.placed.relation base first (sum_known s sign p.placed.track q.placed.track (fresh q.next) is))
+
+  abbrev IsOtherKnown : Option (ℕ → TermPlan) → Type 0
+  IsOtherKnown None = ⊤
+  IsOtherKnown (Some plan) = (k : ℕ) → IsTermKnown (plan k)
+
+  begun_known : (s : Name) (other : Option (ℕ → TermPlan)) (cs : List ℕ) (k : ℕ) → IsSystem s → IsOtherKnown other → IsTermKnown (begun s other cs k)
+  begun_known s (Some plan) cs k is known = numerals_known s (plan k) cs is (known k)
+  begun_known s None [] k is known = is
+  begun_known s None (c ∷ cs) k is known = numerals_known s (numeral_plan s c k) cs is is
+
+  mutual
+    term_known : (s : Name) → IsSystem s → (t : Term) (k : ℕ) → IsTermKnown (term_plan s t k)
+    term_known s is (variable n) k = tt
+    term_known s is (numeral c) k = is
+    term_known s is (product fs) k = begun_known s (factor_plans s fs).other (factor_plans s fs).numerals k is (factors_known s is fs)
+    term_known s is (sum ss t) k = sums_known s is ss (term_plan s t) (term_known s is t) k
+
+    factors_known : (s : Name) → IsSystem s → (fs : Factors) → IsOtherKnown (factor_plans s fs).other
+    factors_known s is no_factors = tt
+    factors_known s is (factors fs (times (numeral c))) = factors_known s is fs
+    factors_known s is (factors fs (times (variable n))) = term_known s is (variable n)
+    factors_known s is (factors fs (times (product gs))) = term_known s is (product gs)
+    factors_known s is (factors fs (times (sum ss t))) = term_known s is (sum ss t)
+
+    sums_known : (s : Name) → IsSystem s → (ss : Addends) (last : ℕ → TermPlan) → ((k : ℕ) → IsTermKnown (last k)) → (k : ℕ) → IsTermKnown (sum_plan s ss last k)
+    sums_known s is no_addends last known k = known k
+    sums_known s is (addends ss t sign) last known k =
+        let p = sum_plan s ss (term_plan s t) k in
+        addend_known s sign p (last p.next) is (sums_known s is ss (term_plan s t) (term_known s is t) k) (known p.next)
+
+  abbrev ArePlacesKnown : Places → Type 0
+  ArePlacesKnown no_places = ⊤
+  ArePlacesKnown (places ps p) = ArePlacesKnown ps × IsValueKnown p.relation
+
+  all_closed_known : (ps : Places) (base : Plan) → ArePlacesKnown ps → IsKnown l base → IsKnown l (closed_all ps base)
+  all_closed_known no_places base values known = known
+  all_closed_known (places ps p) base values known = closed_known p.track p.relation (closed_all ps base) values.1 (all_closed_known ps base values.0 known)
+
+  arguments_known : (ss : List Name) (ts : Terms) (k : ℕ) → ((i : ℕ) → i < count ts → IsSystem (slice_index_or ss i [])) → ArePlacesKnown (argument_plans ss ts k).placed
+  arguments_known ss no_terms k are = tt
+  arguments_known ss (terms ts t) k are =
+      (arguments_known ss ts k (λ i low. are i (omega (arith, low))), term_known (slice_index_or ss (count ts) []) (are (count ts) (omega arith)) t (argument_plans ss ts k).next)
+
+  left_known : (s n : Name) (t : Track) (r : Option Plan) → IsSystem s → IsValueKnown r → IsKnown l (named_by s n t r)
+  left_known s n t None is value = is
+  left_known s n t (Some r) is value = value
+
+  compare_known : (form : Form) (s : Name) (t : Term) (r : Relation) (u : Term) (k : ℕ) → IsSystem s → IsKnown l (compare_by form s t r u k).last
+  compare_known long s t r u k is =
+      let p = term_plan s t k in
+      let q = term_plan s u p.next in
+      all_closed_known (places (places no_places p.placed) q.placed) (compared s r p.placed.track q.placed.track) ((tt, term_known s is t k), term_known s is u p.next) is
+  compare_known (variable_left n) s t r u k is = let p = term_plan s u k in left_known s n p.placed.track p.placed.relation is (term_known s is u k)
+  compare_known (variable_right n) s t r u k is = let p = term_plan s t k in left_known s n p.placed.track p.placed.relation is (term_known s is t k)
+
+  kept_known : (ks : List Name) (p : Plan) → IsKnown l p → IsKnown l (projected_all ks p)
+  kept_known [] p known = known
+  kept_known (k ∷ ks) p known = kept_known ks (projected (own k) p) known
+
+  quantified_known : (q : Quantifier) (ks : List Name) (m : Made) → IsKnown l m.last → IsKnown l (quantified_made q ks m).last
+  quantified_known some ks m known = kept_known ks m.last known
+  quantified_known every [] m known = known
+  quantified_known every (k ∷ ks) m known = kept_known (k ∷ ks) (complement m.last) known
+
+module _ (l : LibraryValue) (h : Headers) (way : Name → Direction) (fits : Fits l (plan_headers h) way) where
+  fact_known : (s : Name) (x : Fact) (k : ℕ) → first_misuse h (fact_mentions x) ≡ None → IsKnownFact l s x → IsKnown l (fact_plan (plan_headers h) s x k).last
+  fact_known s (compare t r u) k right known = compare_known l (form_by (is_equal r) (as_variable t) (as_variable u)) s t r u k known
+  fact_known s (words x r y) k right known = absurd known
+  fact_known s (word_letter x r b) k right known = absurd known
+  fact_known s (letter_word b r x) k right known = absurd known
+  fact_known s (call n ts) k right known =
+      let ss = automaton_tracks h n in
+      let ps = argument_plans ss ts k in
+      let counted = automaton_counted h n ts (neither (misuse h (Called n (mentioned.count ts))) None right).0 in
+      let over = fits.relations n known.0 known.1 in
+      all_closed_known l ps.placed (called n (tracks_of ps.placed))
+      (arguments_known l ss ts k (λ i low. (slice_index_or known.0.systems i absent_system, over.each i (omega (arith, low, counted))))) known
+
+  mutual
+    pub known_plans : (f : Formula) (k : ℕ) → first_misuse h (mentions f) ≡ None → AreKnownIn l f → IsKnown l (plan_of (plan_headers h) f k).last
+    known_plans (atom x) k right known = fact_known x.system x.fact k right known
+    known_plans (negated f) k right known = known_plans f k right known
+    known_plans (chain os f) k right known =
+        let next = (operand_plans (plan_headers h) os k).next in
+        let rights = right_both h (mentions_among os) (mentions f) right in
+        operands_known os k rights.0 known.0 (plan_of (plan_headers h) f next).last (known_plans f next rights.1 known.1)
+    known_plans (quantified q ns f) k right known =
+        let m = plan_of (plan_headers h) f k in
+        quantified_known l q (kept ns (tracks m.last)) m (known_plans f k right known)
+    known_plans (marked ms f) k right known = known_plans f k (right_both h (marks ms) (mentions f) right).1 known
+
+    operands_known : (os : Operands) (k : ℕ) → first_misuse h (mentions_among os) ≡ None → AreKnownAmong l os → (q : Plan) → IsKnown l q → IsKnown l (chained (operand_plans (plan_headers h) os k).operands q)
+    operands_known no_operands k right known q last = last
+    operands_known (operands os f j) k right known q last =
+        let next = (operand_plans (plan_headers h) os k).next in
+        let rights = right_both h (mentions_among os) (mentions f) right in
+        (operands_known os k rights.0 known.0 (plan_of (plan_headers h) f next).last (known_plans f next rights.1 known.1), last)

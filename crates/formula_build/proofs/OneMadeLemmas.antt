@@ -1,0 +1,99 @@
+-- A plan makes one relation.
+use Rattle.std.proofs.Common.{◌≡◌, ℕ, Bool, true, false, List, [], ◌∷◌, length, map, Some, refl, sym, ap, ◌∙◌, subst, ◌↔◌, arith, if◌then◌else◌}
+use Rattle.std.specs.List.{AllByRecursion}
+use Rattle.std.specs.Str.{bytes_eq}
+use Rattle.std.proofs.lemmas.Option.{none-some, same_Some}
+use Rattle.automaton_steps.proofs.OneResults.{one_complement, one_join, one_projection}
+use Rattle.num_system.specs.Sealed.{SystemValue, IsSealed}
+use Rattle.number_relations.specs.Relations.{RelationValue, IsRelation, RelationHolds, named_of, way_of}
+use Rattle.number_relations.specs.Placed.{IsPlaced, changed_names}
+use Rattle.number_relations.specs.Comparisons.{IsComparison, IsSumRelation, IsAnyNumber}
+use Rattle.number_relations.specs.Constants.{IsRelationConstant}
+use Rattle.number_relations.specs.Joins.{joint_systems, languages_of, IsRelationJoin}
+use Rattle.number_relations.specs.Complements.{IsRelationComplement}
+use Rattle.number_relations.specs.Projections.{IsRelationProjection}
+use Rattle.number_relations.proofs.ConstantRelations.{constant_is, constant_holds}
+use Rattle.number_relations.proofs.LawLemmas.{one_placed, one_comparison, one_sum, one_number}
+use Rattle.number_relations.proofs.RelationLemmas.{tuples_tell}
+use Rattle.number_relations.proofs.StepOutcomes.{same_relation}
+use Rattle.formula_plan.specs.Plans.{Plan, compared, added, number, called, lettered, renamed, constant, joined, paired, complement, projected}
+use Rattle.formula_build.specs.TrackNames.{track_name}
+use Rattle.formula_build.specs.Libraries.{LibraryValue, NamedSystem, NamedRelation, IsLibrary, IsSystemIn, IsRelationIn, system_named, relation_named}
+use Rattle.formula_build.specs.Makings.{Makes, comparison_of, op_of}
+use Rattle.formula_build.specs.Laws.{OneMade}
+
+sealed_in : (ss : List NamedSystem) (name : List ℕ) (s : SystemValue) → AllByRecursion (λ (n : NamedSystem). IsSealed n.system) ss → system_named ss name ≡ Some s → IsSealed s
+sealed_in [] name s all is = absurd (none-some s is)
+sealed_in (n ∷ ss) name s all is = by (bytes_eq n.name name) refl (sealed_in ss name s all.1)
+  where
+    by : (b : Bool) → bytes_eq n.name name ≡ b → (system_named ss name ≡ Some s → IsSealed s) → IsSealed s
+    by true same rest = subst IsSealed (same_Some n.system s (sym (ap (λ c. if c then Some n.system else system_named ss name) same) ∙ is)) all.0
+    by false apart rest = rest (sym (ap (λ c. if c then Some n.system else system_named ss name) apart) ∙ is)
+
+-- each system of a library is sealed
+pub system_sealed : (l : LibraryValue) (name : List ℕ) (s : SystemValue) → IsLibrary l → IsSystemIn l name s → IsSealed s
+system_sealed l name s library is = sealed_in l.systems name s library.systems is
+
+relation_there : (rs : List NamedRelation) (name : List ℕ) (r : RelationValue) → AllByRecursion (λ (n : NamedRelation). IsRelation n.relation) rs → relation_named rs name ≡ Some r → IsRelation r
+relation_there [] name r all is = absurd (none-some r is)
+relation_there (n ∷ rs) name r all is = by (bytes_eq n.name name) refl (relation_there rs name r all.1)
+  where
+    by : (b : Bool) → bytes_eq n.name name ≡ b → (relation_named rs name ≡ Some r → IsRelation r) → IsRelation r
+    by true same rest = subst IsRelation (same_Some n.relation r (sym (ap (λ c. if c then Some n.relation else relation_named rs name) same) ∙ is)) all.0
+    by false apart rest = rest (sym (ap (λ c. if c then Some n.relation else relation_named rs name) apart) ∙ is)
+
+-- and each relation a relation
+pub relation_is : (l : LibraryValue) (name : List ℕ) (r : RelationValue) → IsLibrary l → IsRelationIn l name r → IsRelation r
+relation_is l name r library is = relation_there l.relations name r library.relations is
+
+one_system : (l : LibraryValue) (name : List ℕ) (s t : SystemValue) → IsSystemIn l name s → IsSystemIn l name t → t ≡ s
+one_system l name s t first second = same_Some t s (sym second ∙ first)
+
+-- two relations that hold of one number alone are the same
+one_constant : (system : SystemValue) (n : ℕ) (name : List ℕ) (c d : RelationValue) → IsSealed system → IsRelationConstant system n name c → IsRelationConstant system n name d → c ≡ d
+one_constant system n name c d sealed first second =
+    tuples_tell c d (constant_is system n name c sealed first) (constant_is system n name d sealed second) (first.names ∙ sym second.names) (first.systems ∙ sym second.systems) same
+  where
+    same : (ns : List ℕ) → length ns ≡ length c.names → RelationHolds c ns ↔ RelationHolds d ns
+    same [] count = absurd (omega (arith, count, ap length first.names))
+    same (m ∷ []) count =
+        let here = constant_holds system n name c sealed first m in
+        let there = constant_holds system n name d sealed second m in
+        (λ h. there.1 (here.0 h), λ h. here.1 (there.0 h))
+    same (m ∷ k ∷ ns) count = absurd (omega (arith, count, ap length first.names))
+
+pub made_once : (l : LibraryValue) (p : Plan) (c d : RelationValue) → IsLibrary l → Makes l p c → Makes l p d → c ≡ d
+made_once l (compared y r s t) c d library (u, is, first) (v, also, second) =
+    one_comparison u (comparison_of r) (track_name s) (track_name t) c d first
+    (subst (λ (w : SystemValue). IsComparison w (comparison_of r) (track_name s) (track_name t) d) (one_system l y u v is also) second)
+made_once l (added y s t u) c d library (v, is, first) (w, also, second) =
+    one_sum v (track_name s) (track_name t) (track_name u) c d first
+    (subst (λ (x : SystemValue). IsSumRelation x (track_name s) (track_name t) (track_name u) d) (one_system l y v w is also) second)
+made_once l (number y t) c d library (u, is, first) (v, also, second) =
+    one_number u (track_name t) c d first (subst (λ (w : SystemValue). IsAnyNumber w (track_name t) d) (one_system l y u v is also) second)
+made_once l (called n ts) c d library (q, is, first) (r, also, second) =
+    let same : r ≡ q = same_Some r q (sym also ∙ is) in
+    let under : List (List ℕ) = map track_name ts in
+    one_placed q.automaton q.systems under c d first (subst (λ (w : RelationValue). IsPlaced w.automaton w.systems under d) same second)
+made_once l (lettered n ts r b) c d library first second = absurd first
+made_once l (renamed s t p) c d library (a, is, first) (b, also, second) =
+    let same : b ≡ a = made_once l p b a library also is in
+    one_placed a.automaton a.systems (changed_names (track_name s) (track_name t) a.names) c d first
+    (subst (λ (w : RelationValue). IsPlaced w.automaton w.systems (changed_names (track_name s) (track_name t) w.names) d) same second)
+made_once l (constant y k t) c d library (u, is, first) (v, also, second) =
+    one_constant u k (track_name t) c d (system_sealed l y u library is) first (subst (λ (w : SystemValue). IsRelationConstant w k (track_name t) d) (one_system l y u v is also) second)
+made_once l (joined j p q) c d library (a, b, is_a, is_b, first) (e, f, is_e, is_f, second) =
+    let left : e ≡ a = made_once l p e a library is_e is_a in
+    let right : f ≡ b = made_once l q f b library is_f is_b in
+    let again = subst (λ (w : RelationValue). IsRelationJoin (op_of j) w b d) left (subst (λ (w : RelationValue). IsRelationJoin (op_of j) e w d) right second) in
+    same_relation c d (one_join (op_of j) (languages_of (joint_systems a b)) (named_of a) (named_of b) (named_of c) (named_of d) first.join again.join) (first.systems ∙ sym again.systems)
+made_once l (paired n ts r w us) c d library first second = absurd first
+made_once l (complement p) c d library (a, is, first) (b, also, second) =
+    let again = subst (λ (w : RelationValue). IsRelationComplement w d) (made_once l p b a library also is) second in
+    same_relation c d (one_complement (languages_of a.systems) (named_of a) (named_of c) (named_of d) first.complement again.complement) (first.systems ∙ sym again.systems)
+made_once l (projected t p) c d library (a, is, first) (b, also, second) =
+    let again = subst (λ (w : RelationValue). IsRelationProjection (track_name t) w d) (made_once l p b a library also is) second in
+    same_relation c d (one_projection (way_of a.systems) (track_name t) (named_of a) (named_of c) (named_of d) first.projection again.projection) (first.systems ∙ sym again.systems)
+
+pub one_made : OneMade
+one_made l p c d library first second = made_once l p c d library first second

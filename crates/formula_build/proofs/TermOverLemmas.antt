@@ -1,0 +1,321 @@
+-- The plan of a term stands over the system of its place.
+use Rattle.std.specs.Prelude.{⊤}
+use Rattle.std.proofs.Common.{◌≡◌, ℕ, zero, suc, ◌+◌, ◌-◌, ◌/◌, ◌%◌, ◌<◌, ◌≤◌, ◌==◌, Bool, true, false, if◌then◌else◌, List, [], ◌∷◌, ◌++◌, Option, None, Some, inl, inr, refl, sym, ap, ◌∙◌, arith}
+use Rattle.std.specs.List.{AllByRecursion}
+use Rattle.digit_tuple.specs.declared.direction.Direction.{Direction}
+use Rattle.formula_parse.specs.Tokens.{Name, Sign, plus, minus, equal}
+use Rattle.formula_parse.specs.Trees.{Term, variable, numeral, product, sum, Factors, no_factors, factors, times, Addends, no_addends, addends, and}
+use Rattle.formula_plan.specs.Tracks.{Track, own, fresh, same_track, has_track}
+use Rattle.formula_plan.specs.Plans.{Plan, compared, added, number, constant, joined, tracks, Made}
+use Rattle.formula_plan.specs.TermPlans.{TermPlan, closed, no_times, linked, multiple, times_numeral, times_numerals, sum_relation, with_addend, numeral_plan, begun, term_plan, factor_plans, sum_plan}
+use Rattle.formula_plan.specs.FactPlans.{Headers}
+use Rattle.formula_plan.proofs.MultipleLemmas.{IsBelow}
+use Rattle.formula_plan.proofs.TrackLemmas.{fresh_apart}
+use Rattle.formula_resolve.specs.Occurrences.{Binders, term_occurrences, factor_occurrences, addend_occurrences}
+use Rattle.formula_resolve.specs.declared.occurrence.Occurrence.{Occurrence}
+use Rattle.formula_build.specs.TrackSystems.{TrackSystems, IsOver}
+use Rattle.formula_build.proofs.HasLemmas.{first_is, later_is, has_second, other_track_stays}
+use Rattle.formula_build.proofs.GrowthLemmas.{times_up}
+use Rattle.formula_build.proofs.OverLemmas.{each_among, over_projected, Only, OrIs, only_more, only_linked, OnlyOf, only_closed, has_closed, Faces, one_direction, OverOf, over_joined, over_closed, faces_closed}
+
+-- the track of such a variable
+abbrev pub IsOwn : (Name → Type 0) → Track → Type 0
+IsOwn O (own n) = O n
+IsOwn O (fresh i) = ⊥
+
+-- all fresh tracks, and those of some variables, stand over one system
+pub record AreOn (on : TrackSystems) (s : Name) (O : Name → Type 0) : Type 0 where
+  pub of_fresh : (i : ℕ) → on (fresh i) ≡ s
+  pub of_own : (n : Name) → O n → on (own n) ≡ s
+
+-- the relation of a fresh track stands over systems; its other tracks are those of such variables
+pub record IsRelated (h : Headers) (way : Name → Direction) (on : TrackSystems) (O : Name → Type 0) (j : ℕ) (r : Plan) (k next : ℕ) : Type 0 where
+  pub low : k ≤ j
+  pub high : j < next
+  pub over : IsOver h way on r
+  pub there : has_track (tracks r) (fresh j) ≡ true
+  pub only : Only (OrIs (IsOwn O) (fresh j)) r
+
+abbrev pub IsStood : Headers → (Name → Direction) → TrackSystems → (Name → Type 0) → Track → Option Plan → ℕ → ℕ → Type 0
+IsStood h way on O (own n) None k next = O n × (k ≤ next)
+IsStood h way on O (fresh j) (Some r) k next = IsRelated h way on O j r k next
+IsStood h way on O (own n) (Some r) k next = ⊥
+IsStood h way on O (fresh j) None k next = ⊥
+
+-- the multiple's tracks
+multiple_only : (E : Track → Type 0) (most : ℕ) (s : Name) (c : ℕ) (x y : Track) (k : ℕ) → E x → E y → Only E (multiple most s c x y k).last
+multiple_only E zero s c x y k first second = each_among E (y ∷ x ∷ []) (second, (first, tt))
+multiple_only E (suc most) s c x y k first second =
+    by_zero (c == 0) (multiple_only (OrIs E (fresh k)) most s (c / 2) x (fresh k) (k + 1) (inl first) (inr refl))
+    (multiple_only (OrIs E (fresh k)) most s (c - 1) x (fresh k) (k + 1) (inl first) (inr refl)) (c == 1) (c == 2) (c % 2 == 0)
+  where
+    half : Made
+    half = multiple most s (c / 2) x (fresh k) (k + 1)
+
+    less : Made
+    less = multiple most s (c - 1) x (fresh k) (k + 1)
+
+    even : Plan
+    even = added s (fresh k) (fresh k) y
+
+    odd : Plan
+    odd = added s (fresh k) x y
+
+    by_zero : (z : Bool) → Only (OrIs E (fresh k)) half.last → Only (OrIs E (fresh k)) less.last → (o t e : Bool)
+        → Only E (if z then no_times s x y k else (if o then record { steps = []; last = compared s equal x y; next = k } else (if t then record { steps = []; last = added s x x y; next = k } else (if e then linked half (fresh k) even else linked less (fresh k) odd)))).last
+    by_zero true a b o t e = each_among E (y ∷ x ∷ []) (second, (first, tt))
+    by_zero false a b true t e = each_among E (x ∷ y ∷ []) (first, (second, tt))
+    by_zero false a b false true e = each_among E (x ∷ x ∷ y ∷ []) (first, (first, (second, tt)))
+    by_zero false a b false false true = only_linked E half (fresh k) even a (each_among (OrIs E (fresh k)) (fresh k ∷ fresh k ∷ y ∷ []) (inr refl, (inr refl, (inl second, tt))))
+    by_zero false a b false false false = only_linked E less (fresh k) odd b (each_among (OrIs E (fresh k)) (fresh k ∷ x ∷ y ∷ []) (inr refl, (inl first, (inl second, tt))))
+
+third_is : (s t u : Track) → has_track (s ∷ t ∷ u ∷ []) u ≡ true
+third_is s t u = later_is s (t ∷ u ∷ []) u (later_is t (u ∷ []) u (first_is u []))
+
+apart_above : (t : Track) (k : ℕ) → IsBelow t k → same_track (fresh k) t ≡ false
+apart_above (own n) k below = refl
+apart_above (fresh j) k below = fresh_apart k j (λ same. let s : k ≡ j = same in omega (arith, below, s))
+
+linked_has : (m : Made) (k : ℕ) (base : Plan) (y : Track) → IsBelow y k → has_track (tracks base) y ≡ true → has_track (tracks (linked m (fresh k) base).last) y ≡ true
+linked_has m k base y below there = other_track_stays (fresh k) (tracks m.last ++ tracks base) y (has_second (tracks m.last) (tracks base) y there) (apart_above y k below)
+
+multiple_has : (most : ℕ) (s : Name) (c : ℕ) (x y : Track) (k : ℕ) → IsBelow y k → has_track (tracks (multiple most s c x y k).last) y ≡ true
+multiple_has zero s c x y k below = first_is y (x ∷ [])
+multiple_has (suc most) s c x y k below = by_zero (c == 0) (c == 1) (c == 2) (c % 2 == 0)
+  where
+    half : Made
+    half = multiple most s (c / 2) x (fresh k) (k + 1)
+
+    less : Made
+    less = multiple most s (c - 1) x (fresh k) (k + 1)
+
+    even : Plan
+    even = added s (fresh k) (fresh k) y
+
+    odd : Plan
+    odd = added s (fresh k) x y
+
+    by_zero : (z o t e : Bool)
+        → has_track (tracks (if z then no_times s x y k else (if o then record { steps = []; last = compared s equal x y; next = k } else (if t then record { steps = []; last = added s x x y; next = k } else (if e then linked half (fresh k) even else linked less (fresh k) odd)))).last) y ≡ true
+    by_zero true o t e = first_is y (x ∷ [])
+    by_zero false true t e = later_is x (y ∷ []) y (first_is y [])
+    by_zero false false true e = third_is x x y
+    by_zero false false false true = linked_has half k even y below (third_is (fresh k) (fresh k) y)
+    by_zero false false false false = linked_has less k odd y below (third_is (fresh k) x y)
+
+module _ (h : Headers) (way : Name → Direction) (on : TrackSystems) (s : Name) (O : Name → Type 0) (are_on : AreOn on s O) where
+  abbrev Stands : TermPlan → ℕ → Type 0
+  Stands p k = IsStood h way on O p.placed.track p.placed.relation k p.next
+
+  own_on : (t : Track) → IsOwn O t → on t ≡ s
+  own_on (own n) is = are_on.of_own n is
+  own_on (fresh i) is = absurd is
+
+  value_on : (j : ℕ) (t : Track) → OrIs (IsOwn O) (fresh j) t → on t ≡ s
+  value_on j t (inl is) = own_on t is
+  value_on j t (inr same) = ap on (sym same) ∙ are_on.of_fresh j
+
+  pub track_on : (t : Track) (r : Option Plan) (k next : ℕ) → IsStood h way on O t r k next → on t ≡ s
+  track_on (own n) None k next stood = are_on.of_own n stood.0
+  track_on (fresh j) (Some r) k next stood = are_on.of_fresh j
+  track_on (own n) (Some r) k next stood = absurd stood
+  track_on (fresh j) None k next stood = absurd stood
+
+  stood_up : (t : Track) (r : Option Plan) (k next : ℕ) → IsStood h way on O t r k next → k ≤ next
+  stood_up (own n) None k next stood = stood.1
+  stood_up (fresh j) (Some r) k next stood = omega (arith, stood.low, stood.high)
+  stood_up (own n) (Some r) k next stood = absurd stood
+  stood_up (fresh j) None k next stood = absurd stood
+
+  track_apart : (t : Track) (r : Option Plan) (k next i : ℕ) → IsStood h way on O t r k next → next ≤ i → same_track t (fresh i) ≡ false
+  track_apart (own n) None k next i stood past = refl
+  track_apart (fresh j) (Some r) k next i stood past = fresh_apart j i (λ same. let e : j ≡ i = same in omega (arith, stood.high, past, e))
+  track_apart (own n) (Some r) k next i stood past = absurd stood
+  track_apart (fresh j) None k next i stood past = absurd stood
+
+  -- where such variables are E, all tracks of a value are, but a fresh one
+  pub value_only : (E : Track → Type 0) (t : Track) (r : Option Plan) (k next : ℕ) → ((u : Track) → IsOwn O u → E u) → IsStood h way on O t r k next → OnlyOf E t r
+  value_only E (own n) None k next more stood = more (own n) stood.0
+  value_only E (fresh j) (Some r) k next more stood = only_more (OrIs (IsOwn O) (fresh j)) (OrIs E (fresh j)) r each stood.only
+    where
+      each : (u : Track) → OrIs (IsOwn O) (fresh j) u → OrIs E (fresh j) u
+      each u (inl is) = inl (more u is)
+      each u (inr same) = inr same
+  value_only E (own n) (Some r) k next more stood = absurd stood
+  value_only E (fresh j) None k next more stood = absurd stood
+
+  pub value_over : (t : Track) (r : Option Plan) (k next : ℕ) → IsStood h way on O t r k next → OverOf h way on (way s) t r
+  value_over (own n) None k next stood = tt
+  value_over (fresh j) (Some r) k next stood = (stood.over, stood.there, λ u is. ap way (value_on j u (stood.only u is)))
+  value_over (own n) (Some r) k next stood = absurd stood
+  value_over (fresh j) None k next stood = absurd stood
+
+  faces : (t : Track) → on t ≡ s → Faces way on (way s) t
+  faces t is = ap way is
+
+  linked_over : (m : Made) (k : ℕ) (base : Plan) → IsOver h way on m.last → Only (Faces way on (way s)) m.last → IsOver h way on base → Only (Faces way on (way s)) base
+      → has_track (tracks base) (fresh k) ≡ true → IsOver h way on (linked m (fresh k) base).last
+  linked_over m k base first one second two there =
+      over_projected h way on (fresh k) (joined and m.last base) (has_second (tracks m.last) (tracks base) (fresh k) there) (over_joined h way on (way s) and m.last base first one second two)
+
+  multiple_over : (most : ℕ) (c : ℕ) (x y : Track) (k : ℕ) → on x ≡ s → on y ≡ s → IsOver h way on (multiple most s c x y k).last
+  multiple_over zero c x y k first second = (second, first, one_direction way on (way s) (constant s 0 y) (number s x) (each_among (Faces way on (way s)) (y ∷ []) (ap way second, tt)) (each_among (Faces way on (way s)) (x ∷ []) (ap way first, tt)))
+  multiple_over (suc most) c x y k first second =
+      by_zero (c == 0) (multiple_over most (c / 2) x (fresh k) (k + 1) first (are_on.of_fresh k)) (multiple_over most (c - 1) x (fresh k) (k + 1) first (are_on.of_fresh k)) (c == 1) (c == 2) (c % 2 == 0)
+    where
+      F : Track → Type 0
+      F = Faces way on (way s)
+
+      here : on (fresh k) ≡ s
+      here = are_on.of_fresh k
+
+      half : Made
+      half = multiple most s (c / 2) x (fresh k) (k + 1)
+
+      less : Made
+      less = multiple most s (c - 1) x (fresh k) (k + 1)
+
+      even : Plan
+      even = added s (fresh k) (fresh k) y
+
+      odd : Plan
+      odd = added s (fresh k) x y
+
+      by_zero : (z : Bool) → IsOver h way on half.last → IsOver h way on less.last → (o t e : Bool)
+          → IsOver h way on (if z then no_times s x y k else (if o then record { steps = []; last = compared s equal x y; next = k } else (if t then record { steps = []; last = added s x x y; next = k } else (if e then linked half (fresh k) even else linked less (fresh k) odd)))).last
+      by_zero true a b o t e = (second, first, one_direction way on (way s) (constant s 0 y) (number s x) (each_among F (y ∷ []) (ap way second, tt)) (each_among F (x ∷ []) (ap way first, tt)))
+      by_zero false a b true t e = (first, second)
+      by_zero false a b false true e = (first, first, second)
+      by_zero false a b false false true = linked_over half k even a (multiple_only F most s (c / 2) x (fresh k) (k + 1) (ap way first) (ap way here)) (here, here, second)
+          (each_among F (fresh k ∷ fresh k ∷ y ∷ []) (ap way here, (ap way here, (ap way second, tt)))) (first_is (fresh k) (fresh k ∷ y ∷ []))
+      by_zero false a b false false false = linked_over less k odd b (multiple_only F most s (c - 1) x (fresh k) (k + 1) (ap way first) (ap way here)) (here, first, second)
+          (each_among F (fresh k ∷ x ∷ y ∷ []) (ap way here, (ap way first, (ap way second, tt)))) (first_is (fresh k) (x ∷ y ∷ []))
+
+  times_stands : (p : TermPlan) (c k : ℕ) → Stands p k → Stands (times_numeral s p c) k
+  times_stands p c k stood =
+      let up = times_up s p c in
+      let below = stood_up p.placed.track p.placed.relation k p.next stood in
+      let x = p.placed.track in
+      let y = fresh p.next in
+      let at_x = track_on x p.placed.relation k p.next stood in
+      let at_y = are_on.of_fresh p.next in
+      let base = (multiple c s c x y (p.next + 1)).last in
+      let E = OrIs (IsOwn O) y in
+      record {
+        low = below;
+        high = omega (arith, up);
+        over = over_closed h way on (way s) x p.placed.relation base (value_over x p.placed.relation k p.next stood)
+            (multiple_over c c x y (p.next + 1) at_x at_y)
+            (multiple_only (Faces way on (way s)) c s c x y (p.next + 1) (ap way at_x) (ap way at_y));
+        there = has_closed x p.placed.relation base y (track_apart x p.placed.relation k p.next p.next stood (omega arith)) (multiple_has c s c x y (p.next + 1) (omega arith));
+        only = only_closed E x p.placed.relation base (value_only E x p.placed.relation k p.next (λ u is. inl is) stood)
+            (multiple_only (OrIs E x) c s c x y (p.next + 1) (inr refl) (inl (inr refl)));
+      }
+
+  numerals_stand : (p : TermPlan) (cs : List ℕ) (k : ℕ) → Stands p k → Stands (times_numerals s p cs) k
+  numerals_stand p [] k stood = stood
+  numerals_stand p (c ∷ cs) k stood = numerals_stand (times_numeral s p c) cs k (times_stands p c k stood)
+
+  numeral_stands : (c k : ℕ) → Stands (numeral_plan s c k) k
+  numeral_stands c k = record {
+    low = omega arith;
+    high = omega arith;
+    over = are_on.of_fresh k;
+    there = first_is (fresh k) [];
+    only = each_among (OrIs (IsOwn O) (fresh k)) (fresh k ∷ []) (inr refl, tt);
+  }
+
+  sum_over : (sign : Sign) (x y z : Track) → on x ≡ s → on y ≡ s → on z ≡ s → IsOver h way on (sum_relation s sign x y z)
+  sum_over plus x y z first second third = (first, second, third)
+  sum_over minus x y z first second third = (second, third, first)
+
+  sum_only : (E : Track → Type 0) (sign : Sign) (x y z : Track) → E x → E y → E z → Only E (sum_relation s sign x y z)
+  sum_only E plus x y z first second third = each_among E (x ∷ y ∷ z ∷ []) (first, (second, (third, tt)))
+  sum_only E minus x y z first second third = each_among E (y ∷ z ∷ x ∷ []) (second, (third, (first, tt)))
+
+  sum_has : (sign : Sign) (x y z : Track) → has_track (tracks (sum_relation s sign x y z)) z ≡ true
+  sum_has plus x y z = third_is x y z
+  sum_has minus x y z = later_is y (z ∷ x ∷ []) z (first_is z (x ∷ []))
+
+  addend_stands : (sign : Sign) (p q : TermPlan) (k : ℕ) → Stands p k → Stands q p.next → Stands (with_addend s sign p q) k
+  addend_stands sign p q k first second =
+      let low = stood_up p.placed.track p.placed.relation k p.next first in
+      let high = stood_up q.placed.track q.placed.relation p.next q.next second in
+      let x = p.placed.track in
+      let y = q.placed.track in
+      let z = fresh q.next in
+      let at_x = track_on x p.placed.relation k p.next first in
+      let at_y = track_on y q.placed.relation p.next q.next second in
+      let at_z = are_on.of_fresh q.next in
+      let base = sum_relation s sign x y z in
+      let inside = closed p.placed base in
+      let F = Faces way on (way s) in
+      let E = OrIs (IsOwn O) z in
+      let base_faces = sum_only F sign x y z (ap way at_x) (ap way at_y) (ap way at_z) in
+      let of_p = value_over x p.placed.relation k p.next first in
+      record {
+        low = omega (arith, low, high);
+        high = omega arith;
+        over = over_closed h way on (way s) y q.placed.relation inside (value_over y q.placed.relation p.next q.next second)
+            (over_closed h way on (way s) x p.placed.relation base of_p (sum_over sign x y z at_x at_y at_z) base_faces)
+            (faces_closed h way on (way s) x p.placed.relation base of_p base_faces);
+        there = has_closed y q.placed.relation inside z (track_apart y q.placed.relation p.next q.next q.next second (omega arith))
+            (has_closed x p.placed.relation base z (track_apart x p.placed.relation k p.next q.next first high) (sum_has sign x y z));
+        only = only_closed E y q.placed.relation inside (value_only E y q.placed.relation p.next q.next (λ u is. inl is) second)
+            (only_closed (OrIs E y) x p.placed.relation base (value_only (OrIs E y) x p.placed.relation k p.next (λ u is. inl (inl is)) first)
+            (sum_only (OrIs (OrIs E y) x) sign x y z (inr refl) (inl (inr refl)) (inl (inl (inr refl)))));
+      }
+
+  abbrev OtherStands : Option (ℕ → TermPlan) → Type 0
+  OtherStands None = ⊤
+  OtherStands (Some plan) = (k : ℕ) → Stands (plan k) k
+
+  begun_stands : (other : Option (ℕ → TermPlan)) (cs : List ℕ) (k : ℕ) → OtherStands other → Stands (begun s other cs k) k
+  begun_stands (Some plan) cs k stood = numerals_stand (plan k) cs k (stood k)
+  begun_stands None [] k stood = numeral_stands 1 k
+  begun_stands None (c ∷ cs) k stood = numerals_stand (numeral_plan s c k) cs k (numeral_stands c k)
+
+-- of all occurrences in two parts those of each
+pub all_first : {X : Type 0} (P : X → Type 0) (xs ys : List X) → AllByRecursion P (xs ++ ys) → AllByRecursion P xs
+all_first P [] ys all = tt
+all_first P (x ∷ xs) ys all = (all.0, all_first P xs ys all.1)
+
+pub all_second : {X : Type 0} (P : X → Type 0) (xs ys : List X) → AllByRecursion P (xs ++ ys) → AllByRecursion P ys
+all_second P [] ys all = all
+all_second P (x ∷ xs) ys all = all_second P xs ys all.1
+
+-- the variables of a term over a system whose occurrences are Q
+abbrev pub Occurs : (Occurrence → Type 0) → Name → Binders → Name → Type 0
+Occurs Q s b n = Q (record { name = n; binder = b n; system = s })
+
+module _ (h : Headers) (way : Name → Direction) (on : TrackSystems) (s : Name) (b : Binders) (Q : Occurrence → Type 0) (are_on : AreOn on s (Occurs Q s b)) where
+  abbrev O : Name → Type 0
+  O = Occurs Q s b
+
+  mutual
+    pub term_stands : (t : Term) → AllByRecursion Q (term_occurrences s b t) → (k : ℕ)
+        → IsStood h way on O (term_plan s t k).placed.track (term_plan s t k).placed.relation k (term_plan s t k).next
+    term_stands (variable n) all k = (all.0, omega arith)
+    term_stands (numeral c) all k = numeral_stands h way on s O are_on c k
+    term_stands (product fs) all k = begun_stands h way on s O are_on (factor_plans s fs).other (factor_plans s fs).numerals k (factors_stand fs all)
+    term_stands (sum ss t) all k =
+        let first = all_first Q (addend_occurrences s b ss) (term_occurrences s b t) all in
+        let second = all_second Q (addend_occurrences s b ss) (term_occurrences s b t) all in
+        sum_stands ss first (term_plan s t) (term_stands t second) k
+
+    factors_stand : (fs : Factors) → AllByRecursion Q (factor_occurrences s b fs) → OtherStands h way on s O are_on (factor_plans s fs).other
+    factors_stand no_factors all = tt
+    factors_stand (factors fs (times (numeral c))) all = factors_stand fs (all_first Q (factor_occurrences s b fs) [] all)
+    factors_stand (factors fs (times (variable n))) all = term_stands (variable n) (all_second Q (factor_occurrences s b fs) (term_occurrences s b (variable n)) all)
+    factors_stand (factors fs (times (product gs))) all = term_stands (product gs) (all_second Q (factor_occurrences s b fs) (term_occurrences s b (product gs)) all)
+    factors_stand (factors fs (times (sum ss t))) all = term_stands (sum ss t) (all_second Q (factor_occurrences s b fs) (term_occurrences s b (sum ss t)) all)
+
+    sum_stands : (ss : Addends) → AllByRecursion Q (addend_occurrences s b ss) → (last : ℕ → TermPlan)
+        → ((k : ℕ) → IsStood h way on O (last k).placed.track (last k).placed.relation k (last k).next) → (k : ℕ)
+        → IsStood h way on O (sum_plan s ss last k).placed.track (sum_plan s ss last k).placed.relation k (sum_plan s ss last k).next
+    sum_stands no_addends all last stood k = stood k
+    sum_stands (addends ss t sign) all last stood k =
+        let p = sum_plan s ss (term_plan s t) k in
+        let first = all_first Q (addend_occurrences s b ss) (term_occurrences s b t) all in
+        let second = all_second Q (addend_occurrences s b ss) (term_occurrences s b t) all in
+        addend_stands h way on s O are_on sign p (last p.next) k (sum_stands ss first (term_plan s t) (term_stands t second) k) (stood p.next)

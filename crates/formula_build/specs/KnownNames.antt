@@ -1,0 +1,27 @@
+-- Formulas in which the systems of comparisons and the automata that are called stand for something. No name stands for a word.
+use Rattle.std.specs.Prelude.{⊤}
+use Rattle.formula_parse.specs.Tokens.{Name}
+use Rattle.formula_parse.specs.Trees.{Fact, compare, words, word_letter, letter_word, call, Formula, atom, negated, chain, quantified, marked, Operands, no_operands, operands}
+use Rattle.num_system.specs.Sealed.{SystemValue}
+use Rattle.number_relations.specs.Relations.{RelationValue}
+use Rattle.formula_build.specs.Libraries.{LibraryValue, IsRelationIn, IsSystemIn}
+
+-- what an atom of a system says
+abbrev pub IsKnownFact : LibraryValue → Name → Fact → Type 0
+IsKnownFact l s (compare t r u) = (system : SystemValue) × IsSystemIn l s system
+IsKnownFact l s (words x r y) = ⊥
+IsKnownFact l s (word_letter x r b) = ⊥
+IsKnownFact l s (letter_word b r x) = ⊥
+IsKnownFact l s (call n ts) = (r : RelationValue) × IsRelationIn l n r
+
+abbrev mutual
+  pub AreKnownIn : LibraryValue → Formula → Type 0
+  AreKnownIn l (atom x) = IsKnownFact l x.system x.fact
+  AreKnownIn l (negated f) = AreKnownIn l f
+  AreKnownIn l (chain os f) = AreKnownAmong l os × AreKnownIn l f
+  AreKnownIn l (quantified q ns f) = AreKnownIn l f
+  AreKnownIn l (marked ms f) = AreKnownIn l f
+
+  pub AreKnownAmong : LibraryValue → Operands → Type 0
+  AreKnownAmong l no_operands = ⊤
+  AreKnownAmong l (operands os f j) = AreKnownAmong l os × AreKnownIn l f

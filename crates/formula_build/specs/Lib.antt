@@ -1,0 +1,15 @@
+pub mod TrackNames
+pub mod VariableNames
+pub mod Libraries
+pub mod LibraryViews
+pub mod KnownViews
+pub mod Makings
+pub mod Parts
+pub mod Building
+pub mod TrackSystems
+pub mod Resolved
+pub mod KnownNames
+pub mod MadeOf
+pub mod Laws
+pub mod Solutions
+pub mod ResolvedViews

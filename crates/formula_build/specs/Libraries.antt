@@ -1,0 +1,59 @@
+-- What names stand for while a formula is decided: relations, and numeration systems.
+use Rattle.std.specs.Prelude.{◌≡◌, ℕ, List, [], ◌∷◌, ◌++◌, Option, None, Some, if◌then◌else◌}
+use Rattle.std.specs.List.{AllByRecursion}
+use Rattle.std.specs.Str.{bytes_eq}
+use Rattle.formula_truth.specs.Truth.{Meanings}
+use Rattle.num_system.specs.Sealed.{SystemValue, IsSealed}
+use Rattle.number_relations.specs.Relations.{RelationValue, IsRelation, RelationHolds}
+
+pub record NamedRelation : Type 0 where
+  pub name : List ℕ
+  pub relation : RelationValue
+
+pub record NamedSystem : Type 0 where
+  pub name : List ℕ
+  pub system : SystemValue
+
+pub record LibraryValue : Type 0 where
+  pub relations : List NamedRelation
+  pub systems : List NamedSystem
+
+-- with one more after the others
+abbrev pub with_relation : List NamedRelation → List ℕ → RelationValue → List NamedRelation
+with_relation rs name r = rs ++ record { name = name; relation = r } ∷ []
+
+abbrev pub with_system : List NamedSystem → List ℕ → SystemValue → List NamedSystem
+with_system ss name s = ss ++ record { name = name; system = s } ∷ []
+
+-- the first of a name
+abbrev pub relation_named : List NamedRelation → List ℕ → Option RelationValue
+relation_named [] name = None
+relation_named (r ∷ rs) name = if bytes_eq r.name name then Some r.relation else relation_named rs name
+
+abbrev pub system_named : List NamedSystem → List ℕ → Option SystemValue
+system_named [] name = None
+system_named (s ∷ ss) name = if bytes_eq s.name name then Some s.system else system_named ss name
+
+abbrev pub IsRelationIn : LibraryValue → List ℕ → RelationValue → Type 0
+IsRelationIn library name r = relation_named library.relations name ≡ Some r
+
+abbrev pub IsSystemIn : LibraryValue → List ℕ → SystemValue → Type 0
+IsSystemIn library name s = system_named library.systems name ≡ Some s
+
+abbrev pub AreRelations : List NamedRelation → Type 0
+AreRelations rs = AllByRecursion (λ (r : NamedRelation). IsRelation r.relation) rs
+
+abbrev pub AreSealed : List NamedSystem → Type 0
+AreSealed ss = AllByRecursion (λ (s : NamedSystem). IsSealed s.system) ss
+
+-- all relations are relations, and all systems are sealed
+pub record IsLibrary (library : LibraryValue) : Type 0 where
+  pub relations : AreRelations library.relations
+  pub systems : AreSealed library.systems
+
+-- what names mean: an automaton's name the relation of that name; no word has a letter
+abbrev pub meanings_of : LibraryValue → Meanings
+meanings_of library = record {
+  holds_of = λ name ns. (r : RelationValue) × IsRelationIn library name r × RelationHolds r ns;
+  has_letter = λ name ns b. ⊥;
+}

@@ -1,0 +1,18 @@
+-- How a library is seen. Nobody has to believe this: it serves the type's model.
+use Rattle.std.specs.Prelude.{List, map}
+use Rattle.std.specs.Rc.{rc_value}
+use Rattle.formula_build.specs.Libraries.{NamedRelation, NamedSystem}
+use Rattle.formula_build.specs.declared.library.RelationEntry.{RelationEntry}
+use Rattle.formula_build.specs.declared.systems.SystemEntry.{SystemEntry}
+
+abbrev pub relation_entry : RelationEntry → NamedRelation
+relation_entry e = record { name = e.name; relation = rc_value e.relation }
+
+abbrev pub relation_entries : List RelationEntry → List NamedRelation
+relation_entries es = map relation_entry es
+
+abbrev pub system_entry : SystemEntry → NamedSystem
+system_entry e = record { name = e.name; system = rc_value e.system }
+
+abbrev pub system_entries : List SystemEntry → List NamedSystem
+system_entries es = map system_entry es

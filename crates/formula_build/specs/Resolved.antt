@@ -1,0 +1,39 @@
+-- What is asked of headers, and over which systems the variables of a formula stand.
+use Rattle.std.specs.Prelude.{◌≡◌, ℕ, ◌<◌, List, [], length, slice_index_or, Option, None, Some}
+use Rattle.digit_tuple.specs.declared.direction.Direction.{Direction}
+use Rattle.formula_parse.specs.Tokens.{Name}
+use Rattle.formula_plan.specs.Tracks.{own, fresh}
+use Rattle.formula_plan.specs.FactPlans as plans
+use Rattle.formula_resolve.specs.Headers.{Headers, automaton_tracks, word_tracks}
+use Rattle.formula_resolve.specs.Occurrences.{Binders, unbound}
+use Rattle.formula_resolve.specs.Clashes.{first_system}
+use Rattle.formula_resolve.specs.Directions.{is_lsd}
+use Rattle.formula_resolve.specs.declared.occurrence.Occurrence.{Occurrence}
+use Rattle.formula_build.specs.TrackSystems.{TrackSystems}
+
+-- the headers as plans take them
+abbrev pub plan_headers : Headers → plans.Headers
+plan_headers h = record { of_automaton = automaton_tracks h; of_word = word_tracks h }
+
+-- all these systems have one direction
+abbrev pub HaveOneWay : (Name → Direction) → List Name → Type 0
+HaveOneWay way ss = (i j : ℕ) → i < length ss → j < length ss → way (slice_index_or ss i []) ≡ way (slice_index_or ss j [])
+
+-- systems have the directions of their names, and those of a header have one
+pub record AreWays (h : Headers) (way : Name → Direction) : Type 0 where
+  pub by_name : (s t : Name) → is_lsd s ≡ is_lsd t → way s ≡ way t
+  pub of_automaton : (n : Name) → HaveOneWay way (automaton_tracks h n)
+  pub of_word : (n : Name) → HaveOneWay way (word_tracks h n)
+
+abbrev pub or_none : Option Name → Name
+or_none None = []
+or_none (Some s) = s
+
+-- the system of a variable's first occurrence among some under its binding
+abbrev pub system_under : List Occurrence → Binders → Name → Name
+system_under os b n = or_none (first_system os (record { name = n; binder = b n; system = [] }))
+
+-- the track of a variable over the system of its first occurrence that is free
+abbrev pub systems_of : List Occurrence → TrackSystems
+systems_of os (own n) = system_under os unbound n
+systems_of os (fresh i) = []

@@ -1,0 +1,47 @@
+//! Formulas built.
+
+ghost use Rattle.std.specs.Prelude.{IfOk};
+ghost use Rattle.formula_build.specs.Resolved.{plan_headers};
+ghost use Rattle.formula_build.specs.ResolvedViews.{IsPlanned, formula_of, headers_in, library_of};
+ghost use Rattle.formula_build.specs.Solutions.{BuildsFormula, IsSolution, formula_plan, way_named};
+ghost use Rattle.formula_build.specs.TrackSystems.{Fits, IsKnown};
+
+use crate::known::Known;
+use crate::library::Library;
+use crate::plan_making::make_plans;
+use crate::resolving::Resolved;
+use digit_tuple::step_fault::StepFault;
+use digit_tuple::steps::Steps;
+use number_relations::relation::Relation;
+use std::alloc::Global;
+
+/// The relation that holds of the numbers for which a resolved formula is true, its tracks in byte order
+/// of the names of its free variables; of a sentence a relation without tracks, whose verdict is its truth.
+/// It is made by the steps of the formula's plan. Each name of the formula stands for something: systems
+/// have the directions of their names, and relations stand over the systems of their headers.
+///
+/// # Errors
+/// `Letters` and `States` exactly at the first step that passes a limit, with its number; letters are
+/// looked at before states.
+pub fn build(
+    alloc: Global,
+    resolved: &Resolved<'_>,
+    read: &Library,
+    steps: &mut Steps,
+) -> Result<Relation, StepFault>
+    requires planned { IsPlanned resolved.now }
+    requires fits { Fits (library_of resolved.now read.now) (plan_headers (headers_in resolved.now)) way_named }
+    requires known { IsKnown (library_of resolved.now read.now) (formula_plan (headers_in resolved.now) (formula_of resolved.now)).last }
+    ensures steps { BuildsFormula steps.old (library_of resolved.now read.now) (formula_plan (headers_in resolved.now) (formula_of resolved.now)) result steps.new }
+    ensures solution { IfOk result (IsSolution (library_of resolved.now read.now) (formula_of resolved.now)) }
+{
+    read.are_relations();
+    resolved.names.systems.are_sealed();
+    let known = Known {
+        systems: &resolved.names.systems,
+        relations: read,
+    };
+    let plan = &resolved.plan;
+    let made = make_plans(alloc, &plan.plans, plan.last, known, steps)?;
+    Ok(made.ordered(alloc)?)
+}

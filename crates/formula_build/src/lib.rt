@@ -1,0 +1,42 @@
+//! Formulas decided: the relation of a formula, made by the steps of its plan.
+#![tactic(auto)]
+
+/// Sealed systems by their names.
+mod systems;
+
+/// Relations by their names.
+mod library;
+
+/// What names stand for.
+mod known;
+
+/// The names of tracks.
+mod track_names;
+
+/// Which plans of a list are needed.
+mod needed;
+
+/// One relation, made of earlier ones.
+mod making;
+
+/// Plans made, one after another.
+mod plan_making;
+
+/// What the names of a formula stand over.
+mod names;
+
+/// Formulas resolved.
+mod resolving;
+
+/// Formulas built.
+mod building;
+
+/// Laws of what plans make.
+mod laws;
+
+pub use building::build;
+pub use laws::{formulas_hold, one_made, plans_hold};
+pub use library::Library;
+pub use names::Names;
+pub use resolving::{Resolved, resolve};
+pub use systems::NamedSystems;
