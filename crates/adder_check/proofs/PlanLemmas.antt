@@ -1,0 +1,36 @@
+-- What the steps of the successor make.
+use Rattle.std.proofs.Common.{◌≡◌, ℕ, List, [], ◌∷◌, ◌++◌, length, Result, Ok, Err, IfOk, refl, sym, ap, ◌∙◌, arith}
+use Rattle.digit_tuple.specs.Deterministic.{Automaton}
+use Rattle.digit_tuple.specs.Names.{names_without}
+use Rattle.digit_tuple.specs.Steps.{StepLog}
+use Rattle.digit_tuple.specs.declared.direction.Direction.{Direction}
+use Rattle.digit_tuple.specs.declared.step_fault.StepFault.{StepFault}
+use Rattle.minimise.specs.Tracked.{NamedAutomaton}
+use Rattle.automaton_steps.specs.ProjectSteps.{DoesProject}
+use Rattle.number_order.specs.Orders.{pair_sizes}
+use Rattle.num_system.specs.Operations.{IsProjection}
+use Rattle.num_system.specs.SuccessorSteps.{IsChain, name_u, name_x, name_y}
+use Rattle.num_system.proofs.StepLemmas.{staying_sizes_are}
+use Rattle.num_system.proofs.SuccessorLemmas.{chain_sizes_are}
+
+-- an automaton on pairs has two tracks of one size
+pub two_of : (language less : Automaton) → length language.sizes ≡ 1 → less.sizes ≡ pair_sizes language → (d : ℕ) × (less.sizes ≡ d ∷ d ∷ [])
+two_of language less one is = let pair = by language.sizes one in (pair.0, is ∙ ap (λ (ns : List ℕ). ns ++ ns) pair.1)
+  where
+    by : (ns : List ℕ) → length ns ≡ 1 → (d : ℕ) × (ns ≡ d ∷ [])
+    by [] none = absurd (omega (arith, none))
+    by (d ∷ []) is = (d, refl)
+    by (d ∷ e ∷ ns) more = absurd (omega (arith, more))
+
+-- a projection step makes a projection
+pub projected : (old new : StepLog) (way : Direction) (track : List ℕ) (a : NamedAutomaton) (r : Result NamedAutomaton StepFault) → DoesProject old way track a r new → IfOk r (IsProjection way a track)
+projected old new way track a (Ok c) done =
+    let made = done.step.projection in record { names = made.names; sizes = made.sizes; canonical = made.canonical; language = made.language }
+projected old new way track a (Err e) done = tt
+
+module _ (way : Direction) (less : Automaton) (chain between : NamedAutomaton) (d : ℕ) (sizes : less.sizes ≡ d ∷ d ∷ []) (is : IsChain less chain) (made : IsProjection way chain name_u between) where
+  pub between_names : between.names ≡ name_x ∷ name_y ∷ []
+  between_names = made.names ∙ ap (λ (ns : List (List ℕ)). names_without ns name_u) is.names
+
+  pub between_sizes : between.automaton.sizes ≡ less.sizes
+  between_sizes = made.sizes ∙ staying_sizes_are chain d is.names (is.sizes ∙ chain_sizes_are less d sizes) ∙ sym sizes

@@ -1,0 +1,21 @@
+-- The laws of a language tell numeration systems.
+use Rattle.std.proofs.Common.{◌≡◌, ℕ, List, ap, ◌∙◌, subst, arith, IsTrue}
+use Rattle.digit_tuple.specs.Deterministic.{letters_of}
+use Rattle.digit_tuple.specs.Letters.{IsWord, product}
+use Rattle.digit_tuple.specs.Paddings.{in_order}
+use Rattle.digit_tuple.proofs.AcceptedLemmas.{accepted_over}
+use Rattle.digit_tuple.proofs.PaddingLemmas.{in_order-twice, IsWord-in_order}
+use Rattle.adder_check.specs.LanguageLaws.{language_in, LawsTellSystems}
+
+pub laws_tell_system : LawsTellSystems
+laws_tell_system way digits d sizes table = (
+  (λ both. record { over = over; empty = both.0.empty; zeros = both.0.zeros; endless = both.1 }),
+  (λ system. (record { empty = system.empty; zeros = system.zeros }, system.endless)),
+)
+  where
+    letters : letters_of d ≡ digits
+    letters = ap product sizes ∙ omega arith
+
+    over : (w : List ℕ) → IsTrue (language_in way d w) → IsWord digits w
+    over w accepted = subst (IsWord digits) (in_order-twice way w) (IsWord-in_order way digits (in_order way w)
+        (subst (λ n. IsWord n (in_order way w)) letters (accepted_over d (in_order way w) table accepted)))

@@ -1,0 +1,22 @@
+use Rattle.std.proofs.Common.{inl, inr, rules, map}
+use Rattle.std.specs.Rc.{rc_value}
+use Rattle.std.proofs.lemmas.Result.{IfOk-weaker}
+use Rattle.adder_check.specs.AdderRelation.{adder_names}
+use Rattle.adder_check.proofs.AdderLemmas.{adder_holds, valid_made}
+use Rattle.adder_check.proofs.adder_steps.adder_steps.Goals as goal
+
+pub returns-in_err-closed-clause-steps : goal.returns-in_err-closed-clause-steps
+returns-in_err-closed-clause-steps c =
+    inl (
+      c.in_ok-read.read,
+      c.file_steps.new.steps,
+      c.in_ok-read.ensures.steps,
+      inr (c.in_err-closed.field-0.0, c.in_err-closed.ensures, (let e = c.from_residual-in_err-closed.ensures in search rules)),
+    )
+
+pub returns-clause-relation : goal.returns-clause-relation
+returns-clause-relation c =
+    IfOk-weaker c.valid_step.result _ _
+    (λ part valid s system sizes are. adder_holds c.args.direction s system c.args.file.listed.now c.args.file.reversed c.in_ok-read.read c.in_ok-closed.closed part (map rc_value c.args.languages.now) sizes c.in_ok-read.ensures.file
+    c.in_ok-closed.ensures.step.closure valid are)
+    (valid_made c.pad_step.new.steps c.valid_step.new.steps (map rc_value c.args.languages.now) c.in_ok-adder.adder (record { names = adder_names; automaton = c.in_ok-closed.closed }) c.valid_step.result c.in_ok-adder.ensures c.valid_step.ensures)

@@ -1,0 +1,10 @@
+-- Definitions that the contracts cite, in reading order.
+pub mod LanguageLaws
+pub mod AdderLaws
+pub mod Links
+pub mod Counts
+pub mod Faults
+pub mod LanguageSteps
+pub mod SuccessorPlan
+pub mod AdderRelation
+pub mod ZeroSums

@@ -1,0 +1,15 @@
+//! Laws of the definitions, each a call that does nothing.
+
+ghost use Rattle.adder_check.specs.AdderLaws.{LawsTellAddition};
+ghost use Rattle.adder_check.specs.LanguageLaws.{LawsTellSystems};
+
+/// A relation of three numbers is addition exactly where it meets the laws of zero and of the successor.
+pub fn laws_tell_addition()
+    ensures { LawsTellAddition }
+{}
+
+/// The language of an automaton is that of a numeration system exactly where leading zeros keep its words
+/// and it has no end.
+pub fn laws_tell_systems()
+    ensures { LawsTellSystems }
+{}

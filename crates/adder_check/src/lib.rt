@@ -1,0 +1,30 @@
+//! Whether a language and an adder make a numeration system: whether leading zeros keep the words of the
+//! language and it has no end, and what the adder's relation is, by steps.
+#![tactic(auto)]
+
+/// Laws of the definitions.
+pub mod laws;
+
+/// Why a system is not admitted.
+pub mod admit_fault;
+
+/// Whether leading zeros keep the words of a language.
+pub mod keeps_zeros;
+
+/// States in order, and ways round.
+mod sorting;
+
+/// Whether a language has an end.
+pub mod endless;
+
+/// The automaton of a file, and the laws of a language.
+pub mod language_steps;
+
+/// The successor of a system's numbers, by steps.
+pub mod successor_steps;
+
+/// The relation of an adder's file, by steps.
+pub mod adder_steps;
+
+/// The sums of numbers with 0, by steps.
+pub mod zero_sums;
