@@ -1,6 +1,6 @@
-//! Tests of the parsers of formulas and of rules of morphisms, of the truth of formulas, and of the expansion of macros: what is
-//! read of texts and their faults, worked by hand, numbers for which formulas are true, texts as long as a command's, and the
-//! limits of expansions.
+//! Tests of the parsers of formulas and of rules of morphisms, of the truth and the resolution of formulas, and of the expansion
+//! of macros: what is read of texts and their faults, worked by hand, numbers for which formulas are true, the systems of their
+//! variables, texts as long as a command's, and the limits of expansions.
 #![tactic(auto)]
 
 // texts with the trees that they must have
@@ -26,3 +26,15 @@ mod macros;
 // formulas with the numbers for which they are true
 #[cfg(test)]
 mod truth;
+
+// formulas read
+#[cfg(test)]
+mod parsed;
+
+// formulas with their steps
+#[cfg(test)]
+mod plans;
+
+// formulas with their free variables or their faults
+#[cfg(test)]
+mod resolution;

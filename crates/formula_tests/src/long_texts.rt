@@ -5,7 +5,7 @@ use formula_parse::tree::{Fact, Formula, Term};
 use std::alloc::{AllocError, Global};
 use std::test::Fail;
 
-fn repeated(alloc: Global, part: &[u8], times: usize) -> Result<Vec<u8>, AllocError> {
+pub(crate) fn repeated(alloc: Global, part: &[u8], times: usize) -> Result<Vec<u8>, AllocError> {
     let mut text = Vec::new(alloc);
     for _ in 0..times {
         text.extend_from_slice(part)?;

@@ -43,28 +43,48 @@ impl Write for Flaky {
     }
 }
 
+// One read from a source, what the buffer holds after it, and how many faults the source counts.
+fn one_read(source: &mut StdSource<Flaky>) -> (Result<usize, Failed>, [u8; 4], u64) {
+    let mut buf = [0u8; 4];
+    let found = source.read(&mut buf);
+    (found, buf, source.faults())
+}
+
+// What the reads of a source give.
+static READS: [(Result<usize, Failed>, [u8; 4], u64); 3] = [
+    (Ok(1), *b"x\0\0\0", 0),
+    (Ok(0), [0; 4], 0),
+    (Err(Failed), [0; 4], 1),
+];
+
 #[test]
 fn a_reader_is_a_source(rt: HostRuntime) -> Result<(), Fail> {
-    let mut buf = [0u8; 4];
     let mut source = StdSource::new(Flaky { calls: 0 });
-    assert_eq!(rt; source.read(&mut buf), Ok(1));
-    assert_eq!(rt; buf, *b"x\0\0\0");
-    assert_eq!(rt; source.read(&mut buf), Ok(0));
-    assert_eq!(rt; source.faults(), 0);
-    assert_eq!(rt; source.read(&mut buf), Err(Failed));
-    assert_eq!(rt; source.faults(), 1);
+    for wanted in READS {
+        assert_eq!(rt; one_read(&mut source), wanted);
+    }
     Ok(())
 }
+
+// One write to a sink, and how many faults the sink counts.
+fn one_write(sink: &mut StdSink<Flaky>) -> (Result<usize, WriteFault>, u64) {
+    let taken = sink.write(b"abc");
+    (taken, sink.faults())
+}
+
+// What the writes to a sink give.
+static WRITES: [(Result<usize, WriteFault>, u64); 3] = [
+    (Ok(1), 0),
+    (Ok(0), 1),
+    (Err(WriteFault::Failed), 2),
+];
 
 #[test]
 fn a_writer_is_a_sink(rt: HostRuntime) -> Result<(), Fail> {
     let mut sink = StdSink::new(Flaky { calls: 0 });
-    assert_eq!(rt; sink.write(b"abc"), Ok(1));
-    assert_eq!(rt; sink.faults(), 0);
-    assert_eq!(rt; sink.write(b"abc"), Ok(0));
-    assert_eq!(rt; sink.faults(), 1);
-    assert_eq!(rt; sink.write(b"abc"), Err(WriteFault::Failed));
-    assert_eq!(rt; sink.faults(), 2);
+    for wanted in WRITES {
+        assert_eq!(rt; one_write(&mut sink), wanted);
+    }
     Ok(())
 }
 

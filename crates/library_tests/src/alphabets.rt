@@ -2,12 +2,14 @@
 
 ghost use Rattle.std.specs.Prelude.{◌≡◌};
 
+use crate::outcomes::{expect, lines_of};
 use crate::row_fault::RowFault;
 use digit_tuple::alphabet::Alphabet;
 use digit_tuple::faults::OpFault;
 use digit_tuple::kind::Kind;
 use digit_tuple::letter_parts::letter_parts;
 use digit_tuple::steps::Steps;
+use std::alloc::Global;
 
 #[test]
 fn letters_and_digits_are_inverse(rt: HostRuntime) -> Result<(), RowFault> {
@@ -33,40 +35,60 @@ const LETTERS: [(&[u32], Option<u32>); 8] = [
     (&[4000000000, 4000000000, 0], Some(0)),
 ];
 
+// How many letters tracks of these sizes have, if these are not too many.
+fn letters_over(alloc: Global, sizes: &[u32]) -> Result<Option<u32>, RowFault> {
+    match Alphabet::new(alloc, sizes) {
+        Ok(alphabet) => Ok(Some(alphabet.letters())),
+        Err(OpFault::Letters) => Ok(None),
+        Err(fault) => Err(RowFault::Call(fault)),
+    }
+}
+
 #[test]
 fn sixteen_tracks_and_65536_letters_are_the_most(rt: HostRuntime) -> Result<(), RowFault> {
     for (sizes, letters) in LETTERS {
-        let made = Alphabet::new(rt.alloc(), sizes);
-        match letters {
-            Some(count) => assert_eq!(rt; made?.letters(), count),
-            None => assert_eq!(rt; made.err(), Some(OpFault::Letters)),
-        }
+        assert_eq!(rt; letters_over(rt.alloc(), sizes)?, letters, "of {sizes:?}");
     }
     Ok(())
 }
 
+// The letters of two tracks of 2 and 3 digits, with the tracks exchanged.
+fn turned_parts(alloc: Global) -> Result<Vec<u32>, RowFault> {
+    let alphabet = Alphabet::new(alloc, &[2, 3])?;
+    let turned = Alphabet::new(alloc, &[3, 2])?;
+    Ok(letter_parts(alloc, &alphabet, &[1, 0], &turned)?)
+}
+
+// Their letters on the second track alone.
+fn second_parts(alloc: Global) -> Result<Vec<u32>, RowFault> {
+    let alphabet = Alphabet::new(alloc, &[2, 3])?;
+    let second = Alphabet::new(alloc, &[3])?;
+    Ok(letter_parts(alloc, &alphabet, &[1], &second)?)
+}
+
 #[test]
 fn parts_are_taken_in_the_order_of_the_places(rt: HostRuntime) -> Result<(), RowFault> {
-    let alphabet = Alphabet::new(rt.alloc(), &[2, 3])?;
-    let turned = Alphabet::new(rt.alloc(), &[3, 2])?;
-    let parts = letter_parts(rt.alloc(), &alphabet, &[1, 0], &turned)?;
-    assert_eq!(rt; parts.as_slice(), [0, 2, 4, 1, 3, 5].as_slice());
-    let second = Alphabet::new(rt.alloc(), &[3])?;
-    let digits = letter_parts(rt.alloc(), &alphabet, &[1], &second)?;
+    let turned = turned_parts(rt.alloc())?;
+    assert_eq!(rt; turned.as_slice(), [0, 2, 4, 1, 3, 5].as_slice());
+    let digits = second_parts(rt.alloc())?;
     assert_eq!(rt; digits.as_slice(), [0, 1, 2, 0, 1, 2].as_slice());
     Ok(())
 }
 
-#[test]
-fn steps_are_kept_in_order(rt: HostRuntime) -> Result<(), RowFault> {
-    let mut steps = Steps::new(rt.alloc(), 1000);
-    assert_eq!(rt; steps.limit(), 1000);
+// The steps of two that are done, one after the other.
+fn two_steps(alloc: Global) -> Result<Steps, RowFault> {
+    let mut steps = Steps::new(alloc, 1000);
     steps.done(Kind::Product, 6, 4)?;
     steps.done(Kind::Project, 9, 2)?;
-    assert_eq!(rt; steps.count(), 2);
+    Ok(steps)
+}
+
+#[test]
+fn steps_are_kept_in_order(rt: HostRuntime) -> Result<(), RowFault> {
+    let steps = two_steps(rt.alloc())?;
+    assert_eq!(rt; steps.limit(), 1000);
     assert_eq!(rt; steps.next_number(), 3);
-    assert_eq!(rt; steps.line(0).kind.name(), "product");
-    assert_eq!(rt; steps.line(1).width, 9);
-    assert_eq!(rt; steps.line(1).size, 2);
+    let lines = lines_of(rt.alloc(), &steps)?;
+    expect(&rt, "two steps", &lines, "product 6 4, project 9 2, ");
     Ok(())
 }

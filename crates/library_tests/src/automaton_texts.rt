@@ -1,25 +1,46 @@
 //! The texts of automata over sets and over systems, and what texts mean.
 
+ghost use Rattle.std.specs.Prelude.{◌≡◌, IsTrue};
+
 use crate::headers::header_of;
+use crate::outcomes::expect;
 use crate::row_fault::RowFault;
 use crate::table_texts::listed;
-use dfa_text::listed::FileFault;
-use dfa_text::{accepts, print_relation, read_listed};
+use determinise::subset_construction::determinise;
+use dfa_reading::{FileFault, FileHeader, read_relation};
+use dfa_text::print_relation;
 use digit_tuple::alphabet::Alphabet;
+use digit_tuple::dfa::Dfa;
 use digit_tuple::header::Header;
 use digit_tuple::name::Name;
 use digit_tuple::systems::Systems;
 use std::alloc::Global;
 
 // The text of an automaton over the header's tracks.
-fn text_of(alloc: Global, header: &Header, line: &str) -> Result<Vec<u8>, RowFault> {
+fn text_of(alloc: Global, header: &Header, line: &str) -> Result<String, RowFault> {
     let alphabet = Alphabet::of_header(alloc, header)?;
     let dfa = listed(alloc, line)?;
-    if alphabet.sizes() == dfa.alphabet().sizes() {
-        Ok(print_relation(alloc, header, &dfa)?)
+    if have_same_sizes(&alphabet, &dfa) {
+        string_of(alloc, &print_relation(alloc, header, &dfa)?)
     } else {
         Err(RowFault::Form)
     }
+}
+
+// Whether the tracks of an alphabet have as many digits as those of an automaton.
+fn have_same_sizes(alphabet: &Alphabet, dfa: &Dfa) -> bool
+    ensures { IsTrue result → dfa.now.sizes ≡ alphabet.now }
+{
+    alphabet.sizes() == dfa.alphabet().sizes()
+}
+
+// Bytes as a text.
+fn string_of(alloc: Global, bytes: &[u8]) -> Result<String, RowFault> {
+    let mut text = String::new(alloc);
+    for byte in bytes {
+        text.push(char::from(*byte))?;
+    }
+    Ok(text)
 }
 
 // Sets, automata over them, and their texts.
@@ -44,21 +65,25 @@ static TEXTS: [(&[&[i32]], &str, &str); 3] = [
 fn automata_over_sets_have_these_texts(rt: HostRuntime) -> Result<(), RowFault> {
     for (tracks, line, wanted) in TEXTS {
         let header = header_of(rt.alloc(), tracks)?;
-        let text = text_of(rt.alloc(), &header, line)?;
-        assert_eq!(rt; text.as_slice(), wanted.as_bytes(), "of {line}");
+        expect(&rt, line, &text_of(rt.alloc(), &header, line)?, wanted);
     }
     Ok(())
 }
 
+// The header of base 2 and base 12.
+fn header_of_bases(alloc: Global) -> Result<Header, RowFault> {
+    let mut systems = Systems::new(alloc);
+    systems.push(Name::new(alloc, "msd_2")?, 2)?;
+    systems.push(Name::new(alloc, "msd_12")?, 12)?;
+    Ok(Header::Systems(systems))
+}
+
 #[test]
 fn automata_over_systems_have_their_digits(rt: HostRuntime) -> Result<(), RowFault> {
-    let mut systems = Systems::new(rt.alloc());
-    systems.push(Name::new(rt.alloc(), "msd_2")?, 2)?;
-    systems.push(Name::new(rt.alloc(), "msd_12")?, 12)?;
-    let header = Header::Systems(systems);
+    let header = header_of_bases(rt.alloc())?;
     let text = text_of(rt.alloc(), &header, "x:2 y:12 = /! 0>0 23>0")?;
     let wanted = "msd_2 msd_12\n\n0 1\n0 0 -> 0\n1 11 -> 0\n";
-    assert_eq!(rt; text.as_slice(), wanted.as_bytes());
+    expect(&rt, "two systems", &text, wanted);
     Ok(())
 }
 
@@ -67,34 +92,40 @@ const PRINTED: &str = "{0,1}\n\n0 0\n0 -> 1\n1 -> 2\n\n1 0\n0 -> 1\n1 -> 2\n\n2 
 
 const BY_HAND: &str = "# a file by hand\r\n\n { 1 ,0}{5,-3}\r\n007 -2\n*\t-3->9 7\n9 0";
 
-// A file, a word and whether the file accepts it.
-const WORDS: [(&str, &[&[i32]], bool); 7] = [
+// A file, the letters of a word, and whether the file accepts it.
+const WORDS: [(&str, &[u32], bool); 7] = [
     (PRINTED, &[], false),
-    (PRINTED, &[&[0]], false),
-    (PRINTED, &[&[0], &[1]], true),
-    (PRINTED, &[&[0], &[2]], false),
+    (PRINTED, &[0], false),
+    (PRINTED, &[0, 1], true),
+    (PRINTED, &[0, 2], false),
     (BY_HAND, &[], true),
-    (BY_HAND, &[&[1, -3]], true),
-    (BY_HAND, &[&[1, -3], &[1, 5]], false),
+    (BY_HAND, &[2], true),
+    (BY_HAND, &[2, 3], false),
 ];
 
-// Whether a short file accepts a word.
-fn accepts_word(alloc: Global, text: &[u8], tuples: &[&[i32]]) -> Result<bool, RowFault> {
-    let mut word = Vec::new(alloc);
-    for tuple in tuples {
-        word.push(tuple.to_vec(alloc)?)?;
+// Whether a short file over sets accepts a word of letters.
+fn accepts_word(alloc: Global, text: &[u8], word: &[u32]) -> Result<bool, RowFault> {
+    if text.len() >= 1000 {
+        return Err(RowFault::Form);
     }
-    if text.len() < 1000 {
-        Ok(accepts(alloc, text, &word)?)
-    } else {
-        Err(RowFault::Form)
+    let listed = read_relation(alloc, text)?;
+    if listed.states() == 0 {
+        return Err(RowFault::Form);
+    }
+    match listed.header() {
+        FileHeader::Sets(_) => {
+            let table = listed.nfa(alloc, &[])?;
+            let dfa = determinise(alloc, &table, 100)?.result;
+            Ok(dfa.accepts(word))
+        }
+        _ => Err(RowFault::Form),
     }
 }
 
 #[test]
 fn files_accept_these_words(rt: HostRuntime) -> Result<(), RowFault> {
-    for (text, tuples, wanted) in WORDS {
-        let found = accepts_word(rt.alloc(), text.as_bytes(), tuples)?;
+    for (text, word, wanted) in WORDS {
+        let found = accepts_word(rt.alloc(), text.as_bytes(), word)?;
         assert_eq!(rt; found, wanted, "of {text}");
     }
     Ok(())
@@ -105,8 +136,8 @@ fn states_in(alloc: Global, text: &[u8]) -> Result<usize, u64> {
     if text.len() >= 1000 {
         return Err(0);
     }
-    match read_listed(alloc, text) {
-        Ok(listed) => Ok(listed.states.len()),
+    match read_relation(alloc, text) {
+        Ok(listed) => Ok(listed.states()),
         Err(FileFault::File(line)) => Err(line),
         Err(_) => Err(0),
     }

@@ -21,15 +21,34 @@ pub static SUMS: [(u32, Direction, &[u32], &[u32]); 8] = [
 
 // Whether a system of these digits takes the words over them alone, and the adder accepts a word.
 fn adds(alloc: Global, base: u32, direction: Direction, word: &[u32]) -> Result<bool, RowFault> {
-    let system = BaseK::new(base, direction).ok_or(RowFault::Form)?;
-    let language = system.language(alloc)?;
-    if system.digits() != base
-        || system.direction() != direction
-        || language.accepts(&[0, base])
-        || !language.accepts(&[0, base.saturating_sub(1)])
-    {
-        return Err(RowFault::Form);
+    let system = base_of(base, direction)?;
+    let is_right = form_of(&system) == (base, direction)
+        && !takes(alloc, &system, &[0, base])?
+        && takes(alloc, &system, &[0, base.saturating_sub(1)])?;
+    if is_right {
+        adder_takes(alloc, &system, word)
+    } else {
+        Err(RowFault::Form)
     }
+}
+
+/// The base with this number.
+pub fn base_of(number: u32, direction: Direction) -> Result<BaseK, RowFault> {
+    BaseK::new(number, direction).ok_or(RowFault::Form)
+}
+
+// How many digits a base has, and its direction.
+fn form_of(system: &BaseK) -> (u32, Direction) {
+    (system.digits(), system.direction())
+}
+
+// Whether a word is one of the base's language.
+fn takes(alloc: Global, system: &BaseK, word: &[u32]) -> Result<bool, RowFault> {
+    Ok(system.language(alloc)?.accepts(word))
+}
+
+// Whether the base's adder accepts a word.
+fn adder_takes(alloc: Global, system: &BaseK, word: &[u32]) -> Result<bool, RowFault> {
     Ok(system.adder(alloc)?.accepts(word))
 }
 

@@ -3,43 +3,43 @@
 use crate::headers::header_of;
 use crate::row_fault::RowFault;
 use digit_tuple::header::Header;
-use reference::words::all_words;
+use reference::words::{Word, all_words};
 use regex_build::fault::RegexFault;
 use regex_build::parse;
+use regex_build::postfix_symbol::PostfixSymbol;
 use regex_build::regex::Regex;
-use regex_build::step::Step;
 use std::alloc::Global;
 
-// Writes a step: a letter by its members, and `&` for one after the other.
-fn show_step(alloc: Global, step: &Step, text: &mut String) -> Result<(), RowFault> {
-    match step {
-        Step::Empty => text.push_str("()")?,
-        Step::Letter(letter) => {
+// Writes a symbol: a letter by its members, and `&` for one after the other.
+fn show_symbol(alloc: Global, symbol: &PostfixSymbol, text: &mut String) -> Result<(), RowFault> {
+    match symbol {
+        PostfixSymbol::Empty => text.push_str("()")?,
+        PostfixSymbol::Letter(letter) => {
             for member in letter.members() {
                 let member = format!(in alloc; "'{member}")?;
                 text.push_str(&member)?;
             }
         }
-        Step::Any => text.push('.')?,
-        Step::Either => text.push('|')?,
-        Step::Follow => text.push('&')?,
-        Step::Star => text.push('*')?,
-        Step::Plus => text.push('+')?,
-        Step::Optional => text.push('?')?,
+        PostfixSymbol::Any => text.push('.')?,
+        PostfixSymbol::Either => text.push('|')?,
+        PostfixSymbol::Follow => text.push('&')?,
+        PostfixSymbol::Star => text.push('*')?,
+        PostfixSymbol::Plus => text.push('+')?,
+        PostfixSymbol::Optional => text.push('?')?,
     }
     Ok(())
 }
 
-// The steps in postfix order.
+// The symbols in postfix order.
 fn shown(alloc: Global, regex: &Regex) -> Result<String, RowFault> {
     let mut text = String::new(alloc);
-    for step in regex.steps() {
-        show_step(alloc, step, &mut text)?;
+    for symbol in regex.symbols() {
+        show_symbol(alloc, symbol, &mut text)?;
     }
     Ok(text)
 }
 
-// Texts over the set of -1, 0, 1, 7 and 10, and their steps in postfix order.
+// Texts over the set of -1, 0, 1, 7 and 10, and their symbols in postfix order.
 const TREES: [(&str, &str); 11] = [
     ("0", "'0"),
     ("010", "'0'1&'0&"),
@@ -57,9 +57,9 @@ const TREES: [(&str, &str); 11] = [
 #[test]
 fn trees_over_one_set(rt: HostRuntime) -> Result<(), RowFault> {
     let header = header_of(rt.alloc(), &[&[-1, 0, 1, 7, 10]])?;
-    for (text, steps) in TREES {
+    for (text, symbols) in TREES {
         let regex = parse(rt.alloc(), text.as_bytes(), &header)?;
-        assert_eq!(rt; shown(rt.alloc(), &regex)?.as_str(), steps, "of {text}");
+        assert_eq!(rt; shown(rt.alloc(), &regex)?.as_str(), symbols, "of {text}");
     }
     Ok(())
 }
@@ -145,15 +145,39 @@ fn read(alloc: Global, header: &Header, bytes: &[u8], longest: usize) -> Result<
     let mut count: usize = 0;
     let letters = u32::try_from(bytes.len())?;
     for length in 0..=longest {
-        for word in &all_words(alloc, letters, length)? {
-            let mut text = Vec::new(alloc);
-            for place in word.letters() {
-                text.push(*bytes.get(*place as usize).ok_or(RowFault::Form)?)?;
-            }
-            count = count.saturating_add(usize::from(parse(alloc, &text, header).is_ok()));
-        }
+        let words = all_words(alloc, letters, length)?;
+        count = count.saturating_add(read_of(alloc, header, bytes, &words)?);
     }
     Ok(count)
+}
+
+// How many of these words, their letters places in the bytes, spell an expression.
+fn read_of(
+    alloc: Global,
+    header: &Header,
+    bytes: &[u8],
+    words: &[Word],
+) -> Result<usize, RowFault> {
+    let mut count: usize = 0;
+    for word in words {
+        let text = spelled(alloc, bytes, word.letters())?;
+        count = count.saturating_add(usize::from(is_expression(alloc, header, &text)));
+    }
+    Ok(count)
+}
+
+// The bytes at these places.
+fn spelled(alloc: Global, bytes: &[u8], places: &[u32]) -> Result<Vec<u8>, RowFault> {
+    let mut text = Vec::new(alloc);
+    for place in places {
+        text.push(*bytes.get(*place as usize).ok_or(RowFault::Form)?)?;
+    }
+    Ok(text)
+}
+
+// Whether a text is an expression.
+fn is_expression(alloc: Global, header: &Header, text: &[u8]) -> bool {
+    parse(alloc, text, header).is_ok()
 }
 
 // Sets, bytes, the longest texts over them, and how many of these are expressions, counted outside by a plain

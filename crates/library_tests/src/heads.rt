@@ -2,6 +2,7 @@
 
 ghost use Rattle.std.specs.Prelude.{◌<◌, ◌^◌, length};
 
+use crate::outcomes::expect;
 use command_head::{Alphabets, HeadFault, RegParts, first_word, named_parts, reg_parts};
 use digit_tuple::name::Name;
 use digit_tuple::sets::Sets;
@@ -56,6 +57,14 @@ fn read(alloc: Global, text: &str) -> Result<Result<String, HeadFault>, Fail> {
     }
 }
 
+// What a text has that has no fault.
+fn read_whole(alloc: Global, text: &str) -> Result<String, Fail> {
+    match read(alloc, text)? {
+        Ok(found) => Ok(found),
+        Err(_) => Err(Fail::from("a head")),
+    }
+}
+
 // Texts and what they have.
 const HEADS: [(&str, &str); 10] = [
     ("reg ab {0,1} \"0*1\"", "ab{0,1}=0*1"),
@@ -82,10 +91,8 @@ const HEADS: [(&str, &str); 10] = [
 #[test]
 fn heads_are_read(rt: HostRuntime) -> Result<(), Fail> {
     for (text, wanted) in HEADS {
-        match read(rt.alloc(), text)? {
-            Ok(found) => assert_eq!(rt; found.as_str(), wanted),
-            Err(_) => assert!(rt; false, "refused: {text}"),
-        }
+        let found = read_whole(rt.alloc(), text)?;
+        expect(&rt, text, &found, wanted);
     }
     Ok(())
 }
@@ -152,6 +159,14 @@ fn read_named(alloc: Global, text: &str) -> Result<Result<String, HeadFault>, Fa
     }
 }
 
+// What such a head has that has no fault.
+fn read_named_whole(alloc: Global, text: &str) -> Result<String, Fail> {
+    match read_named(alloc, text)? {
+        Ok(found) => Ok(found),
+        Err(_) => Err(Fail::from("a head")),
+    }
+}
+
 // Heads with the word `def`, and what they have.
 const NAMED: [(&str, &str); 4] = [
     ("def a \"x\"", "a=x"),
@@ -175,11 +190,14 @@ const NOT_NAMED: [(&str, HeadFault); 8] = [
 #[test]
 fn named_heads_are_read(rt: HostRuntime) -> Result<(), Fail> {
     for (text, wanted) in NAMED {
-        match read_named(rt.alloc(), text)? {
-            Ok(found) => assert_eq!(rt; found.as_str(), wanted),
-            Err(_) => assert!(rt; false, "refused: {text}"),
-        }
+        let found = read_named_whole(rt.alloc(), text)?;
+        expect(&rt, text, &found, wanted);
     }
+    Ok(())
+}
+
+#[test]
+fn other_heads_are_refused(rt: HostRuntime) -> Result<(), Fail> {
     for (text, wanted) in NOT_NAMED {
         let found = read_named(rt.alloc(), text)?.err();
         assert_eq!(rt; found, Some(wanted), "of {text}");

@@ -2,7 +2,7 @@
 
 use crate::outcomes::{expect, table_outcome, width_of};
 use crate::row_fault::RowFault;
-use crate::table_texts::{language, line_of, listed, table, table_of};
+use crate::table_texts::{language, line_of, listed, table, table_of, tracked};
 use determinise::reversal::reverse;
 use determinise::subset_construction::determinise;
 use determinise::trimmed::trimmed;
@@ -197,22 +197,23 @@ fn canonical_automata_of_one_language_are_equal(rt: HostRuntime) -> Result<(), R
     Ok(())
 }
 
-// The least automaton of a table with one track, under a name.
-fn named(alloc: Global, dfa: &Dfa, name: &str) -> Result<Tracked, RowFault> {
+// The line of a table's least automaton with its track under a name, if it has one track.
+fn named(alloc: Global, line: &str, name: &str) -> Result<String, RowFault> {
+    let dfa = listed(alloc, line)?;
     let name = Name::new(alloc, name)?;
     if dfa.alphabet().sizes().len() == 1 {
-        Ok(Tracked::new(alloc, dfa, &[name])?)
+        line_of(alloc, &Tracked::new(alloc, &dfa, &[name])?)
     } else {
         Err(RowFault::Form)
     }
 }
 
-// The same automaton of one track under another name.
-fn renamed(alloc: Global, tracked: Tracked, name: &str) -> Result<Tracked, RowFault> {
-    let least = tracked.into_dfa();
+// The line of an automaton with its track under another name, if it has one track.
+fn renamed(alloc: Global, line: &str, name: &str) -> Result<String, RowFault> {
+    let least = tracked(alloc, line)?.into_dfa();
     let name = Name::new(alloc, name)?;
     if least.alphabet().sizes().len() == 1 {
-        Ok(Tracked::of_canonical(least, vec![in alloc; name]?))
+        line_of(alloc, &Tracked::of_canonical(least, vec![in alloc; name]?))
     } else {
         Err(RowFault::Form)
     }
@@ -221,15 +222,8 @@ fn renamed(alloc: Global, tracked: Tracked, name: &str) -> Result<Tracked, RowFa
 #[test]
 fn tracks_have_names(rt: HostRuntime) -> Result<(), RowFault> {
     let line = "x:2 = / 0>1 1>2/! 0>1/!";
-    let dfa = listed(rt.alloc(), line)?;
-    let x = named(rt.alloc(), &dfa, "x")?;
-    expect(&rt, line, &line_of(rt.alloc(), &x)?, line);
-    let y = renamed(rt.alloc(), x, "y")?;
-    expect(
-        &rt,
-        line,
-        &line_of(rt.alloc(), &y)?,
-        "y:2 = / 0>1 1>2/! 0>1/!",
-    );
+    expect(&rt, line, &named(rt.alloc(), line, "x")?, line);
+    let other = "y:2 = / 0>1 1>2/! 0>1/!";
+    expect(&rt, line, &renamed(rt.alloc(), line, "y")?, other);
     Ok(())
 }

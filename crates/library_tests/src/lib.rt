@@ -73,6 +73,10 @@ mod sealed_systems;
 #[cfg(test)]
 mod single_numbers;
 
+// relations on numbers
+#[cfg(test)]
+mod relations;
+
 // single steps with their lines
 #[cfg(test)]
 mod single_steps;

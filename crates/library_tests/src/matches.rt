@@ -1,19 +1,22 @@
 //! The tables of expressions, and which words match them.
 
+use crate::outcomes::{expect, table_outcome, width_of};
 use crate::row_fault::RowFault;
-use crate::table_texts::{branches_of, sets_of, table_of};
+use crate::table_texts::{branches_of, sets_of};
 use digit_tuple::alphabet::Alphabet;
-use digit_tuple::faults::OpFault;
+use digit_tuple::dfa::Dfa;
 use digit_tuple::header::Header;
+use digit_tuple::nfa::Nfa;
 use digit_tuple::sets::Sets;
+use digit_tuple::stepped::Stepped;
 use reference::matching::matches;
 use reference::tree::tree_of;
 use reference::tuples::tuples_of;
 use reference::words::all_words;
 use regex_build::build::build;
 use regex_build::letter_tuple::LetterTuple;
+use regex_build::postfix_symbol::PostfixSymbol;
 use regex_build::regex::Regex;
-use regex_build::step::Step;
 use regex_build::{parse, positions};
 use std::alloc::Global;
 
@@ -24,39 +27,44 @@ fn letter_of(alloc: Global, member: i32) -> Result<LetterTuple, RowFault> {
     Ok(letter)
 }
 
-// The step that a byte stands for: a digit, or a sign, where `,` puts one expression after another, and `_` is
+// The symbol that a byte stands for: a digit, or a sign, where `,` puts one expression after another, and `_` is
 // the empty word.
-fn step_of(alloc: Global, byte: u8) -> Result<Step, RowFault> {
+fn symbol_of(alloc: Global, byte: u8) -> Result<PostfixSymbol, RowFault> {
     Ok(match byte {
-        b'0'..=b'9' => Step::Letter(letter_of(alloc, i32::from(byte - b'0'))?),
-        b'.' => Step::Any,
-        b'|' => Step::Either,
-        b',' => Step::Follow,
-        b'*' => Step::Star,
-        b'+' => Step::Plus,
-        b'?' => Step::Optional,
-        _ => Step::Empty,
+        b'0'..=b'9' => PostfixSymbol::Letter(letter_of(alloc, i32::from(byte - b'0'))?),
+        b'.' => PostfixSymbol::Any,
+        b'|' => PostfixSymbol::Either,
+        b',' => PostfixSymbol::Follow,
+        b'*' => PostfixSymbol::Star,
+        b'+' => PostfixSymbol::Plus,
+        b'?' => PostfixSymbol::Optional,
+        _ => PostfixSymbol::Empty,
     })
 }
 
-// The expression of these steps over so many tracks of the digits 0 and 1, if they are one.
-fn by_steps(alloc: Global, sets: Sets, text: &str) -> Result<Option<Regex>, RowFault> {
-    let mut steps = Vec::new(alloc);
+// The expression of these symbols over so many tracks of the digits 0 and 1, if they are one.
+fn by_symbols(alloc: Global, sets: Sets, text: &str) -> Result<Option<Regex>, RowFault> {
+    let mut symbols = Vec::new(alloc);
     for byte in text.bytes() {
-        steps.push(step_of(alloc, byte)?)?;
+        symbols.push(symbol_of(alloc, byte)?)?;
     }
-    Ok(Regex::try_new(sets, steps))
+    Ok(Regex::try_new(sets, symbols))
 }
 
-// The table of the expression of these steps.
-fn steps_table(alloc: Global, sizes: &[u32], text: &str) -> Result<String, RowFault> {
-    let made = by_steps(alloc, sets_of(alloc, sizes)?, text)?;
-    let regex = made.ok_or(RowFault::Form)?;
+// The table of the expression of these symbols.
+fn symbols_table(alloc: Global, sizes: &[u32], text: &str) -> Result<String, RowFault> {
+    let made = by_symbols(alloc, sets_of(alloc, sizes)?, text)?;
+    let table = positions_of(alloc, &made.ok_or(RowFault::Form)?)?;
+    branches_of(alloc, &table)
+}
+
+// The table of an expression's letters.
+fn positions_of(alloc: Global, regex: &Regex) -> Result<Nfa, RowFault> {
     let _alphabet = Alphabet::of_sets(alloc, regex.sets())?;
-    branches_of(alloc, &positions(alloc, &regex)?)
+    Ok(positions(alloc, regex)?)
 }
 
-// Steps in postfix order, and the table of their expression.
+// Symbols in postfix order, and the table of their expression.
 const TABLES: [(&str, &str); 15] = [
     ("_", "/!"),
     ("0", "/ 0>1/!"),
@@ -78,19 +86,19 @@ const TABLES: [(&str, &str); 15] = [
 #[test]
 fn tables_of_small_expressions(rt: HostRuntime) -> Result<(), RowFault> {
     for (text, table) in TABLES {
-        let made = steps_table(rt.alloc(), &[2], text)?;
+        let made = symbols_table(rt.alloc(), &[2], text)?;
         assert_eq!(rt; made.as_str(), table, "of {text}");
     }
-    let made = steps_table(rt.alloc(), &[2, 2], ".?")?;
+    let made = symbols_table(rt.alloc(), &[2, 2], ".?")?;
     assert_eq!(rt; made.as_str(), "/! 0>1 1>1 2>1 3>1/!");
     Ok(())
 }
 
 #[test]
-fn steps_that_are_no_expression(rt: HostRuntime) -> Result<(), RowFault> {
+fn symbols_that_are_no_expression(rt: HostRuntime) -> Result<(), RowFault> {
     for text in ["", "00", "0|1", "02,"] {
         let sets = sets_of(rt.alloc(), &[2])?;
-        assert!(rt; by_steps(rt.alloc(), sets, text)?.is_none(), "of {text}");
+        assert!(rt; by_symbols(rt.alloc(), sets, text)?.is_none(), "of {text}");
     }
     Ok(())
 }
@@ -101,57 +109,77 @@ fn regex_of(alloc: Global, sizes: &[u32], text: &str) -> Result<Regex, RowFault>
     Ok(parse(alloc, text.as_bytes(), &header)?)
 }
 
-// Expressions, the widths of their steps, and their automata. The width counts the empty word, and a word after
-// which none is accepted.
-const WIDTHS: [(&str, u32, &str); 3] = [
-    ("()", 2, "/!"),
-    ("0*1", 4, "/ 0>0 1>1/!"),
-    ("01|10", 6, "/ 0>1 1>2/ 1>3/ 0>3/!"),
+// The automaton of an expression's matches, under a limit.
+fn built(alloc: Global, sizes: &[u32], text: &str, limit: u32) -> Result<Stepped<Dfa>, RowFault> {
+    let regex = regex_of(alloc, sizes, text)?;
+    Ok(build(alloc, &regex, limit)?)
+}
+
+// Expressions and their automata. The width counts the empty word, and a word after which none is accepted.
+const WIDTHS: [(&str, &str); 3] = [
+    ("()", "2 /!"),
+    ("0*1", "4 / 0>0 1>1/!"),
+    ("01|10", "6 / 0>1 1>2/ 1>3/ 0>3/!"),
 ];
 
 #[test]
 fn widths_are_those_worked_out(rt: HostRuntime) -> Result<(), RowFault> {
-    for (text, width, table) in WIDTHS {
-        let regex = regex_of(rt.alloc(), &[2], text)?;
-        let made = build(rt.alloc(), &regex, width)?;
-        assert_eq!(rt; made.width, width);
-        assert_eq!(rt; table_of(rt.alloc(), &made.result)?.as_str(), table);
-        let narrow = build(rt.alloc(), &regex, width - 1);
-        assert_eq!(rt; narrow.err(), Some(OpFault::States));
+    for (text, wanted) in WIDTHS {
+        let width = width_of(wanted)?;
+        let made = built(rt.alloc(), &[2], text, width);
+        expect(&rt, text, &table_outcome(rt.alloc(), made)?, wanted);
+        let narrow = built(rt.alloc(), &[2], text, width.saturating_sub(1));
+        expect(&rt, text, &table_outcome(rt.alloc(), narrow)?, "States");
     }
     Ok(())
+}
+
+// The width of an expression's matches under a limit, and how many states their automaton has.
+fn width_and_states(alloc: Global, text: &str, limit: u32) -> Result<(u32, u32), RowFault> {
+    let made = built(alloc, &[2], text, limit)?;
+    Ok((made.width, made.result.states()))
 }
 
 // The last five letters of a word count, and the empty word apart.
 #[test]
 fn the_empty_word_counts(rt: HostRuntime) -> Result<(), RowFault> {
-    let regex = regex_of(rt.alloc(), &[2], "(0|1)*1(0|1)(0|1)(0|1)(0|1)")?;
-    let made = build(rt.alloc(), &regex, 33)?;
-    assert_eq!(rt; (made.width, made.result.states()), (33, 32));
-    let narrow = build(rt.alloc(), &regex, 32);
-    assert_eq!(rt; narrow.err(), Some(OpFault::States));
+    let text = "(0|1)*1(0|1)(0|1)(0|1)(0|1)";
+    assert_eq!(rt; width_and_states(rt.alloc(), text, 33)?, (33, 32));
+    let narrow = built(rt.alloc(), &[2], text, 32);
+    expect(&rt, text, &table_outcome(rt.alloc(), narrow)?, "States");
     Ok(())
+}
+
+// How many letters the automaton of the empty word has over so many tracks.
+fn letters_over(alloc: Global, sizes: &[u32]) -> Result<u32, RowFault> {
+    Ok(built(alloc, sizes, "()", 2)?.result.alphabet().letters())
 }
 
 #[test]
 fn seventeen_tracks_are_too_many(rt: HostRuntime) -> Result<(), RowFault> {
-    let widest = build(rt.alloc(), &regex_of(rt.alloc(), &[2; 16], "()")?, 2)?;
-    assert_eq!(rt; widest.result.alphabet().letters(), 65536);
-    let more = build(rt.alloc(), &regex_of(rt.alloc(), &[2; 17], "()")?, 0);
-    assert_eq!(rt; more.err(), Some(OpFault::Letters));
+    assert_eq!(rt; letters_over(rt.alloc(), &[2; 16])?, 65536);
+    let more = built(rt.alloc(), &[2; 17], "()", 0);
+    expect(&rt, "()", &table_outcome(rt.alloc(), more)?, "Letters");
     Ok(())
 }
 
 // How many words up to a length match the expression, by the plain program.
 fn matching(alloc: Global, regex: &Regex, longest: usize) -> Result<usize, RowFault> {
+    let mut count: usize = 0;
+    for length in 0..=longest {
+        count = count.saturating_add(matching_of(alloc, regex, length)?);
+    }
+    Ok(count)
+}
+
+// How many words of a length match it.
+fn matching_of(alloc: Global, regex: &Regex, length: usize) -> Result<usize, RowFault> {
     let alphabet = Alphabet::of_sets(alloc, regex.sets())?;
     let tree = tree_of(alloc, regex)?;
     let mut count: usize = 0;
-    for length in 0..=longest {
-        for word in &all_words(alloc, alphabet.letters(), length)? {
-            let tuples = tuples_of(alloc, &alphabet, regex.sets().as_slice(), word.letters())?;
-            count = count.saturating_add(usize::from(matches(&tree, &tuples)));
-        }
+    for word in &all_words(alloc, alphabet.letters(), length)? {
+        let tuples = tuples_of(alloc, &alphabet, regex.sets().as_slice(), word.letters())?;
+        count = count.saturating_add(usize::from(matches(&tree, &tuples)));
     }
     Ok(count)
 }

@@ -5,6 +5,7 @@ use crate::table_texts::{line_of, table_of};
 use digit_tuple::dfa::Dfa;
 use digit_tuple::faults::OpFault;
 use digit_tuple::stepped::Stepped;
+use digit_tuple::steps::{StepLine, Steps};
 use minimise::tracked::Tracked;
 use std::alloc::Global;
 use std::process::Abort;
@@ -49,6 +50,21 @@ fn refusal(alloc: Global, fault: RowFault) -> Result<String, RowFault> {
 pub fn width_of(text: &str) -> Result<u32, RowFault> {
     let (width, _) = text.split_once(' ').ok_or(RowFault::Form)?;
     Ok(width.parse()?)
+}
+
+/// The lines of steps, each its kind, its width and its size.
+pub fn lines_of(alloc: Global, steps: &Steps) -> Result<String, RowFault> {
+    let mut text = String::new(alloc);
+    for number in 0..steps.count() {
+        text.push_str(&line_text(alloc, steps.line(number))?)?;
+    }
+    Ok(text)
+}
+
+// The text of a step's line.
+fn line_text(alloc: Global, line: StepLine) -> Result<String, RowFault> {
+    let kind = line.kind.name();
+    Ok(format!(in alloc; "{kind} {} {}, ", line.width, line.size)?)
 }
 
 /// Asserts that a row has what is wanted.

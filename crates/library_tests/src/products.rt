@@ -1,15 +1,16 @@
 //! Products, complements and valid parts, worked by hand.
 
-ghost use Rattle.std.specs.Prelude.{IfOk, IsTrue, map};
+ghost use Rattle.std.specs.Prelude.{◌≡◌, IfOk, IsTrue, map};
 ghost use Rattle.std.specs.Rc.{rc_value};
 ghost use Rattle.product_op.specs.Connectives.{among_valid};
-ghost use Rattle.product_op.specs.Tracks.{AgreeOnShared, joint_sizes};
+ghost use Rattle.product_op.specs.Tracks.{joint_sizes};
 ghost use Rattle.product_op.specs.Validity.{AreLanguages};
 
 use crate::outcomes::{expect, outcome, width_of};
 use crate::row_fault::RowFault;
 use crate::table_texts::{languages, tracked};
 use digit_tuple::dfa::Dfa;
+use digit_tuple::names::joint_names;
 use digit_tuple::stepped::Stepped;
 use minimise::tracked::Tracked;
 use product_op::joint_tracks::{agree_on_shared, joint_tracks, sizes_of_names};
@@ -107,32 +108,60 @@ fn joined(alloc: Global, row: &ProductRow, limit: u32) -> Result<Stepped<Tracked
     let a = tracked(alloc, row.a)?;
     let b = tracked(alloc, row.b)?;
     let valid = languages(alloc, row.valid)?;
-    if go_together(alloc, &a, &b, row.op, &valid)? {
-        Ok(product(alloc, &a, &b, row.op, &valid, limit)?)
+    product_of(alloc, (&a, &b), row.op, &valid, limit)
+}
+
+// The product of two under a limit, if they go together.
+fn product_of(
+    alloc: Global,
+    (a, b): (&Tracked, &Tracked),
+    op: Op,
+    valid: &[Rc<Dfa>],
+    limit: u32,
+) -> Result<Stepped<Tracked>, RowFault> {
+    if agree_on_shared(a, b) && have_languages(alloc, a, b, op, valid)? {
+        Ok(product(alloc, a, b, op, valid, limit)?)
     } else {
         Err(RowFault::Form)
     }
 }
 
-/// Whether two automata and languages of their tracks go together under a connective.
-pub fn go_together(
+/// Whether there is a language for each track of two automata, where the connective counts these.
+pub fn have_languages(
     alloc: Global,
     a: &Tracked,
     b: &Tracked,
     op: Op,
     valid: &[Rc<Dfa>],
 ) -> Result<bool, RowFault>
-    ensures agree { IfOk result (λ fit. IsTrue fit → AgreeOnShared a.now b.now) }
-    ensures languages { IfOk result (λ fit. IsTrue fit → IsTrue (among_valid op) → AreLanguages (joint_sizes a.now b.now) (map rc_value valid.now)) }
+    ensures { IfOk result (λ have. IsTrue have → IsTrue (among_valid op) → AreLanguages (joint_sizes a.now b.now) (map rc_value valid.now)) }
 {
-    if !agree_on_shared(a, b) {
-        return Ok(false);
+    if op.is_among_valid() {
+        each_has_one(alloc, a, b, valid)
+    } else {
+        Ok(true)
     }
-    if !op.is_among_valid() {
-        return Ok(true);
-    }
-    let joint = joint_tracks(alloc, a, b)?;
-    Ok(are_languages(alloc, joint.alphabet.sizes(), valid)?)
+}
+
+// Whether there is a language for each track of two automata.
+fn each_has_one(
+    alloc: Global,
+    a: &Tracked,
+    b: &Tracked,
+    valid: &[Rc<Dfa>],
+) -> Result<bool, RowFault>
+    ensures { IfOk result (λ have. IsTrue have → AreLanguages (joint_sizes a.now b.now) (map rc_value valid.now)) }
+{
+    let sizes = joint_sizes_of(alloc, a, b)?;
+    Ok(are_languages(alloc, &sizes, valid)?)
+}
+
+// The sizes of the tracks of both.
+fn joint_sizes_of(alloc: Global, a: &Tracked, b: &Tracked) -> Result<Vec<u32>, RowFault>
+    ensures { IfOk result (λ sizes. sizes.items ≡ joint_sizes a.now b.now) }
+{
+    let names = joint_names(alloc, a.names(), b.names())?;
+    Ok(sizes_of_names(alloc, &names, a, b)?)
 }
 
 #[test]
@@ -246,13 +275,20 @@ fn joined_count(alloc: Global, row: &CountRow, op: Op) -> Result<usize, RowFault
     accepted(alloc, made.result.dfa(), row.longest)
 }
 
+// How many are in it by each connective of `OPS`.
+fn joined_counts(alloc: Global, row: &CountRow) -> Result<Vec<usize>, RowFault> {
+    let mut counts = Vec::new(alloc);
+    for op in OPS {
+        counts.push(joined_count(alloc, row, op)?)?;
+    }
+    Ok(counts)
+}
+
 #[test]
 fn words_in_products_are_counted(rt: HostRuntime) -> Result<(), RowFault> {
     for row in &COUNTS {
-        for (op, count) in OPS.iter().zip(&row.counts) {
-            let found = joined_count(rt.alloc(), row, *op)?;
-            assert_eq!(rt; found, *count, "of {} by {op:?}", row.a);
-        }
+        let counts = joined_counts(rt.alloc(), row)?;
+        assert_eq!(rt; counts.as_slice(), row.counts.as_slice(), "of {}", row.a);
     }
     Ok(())
 }
@@ -289,15 +325,30 @@ fn part(
     }
 }
 
+// The text of the complement under a limit.
+fn complement_text(
+    alloc: Global,
+    line: &str,
+    valid: &[&str],
+    limit: u32,
+) -> Result<String, RowFault> {
+    outcome(alloc, complement(alloc, line, valid, limit))
+}
+
+// The text of the valid part under a limit.
+fn part_text(alloc: Global, line: &str, valid: &[&str], limit: u32) -> Result<String, RowFault> {
+    outcome(alloc, part(alloc, line, valid, limit))
+}
+
 #[test]
 fn complements_and_parts_have_valid_words_alone(rt: HostRuntime) -> Result<(), RowFault> {
-    let others = outcome(rt.alloc(), complement(rt.alloc(), ENDS, &[SPARSE], 4))?;
+    let others = complement_text(rt.alloc(), ENDS, &[SPARSE], 4)?;
     expect(&rt, ENDS, &others, "4 x:2 = /! 0>0 1>1/ 0>0");
-    let narrow = outcome(rt.alloc(), complement(rt.alloc(), ENDS, &[SPARSE], 3))?;
+    let narrow = complement_text(rt.alloc(), ENDS, &[SPARSE], 3)?;
     expect(&rt, ENDS, &narrow, "States");
-    let some = outcome(rt.alloc(), part(rt.alloc(), ENDS, &[SPARSE], 4))?;
+    let some = part_text(rt.alloc(), ENDS, &[SPARSE], 4)?;
     expect(&rt, ENDS, &some, "4 x:2 = / 0>0 1>1/! 0>0");
-    let narrow = outcome(rt.alloc(), part(rt.alloc(), ENDS, &[SPARSE], 3))?;
+    let narrow = part_text(rt.alloc(), ENDS, &[SPARSE], 3)?;
     expect(&rt, ENDS, &narrow, "States");
     Ok(())
 }
@@ -315,16 +366,26 @@ static VALID_WORDS: [(&str, &[&str], usize, [usize; 2]); 3] = [
     ),
 ];
 
+// How many words up to a length the automaton that was made accepts.
+fn accepted_of(
+    alloc: Global,
+    made: Result<Stepped<Tracked>, RowFault>,
+    longest: usize,
+) -> Result<usize, RowFault> {
+    accepted(alloc, made?.result.dfa(), longest)
+}
+
 #[test]
 fn valid_words_are_counted(rt: HostRuntime) -> Result<(), RowFault> {
-    for (line, valid, longest, counts) in VALID_WORDS {
-        let others = complement(rt.alloc(), line, valid, 1000)?;
-        let some = part(rt.alloc(), line, valid, 1000)?;
-        let found = [
-            accepted(rt.alloc(), others.result.dfa(), longest)?,
-            accepted(rt.alloc(), some.result.dfa(), longest)?,
-        ];
-        assert_eq!(rt; found, counts, "of {line}");
+    for (line, valid, longest, [others, some]) in VALID_WORDS {
+        let found = accepted_of(
+            rt.alloc(),
+            complement(rt.alloc(), line, valid, 1000),
+            longest,
+        )?;
+        assert_eq!(rt; found, others, "of {line}");
+        let found = accepted_of(rt.alloc(), part(rt.alloc(), line, valid, 1000), longest)?;
+        assert_eq!(rt; found, some, "of {line}");
     }
     Ok(())
 }
@@ -369,12 +430,17 @@ static LANGUAGES: [(&str, &[&str], bool); 4] = [
     ("x:2 = .", &["x:2 y:1 = .*"], false),
 ];
 
+// Whether there is a language for each track of an automaton.
+fn has_languages(alloc: Global, line: &str, valid: &[&str]) -> Result<bool, RowFault> {
+    let a = tracked(alloc, line)?;
+    let languages = languages(alloc, valid)?;
+    Ok(are_languages(alloc, a.dfa().alphabet().sizes(), &languages)?)
+}
+
 #[test]
 fn each_track_has_a_language(rt: HostRuntime) -> Result<(), RowFault> {
     for (line, valid, wanted) in LANGUAGES {
-        let a = tracked(rt.alloc(), line)?;
-        let languages = languages(rt.alloc(), valid)?;
-        let found = are_languages(rt.alloc(), a.dfa().alphabet().sizes(), &languages)?;
+        let found = has_languages(rt.alloc(), line, valid)?;
         assert_eq!(rt; found, wanted, "of {line}");
     }
     Ok(())

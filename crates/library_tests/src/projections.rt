@@ -92,13 +92,23 @@ static AFTER_ZEROS: [(&str, &[u32]); 3] = [
     ("x:2 y:2 = / 0>2 3>1/ 0>0/ 0>3 1>1/!", &[0, 2, 3]),
 ];
 
+// The states that zeros alone lead to in the table of a line.
+fn after_zeros(alloc: Global, line: &str) -> Result<Vec<u32>, RowFault> {
+    let table = table(alloc, line)?;
+    Ok(zero_closure(alloc, &table)?)
+}
+
 #[test]
 fn zeros_lead_to_these_states(rt: HostRuntime) -> Result<(), RowFault> {
     for (line, wanted) in AFTER_ZEROS {
-        let table = table(rt.alloc(), line)?;
-        let found = zero_closure(rt.alloc(), &table)?;
+        let found = after_zeros(rt.alloc(), line)?;
         assert_eq!(rt; found.as_slice(), wanted, "of {line}");
     }
+    Ok(())
+}
+
+#[test]
+fn flagged_states_are_listed(rt: HostRuntime) -> Result<(), RowFault> {
     let found = flagged(rt.alloc(), &[true, false, true])?;
     assert_eq!(rt; found.as_slice(), [0, 2].as_slice());
     Ok(())

@@ -1,6 +1,6 @@
 //! Why a row can't be worked out.
 
-use dfa_text::listed::FileFault;
+use dfa_reading::FileFault;
 use digit_tuple::faults::{OpFault, OutOfMemory};
 use digit_tuple::step_fault::StepFault;
 use regex_build::fault::RegexFault;

@@ -1,5 +1,6 @@
 //! How scripts are cut into items, whole and in pieces.
 
+use crate::outcomes::expect;
 use script_cut::{Cut, CutFault, Cutter, SCRIPT_LIMIT, TEXT_LIMIT};
 use std::alloc::{AllocError, Global};
 use std::test::Fail;
@@ -12,27 +13,47 @@ fn in_pieces(alloc: Global, script: &[u8], length: usize) -> Result<MemSource, A
     Ok(MemSource::new(bytes, pieces, Vec::new(alloc)))
 }
 
-// Writes an item: its line, `;` or `:`, and its text, or `!` and the length of a text without terminator. Whether
-// it was one.
+// Writes an item: its line, `;` or `:`, and its text; `!` and the length of a text without terminator; `*` for a text
+// that is too long; `#` where the script is. Whether it was one.
 fn show_item(
     alloc: Global,
     item: Result<Cut, CutFault>,
     items: &mut String,
 ) -> Result<bool, AllocError> {
     match item {
-        Ok(Cut::Command(text, shown, line)) => {
-            let mark = if shown { ":" } else { ";" };
-            items.push_str(&format!(in alloc; "{line}{mark}")?)?;
-            for byte in &text {
-                items.push(char::from(*byte))?;
-            }
-        }
+        Ok(Cut::Command(text, shown, line)) => show_command(alloc, &text, shown, line, items)?,
         Ok(Cut::End) => return Ok(false),
-        Err(CutFault::Syntax(line, len)) => items.push_str(&format!(in alloc; "{line}!{len}")?)?,
-        Err(_) => items.push('?')?,
+        Err(fault) => items.push_str(&fault_text(alloc, fault)?)?,
     }
     items.push('|')?;
     Ok(true)
+}
+
+// Writes a command: its line, `;` or `:`, and its text.
+fn show_command(
+    alloc: Global,
+    text: &[u8],
+    shown: bool,
+    line: u64,
+    items: &mut String,
+) -> Result<(), AllocError> {
+    let mark = if shown { ":" } else { ";" };
+    items.push_str(&format!(in alloc; "{line}{mark}")?)?;
+    for byte in text {
+        items.push(char::from(*byte))?;
+    }
+    Ok(())
+}
+
+// The text of a fault.
+fn fault_text(alloc: Global, fault: CutFault) -> Result<String, AllocError> {
+    match fault {
+        CutFault::Syntax(line, len) => format!(in alloc; "{line}!{len}"),
+        CutFault::Long(line) => format!(in alloc; "{line}*"),
+        CutFault::ScriptLimit(line) => format!(in alloc; "{line}#"),
+        CutFault::Failed => String::from_str(alloc, "failed"),
+        CutFault::Memory => String::from_str(alloc, "memory"),
+    }
 }
 
 // The next item.
@@ -95,10 +116,22 @@ fn scripts_have_these_items_in_pieces_of_any_length(rt: HostRuntime) -> Result<(
     for (script, items) in SCRIPTS {
         for length in [1, 2, 3, 7, 100] {
             let found = items_of(rt.alloc(), script.as_bytes(), length)?;
-            assert_eq!(rt; found.as_str(), items, "of {script}");
+            expect(&rt, script, &found, items);
         }
     }
     Ok(())
+}
+
+// The text of the next item.
+fn next_text(
+    alloc: Global,
+    cutter: &mut Cutter,
+    source: &mut MemSource,
+) -> Result<String, AllocError> {
+    let item = next_item(cutter, source);
+    let mut text = String::new(alloc);
+    show_item(alloc, item, &mut text)?;
+    Ok(text)
 }
 
 #[test]
@@ -106,20 +139,13 @@ fn a_command_is_given_without_a_further_read(rt: HostRuntime) -> Result<(), Fail
     let bytes = Vec::from_slice(rt.alloc(), b"a;b::c")?;
     let mut source = MemSource::new(bytes, vec![in rt.alloc(); 5]?, vec![in rt.alloc(); 2]?);
     let mut cutter = Cutter::new(rt.alloc());
-    assert!(rt;
-        matches!(
-            next_item(&mut cutter, &mut source),
-            Ok(Cut::Command(_, false, 1))
-        )
-    );
-    assert!(rt;
-        matches!(
-            next_item(&mut cutter, &mut source),
-            Ok(Cut::Command(_, true, 1))
-        )
-    );
+    let first = next_text(rt.alloc(), &mut cutter, &mut source)?;
+    expect(&rt, "the first item", &first, "1;a|");
+    let second = next_text(rt.alloc(), &mut cutter, &mut source)?;
+    expect(&rt, "the second item", &second, "1:b|");
     assert_eq!(rt; source.calls(), 1);
-    assert!(rt; matches!(next_item(&mut cutter, &mut source), Err(CutFault::Failed)));
+    let third = next_text(rt.alloc(), &mut cutter, &mut source)?;
+    expect(&rt, "the third item", &third, "failed|");
     Ok(())
 }
 
@@ -134,21 +160,26 @@ fn two_long(alloc: Global, length: usize) -> Result<Vec<u8>, AllocError> {
     Ok(script)
 }
 
+// How many bytes an item has, if it is a command of the first line.
+fn length_of(item: Result<Cut, CutFault>) -> usize {
+    match item {
+        Ok(Cut::Command(text, false, 1)) => text.len(),
+        _ => 0,
+    }
+}
+
 #[test]
 fn a_long_command_is_passed_over(rt: HostRuntime) -> Result<(), Fail> {
     let script = two_long(rt.alloc(), TEXT_LIMIT)?;
     let mut source = in_pieces(rt.alloc(), &script, 5000)?;
     let mut cutter = Cutter::new(rt.alloc());
-    let first = next_item(&mut cutter, &mut source);
-    assert!(rt; matches!(&first, Ok(Cut::Command(text, false, 1)) if text.len() == TEXT_LIMIT));
-    assert!(rt; matches!(next_item(&mut cutter, &mut source), Err(CutFault::Long(2))));
-    assert!(rt;
-        matches!(
-            next_item(&mut cutter, &mut source),
-            Ok(Cut::Command(_, false, 2))
-        )
-    );
-    assert!(rt; matches!(next_item(&mut cutter, &mut source), Ok(Cut::End)));
+    assert_eq!(rt; length_of(next_item(&mut cutter, &mut source)), TEXT_LIMIT);
+    let second = next_text(rt.alloc(), &mut cutter, &mut source)?;
+    expect(&rt, "the second item", &second, "2*|");
+    let third = next_text(rt.alloc(), &mut cutter, &mut source)?;
+    expect(&rt, "the third item", &third, "2;z|");
+    let last = next_text(rt.alloc(), &mut cutter, &mut source)?;
+    expect(&rt, "the end", &last, "");
     Ok(())
 }
 
@@ -158,39 +189,25 @@ fn the_limit_counts_what_is_spent(rt: HostRuntime) -> Result<(), Fail> {
     let mut cutter = Cutter::new(rt.alloc());
     assert!(rt; cutter.spend(SCRIPT_LIMIT as u64 - 4));
     assert!(rt; !cutter.spend(5));
-    assert!(rt;
-        matches!(
-            next_item(&mut cutter, &mut source),
-            Ok(Cut::Command(_, false, 1))
-        )
-    );
-    assert!(rt;
-        matches!(
-            next_item(&mut cutter, &mut source),
-            Err(CutFault::ScriptLimit(2))
-        )
-    );
+    let first = next_text(rt.alloc(), &mut cutter, &mut source)?;
+    expect(&rt, "the first item", &first, "1;a|");
+    let second = next_text(rt.alloc(), &mut cutter, &mut source)?;
+    expect(&rt, "the second item", &second, "2#|");
     Ok(())
 }
 
-// A script of blank lines of so many bytes.
-fn blank_script(alloc: Global, length: usize) -> Result<MemSource, AllocError> {
+// The first item of a script of blank lines of so many bytes.
+fn first_of_blanks(alloc: Global, length: usize) -> Result<String, AllocError> {
     let script = vec![in alloc; b'\n'; length]?;
-    Ok(MemSource::new(script, Vec::new(alloc), Vec::new(alloc)))
-}
-
-// The first item.
-fn first_item(alloc: Global, source: &mut MemSource) -> Result<Cut, CutFault> {
-    next_item(&mut Cutter::new(alloc), source)
+    let mut source = MemSource::new(script, Vec::new(alloc), Vec::new(alloc));
+    next_text(alloc, &mut Cutter::new(alloc), &mut source)
 }
 
 #[test]
 fn a_script_is_cut_at_its_limit(rt: HostRuntime) -> Result<(), Fail> {
-    let mut most = blank_script(rt.alloc(), SCRIPT_LIMIT)?;
-    assert!(rt; matches!(first_item(rt.alloc(), &mut most), Ok(Cut::End)));
-    let mut more = blank_script(rt.alloc(), SCRIPT_LIMIT + 1)?;
-    let line = SCRIPT_LIMIT as u64 + 1;
-    let found = first_item(rt.alloc(), &mut more);
-    assert!(rt; matches!(found, Err(CutFault::ScriptLimit(at)) if at == line));
+    let most = first_of_blanks(rt.alloc(), SCRIPT_LIMIT)?;
+    expect(&rt, "16,777,216 bytes", &most, "");
+    let more = first_of_blanks(rt.alloc(), SCRIPT_LIMIT + 1)?;
+    expect(&rt, "one byte more", &more, "16777217#|");
     Ok(())
 }

@@ -1,8 +1,9 @@
 //! Sealed systems: the relations of bases against counting, and the steps of the successor worked by hand.
 
-ghost use Rattle.std.specs.Prelude.{◌≡◌, ℕ, ◌∷◌, [], IsTrue};
+ghost use Rattle.std.specs.Prelude.{◌≡◌, ℕ, ◌∷◌, [], IfOk, IsTrue};
+ghost use Rattle.num_system.specs.SuccessorSteps.{name_u, name_x, name_y};
 
-use crate::bases::SUMS;
+use crate::bases::{SUMS, base_of};
 use crate::outcomes::{expect, outcome, table_outcome, width_of};
 use crate::row_fault::RowFault;
 use crate::table_texts::{language, table_of};
@@ -26,11 +27,6 @@ const SOME: u32 = 30;
 
 static DIRECTIONS: [Direction; 2] = [Direction::Msd, Direction::Lsd];
 
-// The base with this number.
-fn base(number: u32, direction: Direction) -> Result<BaseK, RowFault> {
-    BaseK::new(number, direction).ok_or(RowFault::Form)
-}
-
 /// The sealed system of a base.
 pub fn sealed(
     alloc: Global,
@@ -38,7 +34,7 @@ pub fn sealed(
     direction: Direction,
     limit: u32,
 ) -> Result<System, RowFault> {
-    Ok(seal(alloc, &base(number, direction)?, limit)?)
+    Ok(seal(alloc, &base_of(number, direction)?, limit)?)
 }
 
 // The word of so many letters that spells two numbers in a base, if they have no more digits.
@@ -77,19 +73,42 @@ fn say(sealed: &System, word: &[u32], x: u32, y: u32) -> bool {
         && (x != 0 || sealed.zero().accepts(word) == (y == 0))
 }
 
-// Whether they do so of a number and each of some numbers, by words of so many letters.
+// Whether they do so of two numbers, by the word of so many letters, if there is one.
+fn say_of_word(
+    alloc: Global,
+    system: BaseK,
+    sealed: &System,
+    length: u32,
+    (x, y): (u32, u32),
+) -> Result<bool, RowFault> {
+    match spelled(alloc, system, length, x, y)? {
+        Some(word) => Ok(say(sealed, &word, x, y)),
+        None => Ok(true),
+    }
+}
+
+// Whether they do so of all pairs of some numbers, by words of so many letters.
 fn say_of_all(
     alloc: Global,
     system: BaseK,
     sealed: &System,
     length: u32,
-    x: u32,
 ) -> Result<bool, RowFault> {
     let mut right = true;
-    for y in 0..SOME {
-        if let Some(word) = spelled(alloc, system, length, x, y)? {
-            right = right && say(sealed, &word, x, y);
-        }
+    for pair in 0..SOME * SOME {
+        let numbers = (pair / SOME, pair % SOME);
+        right = right && say_of_word(alloc, system, sealed, length, numbers)?;
+    }
+    Ok(right)
+}
+
+// Whether they do so by words of up to three letters.
+fn say_of_lengths(alloc: Global, number: u32, direction: Direction) -> Result<bool, RowFault> {
+    let system = base_of(number, direction)?;
+    let sealed = sealed(alloc, number, direction, LIMIT)?;
+    let mut right = true;
+    for length in 0..4 {
+        right = right && say_of_all(alloc, system, &sealed, length)?;
     }
     Ok(right)
 }
@@ -98,16 +117,16 @@ fn say_of_all(
 fn relations_are_those_of_numbers(rt: HostRuntime) -> Result<(), RowFault> {
     for number in [2, 3, 10] {
         for direction in DIRECTIONS {
-            let system = sealed(rt.alloc(), number, direction, LIMIT)?;
-            for length in 0..4 {
-                for x in 0..SOME {
-                    let base = base(number, direction)?;
-                    assert!(rt; say_of_all(rt.alloc(), base, &system, length, x)?, "of {x}");
-                }
-            }
+            let right = say_of_lengths(rt.alloc(), number, direction)?;
+            assert!(rt; right, "of base {number}");
         }
     }
     Ok(())
+}
+
+// How many digits a sealed system has, and its direction.
+fn form_of(system: &System) -> (u32, Direction) {
+    (system.digits(), system.direction())
 }
 
 #[test]
@@ -115,23 +134,38 @@ fn every_base_is_sealed(rt: HostRuntime) -> Result<(), RowFault> {
     for number in LEAST_BASE..=GREATEST_BASE {
         for direction in DIRECTIONS {
             let system = sealed(rt.alloc(), number, direction, LIMIT)?;
-            assert_eq!(rt; (system.digits(), system.direction()), (number, direction));
+            assert_eq!(rt; form_of(&system), (number, direction));
         }
     }
     Ok(())
+}
+
+// Whether base 2 is sealed under a limit, and not refused by it.
+fn is_sealed_under(alloc: Global, limit: u32) -> Result<bool, RowFault> {
+    match sealed(alloc, 2, Direction::Msd, limit) {
+        Ok(_) => Ok(true),
+        Err(RowFault::Call(OpFault::States)) => Ok(false),
+        Err(fault) => Err(fault),
+    }
 }
 
 // The order has the width 3, and the first step of its successor the width 9.
 #[test]
 fn the_order_and_its_successor_keep_to_the_limit(rt: HostRuntime) -> Result<(), RowFault> {
     for (limit, fits) in [(2, false), (8, false), (9, true)] {
-        match sealed(rt.alloc(), 2, Direction::Msd, limit) {
-            Ok(_) => assert!(rt; fits, "under {limit}"),
-            Err(RowFault::Call(OpFault::States)) => assert!(rt; !fits, "under {limit}"),
-            Err(fault) => return Err(fault),
-        }
+        assert_eq!(rt; is_sealed_under(rt.alloc(), limit)?, fits, "under {limit}");
     }
     Ok(())
+}
+
+// How many states the language and the adder have.
+fn states_in(system: &System) -> (u32, u32) {
+    (system.language().states(), system.adder().states())
+}
+
+// Whether the adder accepts a word.
+fn adds(system: &System, word: &[u32]) -> bool {
+    system.adder().accepts(word)
 }
 
 // The language and the adder have as many states, and the adder accepts the one word and not the other.
@@ -139,23 +173,30 @@ fn the_order_and_its_successor_keep_to_the_limit(rt: HostRuntime) -> Result<(), 
 fn adders_have_a_state_for_each_carry(rt: HostRuntime) -> Result<(), RowFault> {
     for (number, direction, right, wrong) in SUMS {
         let system = sealed(rt.alloc(), number, direction, LIMIT)?;
-        assert_eq!(rt; system.language().states(), 1);
-        let adder = system.adder();
-        assert_eq!(rt; adder.states(), 2);
-        assert!(rt; adder.accepts(right), "in base {number}");
-        assert!(rt; !adder.accepts(wrong), "in base {number}");
+        assert_eq!(rt; states_in(&system), (1, 2));
+        assert!(rt; adds(&system, right), "in base {number}");
+        assert!(rt; !adds(&system, wrong), "in base {number}");
     }
     Ok(())
 }
 
-#[test]
-fn systems_of_the_program_are_sealed_without_a_limit(rt: HostRuntime) -> Result<(), RowFault> {
+// Base 2, sealed without a limit.
+fn built_in(alloc: Global) -> Result<System, RowFault> {
     let system = BaseK {
         base: 2,
         direction: Direction::Msd,
     };
-    let sealed = seal_built_in(rt.alloc(), &system)?;
-    let less = table_of(rt.alloc(), sealed.less())?;
+    Ok(seal_built_in(alloc, &system)?)
+}
+
+// The table of a system's order.
+fn order_in(alloc: Global, system: &System) -> Result<String, RowFault> {
+    table_of(alloc, system.less())
+}
+
+#[test]
+fn systems_of_the_program_are_sealed_without_a_limit(rt: HostRuntime) -> Result<(), RowFault> {
+    let less = order_in(rt.alloc(), &built_in(rt.alloc())?)?;
     expect(&rt, "the order", &less, "/ 0>0 1>1 3>0/! 0>1 1>1 2>1 3>1");
     Ok(())
 }
@@ -186,21 +227,28 @@ fn chain(alloc: Global, order: &str, limit: u32) -> Result<Stepped<Tracked>, Row
     }
 }
 
-// The second step under a limit, from the triples of the first.
-fn between(
-    alloc: Global,
-    triples: &str,
-    direction: Direction,
-    limit: u32,
-) -> Result<Stepped<Tracked>, RowFault> {
-    let dfa = language(alloc, triples)?;
+// The automaton of a line with three tracks, under the names u, x and y.
+fn triples(alloc: Global, line: &str) -> Result<Tracked, RowFault>
+    ensures { IfOk result (λ chain. chain.names ≡ name_u ∷ name_x ∷ name_y ∷ []) }
+{
+    let dfa = language(alloc, line)?;
     if dfa.alphabet().sizes().len() != 3 {
         return Err(RowFault::Form);
     }
     let u = Name::new(alloc, "u")?;
     let x = Name::new(alloc, "x")?;
     let y = Name::new(alloc, "y")?;
-    let chain = Tracked::of_canonical(dfa, vec![in alloc; u, x, y]?);
+    Ok(Tracked::of_canonical(dfa, vec![in alloc; u, x, y]?))
+}
+
+// The second step under a limit, from the triples of the first.
+fn between(
+    alloc: Global,
+    line: &str,
+    direction: Direction,
+    limit: u32,
+) -> Result<Stepped<Tracked>, RowFault> {
+    let chain = triples(alloc, line)?;
     let _tracks = chain.dfa().alphabet().tracks();
     if is_triple(chain.dfa()) {
         Ok(between_of(alloc, &chain, direction, limit)?)
@@ -209,18 +257,29 @@ fn between(
     }
 }
 
-// The third step under a limit, from the order and the pairs of the second.
-fn next(alloc: Global, order: &str, pairs: &str, limit: u32) -> Result<Stepped<Dfa>, RowFault> {
-    let less = language(alloc, order)?;
-    let between = language(alloc, pairs)?;
-    let _tracks = less.alphabet().tracks();
-    if !is_pair(&less) || less.alphabet().sizes() != between.alphabet().sizes() {
+// The automaton of a line with two tracks, under the names x and y.
+fn pairs(alloc: Global, line: &str) -> Result<Tracked, RowFault>
+    ensures { IfOk result (λ between. between.names ≡ name_x ∷ name_y ∷ []) }
+{
+    let dfa = language(alloc, line)?;
+    if dfa.alphabet().sizes().len() != 2 {
         return Err(RowFault::Form);
     }
     let x = Name::new(alloc, "x")?;
     let y = Name::new(alloc, "y")?;
-    let between = Tracked::of_canonical(between, vec![in alloc; x, y]?);
-    Ok(next_of(alloc, &less, &between, limit)?)
+    Ok(Tracked::of_canonical(dfa, vec![in alloc; x, y]?))
+}
+
+// The third step under a limit, from the order and the pairs of the second.
+fn next(alloc: Global, order: &str, line: &str, limit: u32) -> Result<Stepped<Dfa>, RowFault> {
+    let less = language(alloc, order)?;
+    let between = pairs(alloc, line)?;
+    let _tracks = less.alphabet().tracks();
+    if is_pair(&less) && between.dfa().alphabet().sizes() == less.alphabet().sizes() {
+        Ok(next_of(alloc, &less, &between, limit)?)
+    } else {
+        Err(RowFault::Form)
+    }
 }
 
 // The successor under a limit, from an order.

@@ -34,12 +34,17 @@ fn stands_for(word: &[u32], base: u32, number: u64) -> bool {
 // Whether each number up to a bound, and the greatest, is given its word.
 fn gives_words(alloc: Global, base: u32, direction: Direction) -> Result<bool, RowFault> {
     let system = sealed(alloc, base, direction, 1000)?;
-    let mut right = true;
-    for number in (0..131).chain([u64::MAX]) {
-        let word = word(alloc, &system, number, 64)?;
-        right = right && stands_for(&word, base, number);
+    let mut right = gives_word(alloc, &system, base, u64::MAX)?;
+    for number in 0..131 {
+        right = right && gives_word(alloc, &system, base, number)?;
     }
     Ok(right)
+}
+
+// Whether a number is given its word.
+fn gives_word(alloc: Global, system: &System, base: u32, number: u64) -> Result<bool, RowFault> {
+    let word = word(alloc, system, number, 64)?;
+    Ok(stands_for(&word, base, number))
 }
 
 #[test]

@@ -3,7 +3,7 @@
 ghost use Rattle.std.specs.Prelude.{◌≡◌, ◌<◌, length};
 
 use crate::outcomes::expect;
-use crate::products::go_together;
+use crate::products::have_languages;
 use crate::row_fault::RowFault;
 use crate::sealed_systems::sealed;
 use crate::table_texts::{language, languages, line_of, table, table_of, tracked};
@@ -21,6 +21,8 @@ use digit_tuple::name::Name;
 use digit_tuple::names::find_name;
 use digit_tuple::step_fault::StepFault;
 use digit_tuple::steps::Steps;
+use minimise::tracked::Tracked;
+use product_op::joint_tracks::agree_on_shared;
 use product_op::languages::are_languages;
 use product_op::op::Op;
 use std::alloc::Global;
@@ -121,12 +123,23 @@ fn product(alloc: Global, op: Op, a: &str, b: &str, steps: &mut Steps) -> Result
     let a = tracked(alloc, a)?;
     let b = tracked(alloc, b)?;
     let languages = languages(alloc, &["x:2 = .*"])?;
-    if go_together(alloc, &a, &b, op, &languages)? {
-        let joining = Joining {
-            op,
-            languages: &languages,
-        };
-        line_of(alloc, &join_step(alloc, &a, &b, joining, steps)?)
+    let joining = Joining {
+        op,
+        languages: &languages,
+    };
+    line_of(alloc, &joined(alloc, &a, &b, joining, steps)?)
+}
+
+// The product, if the arguments go together.
+fn joined(
+    alloc: Global,
+    a: &Tracked,
+    b: &Tracked,
+    joining: Joining<'_>,
+    steps: &mut Steps,
+) -> Result<Tracked, RowFault> {
+    if agree_on_shared(a, b) && have_languages(alloc, a, b, joining.op, joining.languages)? {
+        Ok(join_step(alloc, a, b, joining, steps)?)
     } else {
         Err(RowFault::Form)
     }
@@ -278,21 +291,22 @@ fn refusal(made: Result<String, RowFault>) -> Option<StepFault> {
     }
 }
 
+// Whether there is one line, that of the row.
+fn is_line_of(steps: &Steps, row: &Row) -> bool {
+    if steps.count() != 1 {
+        return false;
+    }
+    let line = steps.line(0);
+    line.kind.name() == row.kind && line.width == row.width && line.size == row.size
+}
+
 #[test]
 fn steps_have_these_lines(rt: HostRuntime) -> Result<(), RowFault> {
     for row in &ROWS {
         let mut steps = Steps::new(rt.alloc(), row.width);
         let made = done(rt.alloc(), row.step, &mut steps)?;
         expect(&rt, row.kind, &made, row.made);
-        assert_eq!(rt; steps.count(), 1);
-        let line = steps.line(0);
-        assert_eq!(rt; line.kind.name(), row.kind);
-        assert_eq!(rt;
-            (line.width, line.size),
-            (row.width, row.size),
-            "of {}",
-            row.kind
-        );
+        assert!(rt; is_line_of(&steps, row), "of {}", row.kind);
     }
     Ok(())
 }

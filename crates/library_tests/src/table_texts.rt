@@ -22,6 +22,7 @@ use minimise::canonical::canonical;
 use minimise::tracked::Tracked;
 use regex_build::build::build;
 use regex_build::parse;
+use regex_build::regex::Regex;
 use std::alloc::Global;
 use std::rc::Rc;
 
@@ -63,9 +64,14 @@ pub fn languages(alloc: Global, lines: &[&str]) -> Result<Vec<Rc<Dfa>>, RowFault
 fn matching(alloc: Global, line: &str) -> Result<Dfa, RowFault>
     ensures { IfOk result (λ dfa. IsCanonical dfa) }
 {
-    let header = Header::Sets(sets_of(alloc, &sizes_of(alloc, line)?)?);
-    let regex = parse(alloc, after_tracks(line).as_bytes(), &header)?;
+    let regex = expression(alloc, line)?;
     Ok(build(alloc, &regex, WIDE)?.result)
+}
+
+// The expression of a line with an expression.
+fn expression(alloc: Global, line: &str) -> Result<Regex, RowFault> {
+    let header = Header::Sets(sets_of(alloc, &sizes_of(alloc, line)?)?);
+    Ok(parse(alloc, after_tracks(line).as_bytes(), &header)?)
 }
 
 /// The deterministic table of a line with a table: the subsets of its states.
@@ -136,12 +142,18 @@ fn sizes_of(alloc: Global, line: &str) -> Result<Vec<u32>, RowFault> {
 
 // What stands before the `=` of a line.
 fn tracks(line: &str) -> &str {
-    line.split_once('=').map_or("", |(tracks, _)| tracks)
+    match line.split_once('=') {
+        Some((tracks, _)) => tracks,
+        None => "",
+    }
 }
 
 // What stands after the `=` of a line.
 fn after_tracks(line: &str) -> &str {
-    line.split_once('=').map_or("", |(_, text)| text)
+    match line.split_once('=') {
+        Some((_, text)) => text,
+        None => "",
+    }
 }
 
 /// Sets of the digits below each of these sizes.

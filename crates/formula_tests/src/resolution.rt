@@ -1,0 +1,329 @@
+//! Formulas and their resolution: the free variables with their systems, `-` where there is none, or the fault with what it
+//! keeps; and the files and systems that formulas mention.
+
+use crate::long_texts::repeated;
+use crate::parsed::formula_of;
+use digit_tuple::header::Header;
+use digit_tuple::name::Name;
+use digit_tuple::sets::Sets;
+use digit_tuple::systems::Systems;
+use formula_parse::tree::Formula;
+use formula_resolve::{
+    File, Headers, Mention, ResolveFault, Variable, first_files, first_systems, mentions, resolve,
+};
+use std::alloc::{AllocError, Global};
+use std::test::Fail;
+
+// The automata over systems, each with the systems of its tracks.
+const AUTOMATA: [(&str, &[&str]); 5] = [
+    ("f", &["msd_2", "msd_2"]),
+    ("g", &["lsd_2"]),
+    ("q", &["msd_3"]),
+    ("s", &[]),
+    ("ab", &["msd_2"]),
+];
+
+// The words, each with the systems of its tracks.
+const WORDS: [(&str, &[&str]); 4] = [
+    ("T", &["msd_2"]),
+    ("U", &["msd_2", "msd_2"]),
+    ("L", &["lsd_2"]),
+    ("W", &["msd_3"]),
+];
+
+// Texts and their resolution.
+const ROWS: [(&str, &str); 72] = [
+    // Free variables.
+    ("x=1", "x msd_2"),
+    ("0=0", "-"),
+    ("y=x", "x msd_2, y msd_2"),
+    ("x+y=z & 3*x=w", "w msd_2, x msd_2, y msd_2, z msd_2"),
+    ("Ex x=y", "y msd_2"),
+    ("Ex,x x=1", "-"),
+    ("x=1 & Ax x=2", "x msd_2"),
+    // One system under each binding.
+    ("x=1 & (?msd_3 x=1)", "Clash x msd_2 msd_3"),
+    ("(?msd_3 x=1) & x=1", "Clash x msd_3 msd_2"),
+    ("x=1 & Ex (?msd_3 x=1)", "x msd_2"),
+    ("(Ex x=1) & Ex (?msd_3 x=1)", "-"),
+    ("Ex (x=1 & (?msd_3 x=1))", "Clash x msd_2 msd_3"),
+    ("Ex (x=1 & Ex (?msd_3 x=1))", "-"),
+    (
+        "Ex (x=1 & (Ex (?msd_3 x=1)) & (?msd_3 x=2))",
+        "Clash x msd_2 msd_3",
+    ),
+    ("Ey (x=1 & (?msd_3 y=1 & x=2))", "Clash x msd_2 msd_3"),
+    ("?msd_2 x=1 & (?lsd_2 x=1)", "Clash x msd_2 lsd_2"),
+    // One direction in each chain.
+    ("?msd_2 x=1 & (?lsd_2 y=1)", "Direction msd_2 lsd_2"),
+    ("?lsd_2 x=1 & (?msd_2 y=1)", "Direction lsd_2 msd_2"),
+    ("x=1 & y=1 & (?lsd_3 z=1)", "Direction msd_2 lsd_3"),
+    ("x=1 => (?lsd_2 y=1)", "Direction msd_2 lsd_2"),
+    ("x=1 <=> (?lsd_2 y=1)", "Direction msd_2 lsd_2"),
+    ("~(x=1 | (?lsd_2 y=1))", "Direction msd_2 lsd_2"),
+    ("Ex (x=1 & (?lsd_2 y=1))", "Direction msd_2 lsd_2"),
+    ("x=1 & (?lsd_2 1=1)", "x msd_2"),
+    ("x=1 & (?lsd_2 Ey y=1)", "x msd_2"),
+    ("(?lsd_2 1=1) & x=1 & (?lsd_2 Ey y=1)", "x msd_2"),
+    ("x=1 & Ey (?lsd_2 y=1 & z=1)", "Direction msd_2 lsd_2"),
+    ("?lsd_2 x=1 & y=1", "x lsd_2, y lsd_2"),
+    ("x=1 & (?msd_3 y=1)", "x msd_2, y msd_3"),
+    ("x=1 & (?lsd_2 y=1) & (?msd_3 x=2)", "Clash x msd_2 msd_3"),
+    (
+        "x=1 & ((?lsd_2 y=1) & (?msd_3 z=1))",
+        "Direction lsd_2 msd_3",
+    ),
+    (
+        "((?lsd_2 a=1) & b=1) & ((?msd_3 c=1) & (?lsd_3 d=1))",
+        "Direction lsd_2 msd_2",
+    ),
+    (
+        "(b=1 & (?msd_3 a=1)) & (?lsd_2 c=1)",
+        "Direction msd_3 lsd_2",
+    ),
+    (
+        "a=1 & ((?lsd_2 c=1) & (?lsd_3 b=1))",
+        "Direction msd_2 lsd_3",
+    ),
+    ("0=0 & ~?lsd_77 1=1", "-"),
+    ("?msd_3 ?lsd_2 x=1", "x lsd_2"),
+    // Calls.
+    ("$f(x,y)", "x msd_2, y msd_2"),
+    ("$f(y,x+1)", "x msd_2, y msd_2"),
+    ("$f(x,x)", "x msd_2"),
+    ("$f(1,2)", "-"),
+    ("$f(x)", "Arity f 2 1"),
+    ("$f()", "Arity f 2 0"),
+    ("$f(1,2,3)", "Arity f 2 3"),
+    ("$s()", "-"),
+    ("$s(x)", "Arity s 0 1"),
+    ("$ab(1,2)", "Plain ab"),
+    ("$ab(1)", "Plain ab"),
+    ("$ab()", "Plain ab"),
+    ("$f(1) & $ab(1)", "Arity f 2 1"),
+    ("$ab(1) & $f(1)", "Plain ab"),
+    ("x=1 & (?msd_3 x=1) & $f(1)", "Arity f 2 1"),
+    ("x=1 & (?lsd_2 y=1) & $ab(1)", "Plain ab"),
+    ("?lsd_2 $g(x) & x=1", "x lsd_2"),
+    ("$g(x) & x=1", "Clash x lsd_2 msd_2"),
+    ("$q(x) & (?msd_3 x=1)", "x msd_3"),
+    ("x=1 & $q(x)", "Clash x msd_2 msd_3"),
+    ("$f(x,y) & (?lsd_2 z=1)", "Direction msd_2 lsd_2"),
+    // Words.
+    ("T[x]=@1", "x msd_2"),
+    ("@1<T[x+y]", "x msd_2, y msd_2"),
+    ("T[x][y]=@1", "Arity T 1 2"),
+    ("@1=U[x]", "Arity U 2 1"),
+    ("U[x][y]=T[z]", "x msd_2, y msd_2, z msd_2"),
+    ("T[x]=L[y]", "Direction msd_2 lsd_2"),
+    ("L[x]=T[y]", "Direction lsd_2 msd_2"),
+    ("T[0]=L[0]", "Direction msd_2 lsd_2"),
+    ("T[x]=L[x]", "Clash x msd_2 lsd_2"),
+    ("T[x]=W[x]", "Clash x msd_2 msd_3"),
+    ("T[x]=W[y]", "x msd_2, y msd_3"),
+    ("T[x][1]=L[y]", "Arity T 1 2"),
+    (
+        "(T[0]=L[0]) & (?msd_3 x=1) & (?lsd_3 y=1)",
+        "Direction msd_2 lsd_2",
+    ),
+    ("T[T]=@0 & T=3", "T msd_2"),
+    ("Ex T[x]=L[0]", "Direction msd_2 lsd_2"),
+];
+
+// Texts, the files that they mention, and the systems.
+const MENTIONS: [(&str, &str, &str); 2] = [
+    (
+        "$g(1) & T[0]=@0 & (?msd_3 $f(1,2)) & $g(0) & ~?lsd_77 1=1",
+        "$g T $f",
+        "lsd_2 msd_2 msd_3 lsd_77",
+    ),
+    (
+        "$T(0) & T[0]=@0 & ?msd_41 $f(1,2) & U[0][0]=W[1]",
+        "$T T $f U W",
+        "msd_2 msd_41 msd_3",
+    ),
+];
+
+// The systems of these names. How many digits they have plays no part here, so each has 2.
+fn systems(alloc: Global, names: &[&str]) -> Result<Systems, Fail> {
+    let mut systems = Systems::new(alloc);
+    for name in names {
+        systems.push(Name::new(alloc, name)?, 2)?;
+    }
+    Ok(systems)
+}
+
+// The headers of the names in the rows. The last header added of a name stands: `ab` is over sets.
+fn headers(alloc: Global) -> Result<Headers, Fail> {
+    let mut headers = Headers::new(alloc);
+    for (name, tracks) in AUTOMATA {
+        let header = Header::Systems(systems(alloc, tracks)?);
+        headers.add_automaton(&Name::new(alloc, name)?, &header)?;
+    }
+    let sets = Header::Sets(Sets::new(alloc));
+    headers.add_automaton(&Name::new(alloc, "ab")?, &sets)?;
+    for (name, tracks) in WORDS {
+        headers.add_word(&Name::new(alloc, name)?, &systems(alloc, tracks)?)?;
+    }
+    Ok(headers)
+}
+
+// Variables with their systems, or `-`.
+fn written(alloc: Global, variables: &[Variable]) -> Result<String, AllocError> {
+    let mut out = String::new(alloc);
+    for variable in variables {
+        if !out.is_empty() {
+            out.push_str(", ")?;
+        }
+        out.push_str(variable.name.as_str())?;
+        out.push(' ')?;
+        out.push_str(variable.system.as_str())?;
+    }
+    if out.is_empty() {
+        out.push('-')?;
+    }
+    Ok(out)
+}
+
+// A fault with what it keeps.
+fn told(alloc: Global, fault: &ResolveFault) -> Result<String, AllocError> {
+    match fault {
+        ResolveFault::Plain(name) => {
+            let name = name.as_str();
+            format!(in alloc; "Plain {name}")
+        }
+        ResolveFault::Arity(name, tracks, given) => {
+            let name = name.as_str();
+            format!(in alloc; "Arity {name} {tracks} {given}")
+        }
+        ResolveFault::Clash(name, first, other) => {
+            let name = name.as_str();
+            let first = first.as_str();
+            let other = other.as_str();
+            format!(in alloc; "Clash {name} {first} {other}")
+        }
+        ResolveFault::Direction(first, other) => {
+            let first = first.as_str();
+            let other = other.as_str();
+            format!(in alloc; "Direction {first} {other}")
+        }
+        ResolveFault::Memory => String::from_str(alloc, "Memory"),
+    }
+}
+
+// The resolution of a formula, or its fault.
+fn resolution(alloc: Global, formula: &Formula, headers: &Headers) -> Result<String, Fail> {
+    match resolve(alloc, formula, headers) {
+        Ok(resolved) => Ok(written(alloc, &resolved.variables)?),
+        Err(fault) => Ok(told(alloc, &fault)?),
+    }
+}
+
+#[test]
+fn texts_have_this_resolution(rt: HostRuntime) -> Result<(), Fail> {
+    let headers = headers(rt.alloc())?;
+    for (text, wanted) in ROWS {
+        let formula = formula_of(rt.alloc(), text.as_bytes())?;
+        let found = resolution(rt.alloc(), &formula, &headers)?;
+        assert_eq!(rt; found.as_str(), wanted, "of {text}");
+    }
+    Ok(())
+}
+
+// A chain of 16,384 atoms.
+fn chain_text(alloc: Global) -> Result<Vec<u8>, AllocError> {
+    let mut text = repeated(alloc, b"x=1&", 16383)?;
+    text.extend_from_slice(b"x=12")?;
+    Ok(text)
+}
+
+// Parentheses 128 deep, which a chain follows.
+fn nested_text(alloc: Global) -> Result<Vec<u8>, AllocError> {
+    let mut text = repeated(alloc, b"(", 128)?;
+    text.extend_from_slice(b"x=1")?;
+    text.extend_from_slice(&repeated(alloc, b"&x=1)", 128)?)?;
+    text.extend_from_slice(&repeated(alloc, b"&x=1", 16190)?)?;
+    text.extend_from_slice(b"&x=12")?;
+    Ok(text)
+}
+
+#[test]
+fn a_chain_of_65536_bytes_is_resolved(rt: HostRuntime) -> Result<(), Fail> {
+    let text = chain_text(rt.alloc())?;
+    assert_eq!(rt; text.len(), 65536);
+    let formula = formula_of(rt.alloc(), &text)?;
+    let found = resolution(rt.alloc(), &formula, &headers(rt.alloc())?)?;
+    assert_eq!(rt; found.as_str(), "x msd_2");
+    Ok(())
+}
+
+#[test]
+fn a_nested_text_of_65536_bytes_is_resolved(rt: HostRuntime) -> Result<(), Fail> {
+    let text = nested_text(rt.alloc())?;
+    assert_eq!(rt; text.len(), 65536);
+    let formula = formula_of(rt.alloc(), &text)?;
+    let found = resolution(rt.alloc(), &formula, &headers(rt.alloc())?)?;
+    assert_eq!(rt; found.as_str(), "x msd_2");
+    Ok(())
+}
+
+// A name after those before it.
+fn add_name(out: &mut String, mark: &str, name: &Name) -> Result<(), AllocError> {
+    if !out.is_empty() {
+        out.push(' ')?;
+    }
+    out.push_str(mark)?;
+    out.push_str(name.as_str())
+}
+
+// Files in their order, an automaton with `$` before its name.
+fn listed(alloc: Global, files: &[File]) -> Result<String, AllocError> {
+    let mut out = String::new(alloc);
+    for file in files {
+        match file {
+            File::Automaton(name) => add_name(&mut out, "$", name)?,
+            File::Word(name) => add_name(&mut out, "", name)?,
+        }
+    }
+    Ok(out)
+}
+
+// Names in their order.
+fn named(alloc: Global, names: &[Name]) -> Result<String, AllocError> {
+    let mut out = String::new(alloc);
+    for name in names {
+        add_name(&mut out, "", name)?;
+    }
+    Ok(out)
+}
+
+// What a formula mentions.
+fn mentioned(alloc: Global, formula: &Formula) -> Result<Vec<Mention>, Fail> {
+    Ok(mentions(alloc, formula)?)
+}
+
+// The files among what is mentioned, each once.
+fn files_of(alloc: Global, mentioned: &[Mention]) -> Result<String, Fail> {
+    let files = first_files(alloc, mentioned)?;
+    Ok(listed(alloc, &files)?)
+}
+
+// The systems that it names, each once.
+fn systems_of(alloc: Global, mentioned: &[Mention], headers: &Headers) -> Result<String, Fail> {
+    let systems = first_systems(alloc, mentioned, headers)?;
+    Ok(named(alloc, &systems)?)
+}
+
+#[test]
+fn texts_mention_these_files_and_systems(rt: HostRuntime) -> Result<(), Fail> {
+    let headers = headers(rt.alloc())?;
+    for (text, files, systems) in MENTIONS {
+        let formula = formula_of(rt.alloc(), text.as_bytes())?;
+        let found = mentioned(rt.alloc(), &formula)?;
+        let found_files = files_of(rt.alloc(), &found)?;
+        assert_eq!(rt; found_files.as_str(), files, "of {text}");
+        let found_systems = systems_of(rt.alloc(), &found, &headers)?;
+        assert_eq!(rt; found_systems.as_str(), systems, "of {text}");
+    }
+    Ok(())
+}

@@ -1,0 +1,468 @@
+//! Relations on numbers in some bases, against arithmetic.
+
+use crate::headers::names_of;
+use crate::outcomes::{expect, lines_of};
+use crate::row_fault::RowFault;
+use crate::sealed_systems::sealed;
+use digit_tuple::direction::Direction;
+use digit_tuple::name::Name;
+use digit_tuple::names::{are_distinct, find_name};
+use digit_tuple::steps::Steps;
+use num_system::system::System;
+use number_relations::comparison::Comparison;
+use number_relations::complement::complement_step;
+use number_relations::constant::constant_step;
+use number_relations::multiple::{MultipleNames, multiple_steps};
+use number_relations::projection::project_step;
+use number_relations::relation::Relation;
+use std::alloc::Global;
+use std::rc::Rc;
+
+// Some bases, each in both directions.
+static BASES: [(u32, Direction); 6] = [
+    (2, Direction::Msd),
+    (2, Direction::Lsd),
+    (3, Direction::Msd),
+    (3, Direction::Lsd),
+    (10, Direction::Msd),
+    (10, Direction::Lsd),
+];
+
+// A base, sealed.
+#[derive(Drop)]
+struct Shared {
+    base: u32,
+    direction: Direction,
+    system: Rc<System>,
+}
+
+// The base with this number, sealed.
+fn shared_base(alloc: Global, base: u32, direction: Direction) -> Result<Shared, RowFault> {
+    let system = Rc::new(alloc, sealed(alloc, base, direction, 1000)?)?;
+    Ok(Shared {
+        base,
+        direction,
+        system,
+    })
+}
+
+// The letter of the digits of some numbers at the place of this weight.
+fn letter_at(base: u32, weight: u32, numbers: &[u32]) -> u32 {
+    let mut letter: u32 = 0;
+    for number in numbers {
+        let digit = (number / weight.max(1)) % base.max(1);
+        letter = letter.wrapping_mul(base).wrapping_add(digit);
+    }
+    letter
+}
+
+// The word of so many letters that spells numbers with no more digits.
+fn spelled(
+    alloc: Global,
+    shared: &Shared,
+    length: u32,
+    numbers: &[u32],
+) -> Result<Vec<u32>, RowFault> {
+    let mut word = Vec::new(alloc);
+    let mut weight: u32 = 1;
+    for _ in 0..length {
+        word.push(letter_at(shared.base, weight, numbers))?;
+        weight = weight.wrapping_mul(shared.base);
+    }
+    if shared.direction == Direction::Msd {
+        word.reverse();
+    }
+    Ok(word)
+}
+
+// The number of the track of this name.
+fn number_of(name: &str, numbers: [u32; 3]) -> u32 {
+    let [x, y, z] = numbers;
+    match name {
+        "x" => x,
+        "y" => y,
+        _ => z,
+    }
+}
+
+// The numbers of a relation's tracks.
+fn numbers_of(alloc: Global, relation: &Relation, numbers: [u32; 3]) -> Result<Vec<u32>, RowFault> {
+    let mut tuple = Vec::new(alloc);
+    for name in relation.names() {
+        tuple.push(number_of(name.as_str(), numbers))?;
+    }
+    Ok(tuple)
+}
+
+// Whether the relation's automaton accepts the word of so many letters for these numbers.
+fn holds(
+    alloc: Global,
+    shared: &Shared,
+    relation: &Relation,
+    length: u32,
+    numbers: [u32; 3],
+) -> Result<bool, RowFault> {
+    let tuple = numbers_of(alloc, relation, numbers)?;
+    let word = spelled(alloc, shared, length, &tuple)?;
+    Ok(relation.dfa().accepts(&word))
+}
+
+// A relation that is made without a step, under the names x, y and z.
+#[derive(Clone, Copy, Debug)]
+enum Made {
+    Compared(Comparison, &'static str, &'static str),
+    Sum(&'static str, &'static str, &'static str),
+    Number(&'static str),
+    Truth(bool),
+}
+
+// The relation in a base.
+fn made_in(alloc: Global, shared: &Shared, made: Made) -> Result<Relation, RowFault> {
+    match made {
+        Made::Compared(comparison, a, b) => compared(alloc, shared, comparison, a, b),
+        Made::Sum(a, b, c) => sum(alloc, shared, a, b, c),
+        Made::Number(a) => number(alloc, shared, a),
+        Made::Truth(truth) => Ok(Relation::truth(alloc, truth)?),
+    }
+}
+
+// The numbers that compare so.
+fn compared(
+    alloc: Global,
+    shared: &Shared,
+    comparison: Comparison,
+    a: &str,
+    b: &str,
+) -> Result<Relation, RowFault> {
+    let first = Name::new(alloc, a)?;
+    let second = Name::new(alloc, b)?;
+    Ok(Relation::comparison(alloc, &shared.system, comparison, &first, &second)?)
+}
+
+// The numbers of which the third is the sum of the others.
+fn sum(alloc: Global, shared: &Shared, a: &str, b: &str, c: &str) -> Result<Relation, RowFault> {
+    let x = Name::new(alloc, a)?;
+    let y = Name::new(alloc, b)?;
+    let z = Name::new(alloc, c)?;
+    Ok(Relation::sum(alloc, &shared.system, &x, &y, &z)?)
+}
+
+// Any number.
+fn number(alloc: Global, shared: &Shared, a: &str) -> Result<Relation, RowFault> {
+    let name = Name::new(alloc, a)?;
+    Ok(Relation::number(alloc, &shared.system, &name)?)
+}
+
+// Whether two numbers compare so.
+fn compare(comparison: Comparison, a: u32, b: u32) -> bool {
+    match comparison {
+        Comparison::Equal => a == b,
+        Comparison::Unequal => a != b,
+        Comparison::Less => a < b,
+        Comparison::Greater => a > b,
+        Comparison::AtMost => a <= b,
+        Comparison::AtLeast => a >= b,
+    }
+}
+
+// Whether the relation holds, by arithmetic.
+fn is_so(made: Made, numbers: [u32; 3]) -> bool {
+    match made {
+        Made::Compared(comparison, a, b) => {
+            compare(comparison, number_of(a, numbers), number_of(b, numbers))
+        }
+        Made::Sum(a, b, c) => {
+            number_of(a, numbers).wrapping_add(number_of(b, numbers)) == number_of(c, numbers)
+        }
+        Made::Number(_) => true,
+        Made::Truth(truth) => truth,
+    }
+}
+
+// Each comparison under two names in one order and the other, and under one; sums under five patterns of names; a number;
+// and what is true and false.
+static MADE: [Made; 26] = [
+    Made::Compared(Comparison::Equal, "x", "y"),
+    Made::Compared(Comparison::Equal, "y", "x"),
+    Made::Compared(Comparison::Equal, "x", "x"),
+    Made::Compared(Comparison::Unequal, "x", "y"),
+    Made::Compared(Comparison::Unequal, "y", "x"),
+    Made::Compared(Comparison::Unequal, "x", "x"),
+    Made::Compared(Comparison::Less, "x", "y"),
+    Made::Compared(Comparison::Less, "y", "x"),
+    Made::Compared(Comparison::Less, "x", "x"),
+    Made::Compared(Comparison::Greater, "x", "y"),
+    Made::Compared(Comparison::Greater, "y", "x"),
+    Made::Compared(Comparison::Greater, "x", "x"),
+    Made::Compared(Comparison::AtMost, "x", "y"),
+    Made::Compared(Comparison::AtMost, "y", "x"),
+    Made::Compared(Comparison::AtMost, "x", "x"),
+    Made::Compared(Comparison::AtLeast, "x", "y"),
+    Made::Compared(Comparison::AtLeast, "y", "x"),
+    Made::Compared(Comparison::AtLeast, "x", "x"),
+    Made::Sum("x", "y", "z"),
+    Made::Sum("x", "x", "y"),
+    Made::Sum("x", "y", "x"),
+    Made::Sum("y", "x", "x"),
+    Made::Sum("x", "x", "x"),
+    Made::Number("x"),
+    Made::Truth(true),
+    Made::Truth(false),
+];
+
+// Whether the relation holds as arithmetic has it, of all x, y and z below 8.
+fn is_right(alloc: Global, shared: &Shared, made: Made) -> Result<bool, RowFault> {
+    let relation = made_in(alloc, shared, made)?;
+    let mut right = true;
+    for number in 0..512 {
+        let numbers = [number / 64, number / 8 % 8, number % 8];
+        right = right && holds(alloc, shared, &relation, 3, numbers)? == is_so(made, numbers);
+    }
+    Ok(right)
+}
+
+#[test]
+fn relations_hold_of_the_numbers_of_arithmetic(rt: HostRuntime) -> Result<(), RowFault> {
+    for (base, direction) in BASES {
+        let shared = shared_base(rt.alloc(), base, direction)?;
+        for made in MADE {
+            assert!(rt; is_right(rt.alloc(), &shared, made)?, "of {made:?}");
+        }
+    }
+    Ok(())
+}
+
+// A relation that is made of another one, or by a step alone.
+#[derive(Clone, Copy, Debug)]
+enum Changed {
+    Constant(u64, &'static str),
+    Complement(Made),
+    Projected(Made, &'static str),
+    Renamed(Made, &'static str, &'static str),
+}
+
+// The relation in a base.
+fn changed_in(alloc: Global, shared: &Shared, changed: Changed) -> Result<Relation, RowFault> {
+    match changed {
+        Changed::Constant(number, a) => constant(alloc, shared, number, a),
+        Changed::Complement(made) => complement(alloc, &made_in(alloc, shared, made)?),
+        Changed::Projected(made, a) => projected(alloc, &made_in(alloc, shared, made)?, a),
+        Changed::Renamed(made, a, b) => renamed(alloc, &made_in(alloc, shared, made)?, a, b),
+    }
+}
+
+// One number alone.
+fn constant(alloc: Global, shared: &Shared, number: u64, a: &str) -> Result<Relation, RowFault> {
+    let mut steps = Steps::new(alloc, 1000);
+    let name = Name::new(alloc, a)?;
+    Ok(constant_step(alloc, &shared.system, number, &name, &mut steps)?)
+}
+
+// The numbers of which the relation does not hold.
+fn complement(alloc: Global, relation: &Relation) -> Result<Relation, RowFault> {
+    let mut steps = Steps::new(alloc, 1000);
+    Ok(complement_step(alloc, relation, &mut steps)?)
+}
+
+// The relation without a track, if it is there.
+fn projected(alloc: Global, relation: &Relation, a: &str) -> Result<Relation, RowFault> {
+    let mut steps = Steps::new(alloc, 1000);
+    let name = Name::new(alloc, a)?;
+    if find_name(relation.names(), &name).is_some() {
+        Ok(project_step(alloc, relation, &name, &mut steps)?)
+    } else {
+        Err(RowFault::Form)
+    }
+}
+
+// The relation with a track under a name that no track has.
+fn renamed(alloc: Global, relation: &Relation, a: &str, b: &str) -> Result<Relation, RowFault> {
+    let from = Name::new(alloc, a)?;
+    let to = Name::new(alloc, b)?;
+    if find_name(relation.names(), &to).is_none() {
+        Ok(relation.renamed(alloc, &from, &to)?)
+    } else {
+        Err(RowFault::Form)
+    }
+}
+
+// The numbers with one of them changed.
+fn with_number(name: &str, number: u32, numbers: [u32; 3]) -> [u32; 3] {
+    let [x, y, z] = numbers;
+    match name {
+        "x" => [number, y, z],
+        "y" => [x, number, z],
+        _ => [x, y, number],
+    }
+}
+
+// Whether the relation holds with some number below 16 on a track, by arithmetic.
+fn is_so_of_some(made: Made, name: &str, numbers: [u32; 3]) -> bool {
+    let mut found = false;
+    for number in 0..16 {
+        found = found || is_so(made, with_number(name, number, numbers));
+    }
+    found
+}
+
+// Whether the relation holds, by arithmetic.
+fn is_changed_so(changed: Changed, numbers: [u32; 3]) -> bool {
+    match changed {
+        Changed::Constant(number, a) => u64::from(number_of(a, numbers)) == number,
+        Changed::Complement(made) => !is_so(made, numbers),
+        Changed::Projected(made, a) => is_so_of_some(made, a, numbers),
+        Changed::Renamed(made, a, b) => is_so(made, with_number(a, number_of(b, numbers), numbers)),
+    }
+}
+
+// Single numbers; complements; projections, for whose numbers below 8 there is a number below 16 on the track that is
+// dropped, if there is one; tracks under other names.
+static CHANGED: [Changed; 13] = [
+    Changed::Constant(0, "x"),
+    Changed::Constant(5, "y"),
+    Changed::Constant(8, "x"),
+    Changed::Complement(Made::Compared(Comparison::Less, "x", "y")),
+    Changed::Complement(Made::Sum("x", "y", "z")),
+    Changed::Complement(Made::Truth(true)),
+    Changed::Projected(Made::Sum("x", "y", "z"), "z"),
+    Changed::Projected(Made::Sum("x", "y", "z"), "x"),
+    Changed::Projected(Made::Sum("y", "y", "x"), "y"),
+    Changed::Projected(Made::Compared(Comparison::Less, "x", "y"), "x"),
+    Changed::Projected(Made::Compared(Comparison::Unequal, "x", "x"), "x"),
+    Changed::Renamed(Made::Compared(Comparison::Less, "x", "y"), "x", "z"),
+    Changed::Renamed(Made::Sum("x", "y", "y"), "z", "a"),
+];
+
+// Whether the relation holds as arithmetic has it, of all x, y and z below 8.
+fn is_changed_right(alloc: Global, shared: &Shared, changed: Changed) -> Result<bool, RowFault> {
+    let relation = changed_in(alloc, shared, changed)?;
+    let mut right = true;
+    for number in 0..512 {
+        let numbers = [number / 64, number / 8 % 8, number % 8];
+        let found = holds(alloc, shared, &relation, 4, numbers)?;
+        right = right && found == is_changed_so(changed, numbers);
+    }
+    Ok(right)
+}
+
+#[test]
+fn changed_relations_hold_of_the_numbers_of_arithmetic(rt: HostRuntime) -> Result<(), RowFault> {
+    for (base, direction) in BASES {
+        let shared = shared_base(rt.alloc(), base, direction)?;
+        for changed in CHANGED {
+            assert!(rt;
+                is_changed_right(rt.alloc(), &shared, changed)?,
+                "of {changed:?}"
+            );
+        }
+    }
+    Ok(())
+}
+
+// Whether the relation is true, if it has no track.
+fn verdict(alloc: Global, made: Made) -> Result<Option<bool>, RowFault> {
+    let shared = shared_base(alloc, 2, Direction::Msd)?;
+    Ok(made_in(alloc, &shared, made)?.verdict())
+}
+
+// Relations, and whether they are true, if they have no track.
+static VERDICTS: [(Made, Option<bool>); 3] = [
+    (Made::Truth(true), Some(true)),
+    (Made::Truth(false), Some(false)),
+    (Made::Number("x"), None),
+];
+
+#[test]
+fn sentences_are_true_or_false(rt: HostRuntime) -> Result<(), RowFault> {
+    for (made, wanted) in VERDICTS {
+        assert_eq!(rt; verdict(rt.alloc(), made)?, wanted, "of {made:?}");
+    }
+    Ok(())
+}
+
+// The relation that y is so many times x, by the next steps.
+fn multiple(
+    alloc: Global,
+    shared: &Shared,
+    factor: u64,
+    steps: &mut Steps,
+) -> Result<Relation, RowFault> {
+    let names = names_of(alloc, &["x", "y", "z"])?;
+    match names.as_slice() {
+        [number, multiple, between] if are_distinct(&names) => {
+            let names = MultipleNames {
+                number,
+                multiple,
+                between,
+            };
+            Ok(multiple_steps(alloc, &shared.system, factor, names, steps)?)
+        }
+        _ => Err(RowFault::Form),
+    }
+}
+
+// Whether the multiple of a number alone is told, of some numbers and of its multiple.
+fn is_multiple_of(
+    alloc: Global,
+    shared: &Shared,
+    relation: &Relation,
+    factor: u32,
+    x: u32,
+) -> Result<bool, RowFault> {
+    let multiple = factor.wrapping_mul(x);
+    let mut right = holds(alloc, shared, relation, 13, [x, multiple, 0])?;
+    for y in 0..41 {
+        right = right && holds(alloc, shared, relation, 13, [x, y, 0])? == (y == multiple);
+    }
+    Ok(right)
+}
+
+// Whether it is, of all numbers up to 40.
+fn multiplies(alloc: Global, shared: &Shared, factor: u32) -> Result<bool, RowFault> {
+    let mut steps = Steps::new(alloc, 100_000);
+    let relation = multiple(alloc, shared, u64::from(factor), &mut steps)?;
+    let mut right = true;
+    for x in 0..41 {
+        right = right && is_multiple_of(alloc, shared, &relation, factor, x)?;
+    }
+    Ok(right)
+}
+
+#[test]
+fn multiples_are_those_of_multiplication(rt: HostRuntime) -> Result<(), RowFault> {
+    for direction in [Direction::Msd, Direction::Lsd] {
+        let shared = shared_base(rt.alloc(), 2, direction)?;
+        for factor in 0..=100 {
+            assert!(rt; multiplies(rt.alloc(), &shared, factor)?, "by {factor}");
+        }
+    }
+    Ok(())
+}
+
+// The lines of the steps of a multiple in base 2.
+fn multiple_lines(alloc: Global, factor: u64) -> Result<String, RowFault> {
+    let shared = shared_base(alloc, 2, Direction::Msd)?;
+    let mut steps = Steps::new(alloc, 1000);
+    multiple(alloc, &shared, factor, &mut steps)?;
+    lines_of(alloc, &steps)
+}
+
+// Factors, and the steps that make their multiples.
+static MULTIPLES: [(u64, &str, &str); 4] = [
+    (1, "1*x", ""),
+    (2, "2*x", ""),
+    (3, "3*x", "product 9 4, project 4 3, "),
+    (
+        7,
+        "7*x",
+        "product 9 4, project 4 3, product 12 6, project 7 6, product 21 12, project 8 7, ",
+    ),
+];
+
+#[test]
+fn multiples_have_these_steps(rt: HostRuntime) -> Result<(), RowFault> {
+    for (factor, row, wanted) in MULTIPLES {
+        expect(&rt, row, &multiple_lines(rt.alloc(), factor)?, wanted);
+    }
+    Ok(())
+}
