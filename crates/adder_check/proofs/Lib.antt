@@ -16,3 +16,12 @@ pub mod PlanLemmas
 pub mod AdderLemmas
 pub mod SameHolds
 pub mod ZeroSumLemmas
+pub mod NextSumSizes
+pub mod NextSumLemmas
+pub mod SureAdders
+pub mod FileSystems
+pub mod FileAdders
+pub mod FileUsers
+pub mod OneAnswers
+pub mod OneSteps
+pub mod OneAdmission

@@ -5,6 +5,7 @@ use Rattle.digit_tuple.specs.Names.{names_without}
 use Rattle.digit_tuple.specs.Steps.{StepLog}
 use Rattle.digit_tuple.specs.declared.direction.Direction.{Direction}
 use Rattle.digit_tuple.specs.declared.step_fault.StepFault.{StepFault}
+use Rattle.minimise.specs.Canonical.{IsCanonical}
 use Rattle.minimise.specs.Tracked.{NamedAutomaton}
 use Rattle.automaton_steps.specs.ProjectSteps.{DoesProject}
 use Rattle.number_order.specs.Orders.{pair_sizes}
@@ -12,6 +13,7 @@ use Rattle.num_system.specs.Operations.{IsProjection}
 use Rattle.num_system.specs.SuccessorSteps.{IsChain, name_u, name_x, name_y}
 use Rattle.num_system.proofs.StepLemmas.{staying_sizes_are}
 use Rattle.num_system.proofs.SuccessorLemmas.{chain_sizes_are}
+use Rattle.adder_check.specs.SuccessorPlan.{DoesNext}
 
 -- an automaton on pairs has two tracks of one size
 pub two_of : (language less : Automaton) → length language.sizes ≡ 1 → less.sizes ≡ pair_sizes language → (d : ℕ) × (less.sizes ≡ d ∷ d ∷ [])
@@ -34,3 +36,8 @@ module _ (way : Direction) (less : Automaton) (chain between : NamedAutomaton) (
 
   pub between_sizes : between.automaton.sizes ≡ less.sizes
   between_sizes = made.sizes ∙ staying_sizes_are chain d is.names (is.sizes ∙ chain_sizes_are less d sizes) ∙ sym sizes
+
+-- the last step of the successor makes a canonical automaton
+pub next_canonical : (old new : StepLog) (less : Automaton) (between : NamedAutomaton) (r : Result Automaton StepFault) → DoesNext less between old r new → IfOk r IsCanonical
+next_canonical old new less between (Ok next) done = done.step.join.canonical
+next_canonical old new less between (Err e) done = tt

@@ -1,5 +1,5 @@
 -- The sums of numbers with 0, and the law of zero.
-use Rattle.std.proofs.Common.{◌≡◌, ℕ, max, Bool, List, [], ◌∷◌, length, get_or, ◌↔◌, IsTrue, refl, sym, ap, ◌∙◌, subst, arith}
+use Rattle.std.proofs.Common.{◌≡◌, ℕ, max, Bool, List, [], ◌∷◌, ◌++◌, length, get_or, ◌↔◌, IsTrue, refl, sym, ap, ◌∙◌, subst, arith}
 use Rattle.std.proofs.lemmas.Bool.{false≢true}
 use Rattle.digit_tuple.specs.Parts.{picked}
 use Rattle.digit_tuple.specs.Deterministic.{Automaton}
@@ -8,9 +8,11 @@ use Rattle.minimise.specs.Residuals.{SameLanguage}
 use Rattle.minimise.specs.Tracked.{NamedAutomaton}
 use Rattle.product_op.specs.declared.op.Op.TheVariants.{And}
 use Rattle.product_op.specs.Tracks.{joint_sizes}
+use Rattle.project_close.specs.StayingTracks.{staying_sizes}
 use Rattle.numeration.specs.Systems.{System, IsSystem}
 use Rattle.numeration.specs.Relations.{HoldsOf, IsZero, IsZeroOf, IsEqual, IsEqualityOf}
 use Rattle.numeration.specs.SomeTracks.{completed}
+use Rattle.number_order.specs.Orders.{pair_sizes}
 use Rattle.num_system.specs.Joined.{joined}
 use Rattle.num_system.specs.Links.{Passes}
 use Rattle.num_system.specs.Operations.{IsProjection}
@@ -74,6 +76,17 @@ zero_sums_hold way s test a b c sums zero system adds nothing names is join made
     subst (λ (n : NamedAutomaton). IsJoin And [] n (on_y zero) c) (under_names a adder_names names) (subst (λ (n : NamedAutomaton). IsJoin And [] a n c) is join) in
     sums_from way s system test a.automaton zero adds nothing c.automaton sums (with_zero way s system test a.automaton zero adds nothing c here)
     (subst (λ (n : NamedAutomaton). IsProjection way n name_y sums) (under_names c adder_names here.names) made)
+
+-- and their tracks
+pub zero_sums_sizes : (way : Direction) (a b c sums : NamedAutomaton) (zero : Automaton) (d : ℕ) → a.automaton.sizes ≡ d ∷ d ∷ d ∷ [] → zero.sizes ≡ d ∷ [] → a.names ≡ adder_names → b ≡ on_y zero → IsJoin And [] a b c
+    → IsProjection way c name_y sums → sums.automaton.sizes ≡ pair_sizes zero
+zero_sums_sizes way a b c sums zero d three one names is join made =
+    let here : IsJoin And [] (record { names = adder_names; automaton = a.automaton }) (on_y zero) c =
+    subst (λ (n : NamedAutomaton). IsJoin And [] n (on_y zero) c) (under_names a adder_names names) (subst (λ (n : NamedAutomaton). IsJoin And [] a n c) is join) in
+    made.sizes
+    ∙ ap (λ (n : NamedAutomaton). staying_sizes n name_y) (under_names c adder_names here.names)
+    ∙ ap (λ (ns : List ℕ). picked (0 ∷ 2 ∷ []) ns) (here.sizes ∙ zero_sizes a.automaton zero d three one)
+    ∙ sym (ap (λ (ns : List ℕ). ns ++ ns) one)
 
 -- pairs tell their numbers
 pair_first : (x z y w : ℕ) → x ∷ z ∷ [] ≡ y ∷ w ∷ [] → x ≡ y

@@ -1,5 +1,5 @@
 -- The laws that make a language that of a numeration system.
-use Rattle.std.specs.Prelude.{◌≡◌, ℕ, ◌<◌, Bool, List, [], ◌∷◌, length, IsTrue, ◌↔◌}
+use Rattle.std.specs.Prelude.{◌≡◌, ℕ, ◌<◌, Bool, List, [], ◌∷◌, length, slice_index_or, IsTrue, ◌↔◌}
 use Rattle.digit_tuple.specs.Deterministic.{Automaton, IsTable, letters_of, accepts_of}
 use Rattle.digit_tuple.specs.Paddings.{in_order}
 use Rattle.digit_tuple.specs.declared.direction.Direction.{Direction}
@@ -22,6 +22,10 @@ IsEndless test = (n : ℕ) → (w : List ℕ) × (n < length w) × IsTrue (test 
 -- the system of an automaton over so many digits
 abbrev pub system_in : Direction → ℕ → Automaton → System
 system_in way digits d = record { digits = digits; test = language_in way d }
+
+-- the system whose words an automaton of one track accepts
+abbrev pub system_of : Direction → Automaton → System
+system_of way d = system_in way (slice_index_or d.sizes 0 0) d
 
 -- both laws hold exactly where the language of the automaton is that of a numeration system
 abbrev pub LawsTellSystems : Type 0

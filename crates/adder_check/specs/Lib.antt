@@ -8,3 +8,7 @@ pub mod LanguageSteps
 pub mod SuccessorPlan
 pub mod AdderRelation
 pub mod ZeroSums
+pub mod NextSums
+pub mod SureSystems
+pub mod Admission
+pub mod OneAnswer

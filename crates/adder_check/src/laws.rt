@@ -1,6 +1,8 @@
 //! Laws of the definitions, each a call that does nothing.
 
 ghost use Rattle.adder_check.specs.AdderLaws.{LawsTellAddition};
+ghost use Rattle.adder_check.specs.Admission.{FaultsExclude};
+ghost use Rattle.adder_check.specs.OneAnswer.{AdmissionHasOneAnswer};
 ghost use Rattle.adder_check.specs.LanguageLaws.{LawsTellSystems};
 
 /// A relation of three numbers is addition exactly where it meets the laws of zero and of the successor.
@@ -12,4 +14,15 @@ pub fn laws_tell_addition()
 /// and it has no end.
 pub fn laws_tell_systems()
     ensures { LawsTellSystems }
+{}
+
+/// Where a law does not hold of a system or its adder, the two are not a numeration system and its
+/// addition.
+pub fn faults_exclude()
+    ensures { FaultsExclude }
+{}
+
+/// What admission answers is one, with the same steps and lines, unless memory runs out.
+pub fn admission_has_one_answer()
+    ensures { AdmissionHasOneAnswer }
 {}

@@ -40,6 +40,7 @@ pub fn successor_steps(
     requires track { length language.now.sizes ≡ 1 }
     requires canonical { IsCanonical language.now }
     ensures steps { DoesSuccessor direction language.now steps.old result steps.new }
+    ensures canonical { IfOk result (λ next. IsCanonical next) }
     ensures successor { IfOk result (λ next. (s : System) → IsSystem s → IsLanguageOf direction s language.now → IsSuccessorOf direction s next) }
 {
     let less = order_step(alloc, language, direction, steps)?;

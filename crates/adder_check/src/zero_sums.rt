@@ -2,8 +2,10 @@
 
 ghost use Rattle.std.specs.Prelude.{◌≡◌, ◌∷◌, ◌↔◌, [], ℕ, Bool, List, IsTrue, IfOk};
 ghost use Rattle.minimise.specs.Canonical.{IsCanonical};
+ghost use Rattle.minimise.specs.Residuals.{SameLanguage};
 ghost use Rattle.numeration.specs.Relations.{HoldsOf, IsZeroOf, IsEqualityOf};
 ghost use Rattle.numeration.specs.Systems.{System, IsSystem};
+ghost use Rattle.number_order.specs.Orders.{pair_sizes};
 ghost use Rattle.digit_tuple.specs.declared.direction.Direction.{Direction};
 ghost use Rattle.num_system.specs.Links.{Passes};
 ghost use Rattle.adder_check.specs.AdderLaws.{ZeroLaw};
@@ -40,6 +42,7 @@ pub fn zero_sums(
     requires tracks { (digits : ℕ) × (adder.now.automaton.sizes ≡ digits ∷ digits ∷ digits ∷ []) × (zero.now.sizes ≡ digits ∷ []) }
     requires canonical { IsCanonical zero.now }
     ensures steps { DoesZeroSums direction adder.now zero.now steps.old result steps.new }
+    ensures sizes { IfOk result (λ sums. sums.automaton.sizes ≡ pair_sizes zero.now) }
     ensures sums { IfOk result (λ sums. (s : System) (test : List ℕ → Bool) → IsSystem s → HoldsOf direction (three_of s) (Passes test) adder.now.automaton → IsZeroOf direction s zero.now → HoldsOf direction (s ∷ s ∷ []) (IsZeroSum test) sums.automaton) }
 {
     let y = Name::new(alloc, "y")?;
@@ -68,7 +71,8 @@ fn on_y(alloc: Global, zero: &Dfa) -> Result<Tracked, OutOfMemory>
 pub fn keeps_zero_law(sums: &Tracked, equal: &Dfa) -> bool
     requires canonical { IsCanonical equal.now }
     requires sizes { sums.now.automaton.sizes ≡ equal.now.sizes }
-    ensures { (direction : Direction) (s : System) (test : List ℕ → Bool) → IsSystem s → HoldsOf direction (s ∷ s ∷ []) (IsZeroSum test) sums.now.automaton → IsEqualityOf direction s equal.now
+    ensures same { IsTrue result ↔ SameLanguage sums.now.automaton equal.now }
+    ensures law { (direction : Direction) (s : System) (test : List ℕ → Bool) → IsSystem s → HoldsOf direction (s ∷ s ∷ []) (IsZeroSum test) sums.now.automaton → IsEqualityOf direction s equal.now
         → IsTrue result ↔ ZeroLaw (λ x y z. IsTrue (test (x ∷ y ∷ z ∷ []))) }
 {
     same(sums.dfa(), equal)

@@ -28,10 +28,11 @@ use Rattle.formula_resolve.specs.declared.direction.Turn.{Turn}
 use Rattle.formula_resolve.specs.declared.occurrence.Occurrence.{Occurrence}
 use Rattle.formula_build.specs.TrackSystems.{TrackSystems, with_system, IsOver}
 use Rattle.formula_build.specs.Resolved.{plan_headers, HaveOneWay, AreWays}
+use Rattle.formula_build.proofs.AllLemmas.{all_first, all_second}
 use Rattle.formula_build.proofs.HasLemmas.{has_cases, has_either}
 use Rattle.formula_build.proofs.PartLemmas.{all_closed}
 use Rattle.formula_build.proofs.OverLemmas.{each_among, with_own, over_depends, Only, only_projected, OnlyOf, Faces}
-use Rattle.formula_build.proofs.TermOverLemmas.{IsOwn, IsStood, track_on, value_over, all_first, all_second, Occurs, term_stands}
+use Rattle.formula_build.proofs.TermOverLemmas.{IsOwn, IsStood, track_on, value_over, Occurs, term_stands}
 use Rattle.formula_build.proofs.PlaceOverLemmas.{on_by, OccursAnywhere, count_same, are_only_more, OrPlaced, only_all_closed, over_all_closed, term_only, arguments_only, same_systems, parted, parted_below, parted_above, systems_exist, FaceOneWay, constant_on, AreArguments, arguments_over}
 
 -- where no option is there, neither of both is

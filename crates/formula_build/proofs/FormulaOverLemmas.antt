@@ -23,9 +23,10 @@ use Rattle.formula_resolve.specs.declared.mention.Mention.{Mention}
 use Rattle.formula_resolve.specs.declared.occurrence.Occurrence.{Occurrence}
 use Rattle.formula_build.specs.TrackSystems.{TrackSystems, IsOver}
 use Rattle.formula_build.specs.Resolved.{plan_headers, AreWays, or_none, system_under, systems_of}
+use Rattle.formula_build.proofs.AllLemmas.{all_first, all_second}
 use Rattle.formula_build.proofs.HasLemmas.{stays_apart}
 use Rattle.formula_build.proofs.OverLemmas.{over_depends, over_projected, Only, only_more, only_joined, Faces, over_joined}
-use Rattle.formula_build.proofs.TermOverLemmas.{IsOwn, all_first, all_second}
+use Rattle.formula_build.proofs.TermOverLemmas.{IsOwn}
 use Rattle.formula_build.proofs.PlaceOverLemmas.{on_by, OccursAnywhere}
 use Rattle.formula_build.proofs.FactOverLemmas.{neither, fact_only, fact_over}
 use Rattle.formula_build.proofs.ResolvedLemmas.{Agrees, all_agree, agreed_system, all_kept, FaceAll, no_turn}

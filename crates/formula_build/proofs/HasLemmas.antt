@@ -7,11 +7,11 @@ use Rattle.formula_plan.specs.Tracks.{Track, same_track, has_track, without}
 use Rattle.formula_plan.proofs.TrackLemmas.{same_self, same_is}
 use Rattle.formula_build.specs.TrackNames.{track_name}
 
-or_left : (p q : Bool) → p ≡ true → (p || q) ≡ true
+pub or_left : (p q : Bool) → p ≡ true → (p || q) ≡ true
 or_left true q is = refl
 or_left false q is = absurd (false≢true is)
 
-or_right : (p q : Bool) → q ≡ true → (p || q) ≡ true
+pub or_right : (p q : Bool) → q ≡ true → (p || q) ≡ true
 or_right true q is = refl
 or_right false q is = is
 

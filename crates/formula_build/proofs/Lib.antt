@@ -1,4 +1,5 @@
 pub mod OneMadeLemmas
+pub mod AllLemmas
 pub mod HasLemmas
 pub mod TrackNameLemmas
 pub mod HoldLemmas
@@ -20,4 +21,11 @@ pub mod FormulaOverLemmas
 pub mod KnownLemmas
 pub mod ResolvedReady
 pub mod ParsedNames
+pub mod ReadFormulas
+pub mod NameOrderLemmas
+pub mod OccurringLemmas
 pub mod SolutionLemmas
+pub mod VariableTrackLemmas
+pub mod LargerLibrary
+pub mod StepOutcomeLemmas
+pub mod OneBuildingLemmas

@@ -46,7 +46,8 @@ relation_there (n ∷ rs) name r all is = by (bytes_eq n.name name) refl (relati
 pub relation_is : (l : LibraryValue) (name : List ℕ) (r : RelationValue) → IsLibrary l → IsRelationIn l name r → IsRelation r
 relation_is l name r library is = relation_there l.relations name r library.relations is
 
-one_system : (l : LibraryValue) (name : List ℕ) (s t : SystemValue) → IsSystemIn l name s → IsSystemIn l name t → t ≡ s
+-- a name stands for one system
+pub one_system : (l : LibraryValue) (name : List ℕ) (s t : SystemValue) → IsSystemIn l name s → IsSystemIn l name t → t ≡ s
 one_system l name s t first second = same_Some t s (sym second ∙ first)
 
 -- two relations that hold of one number alone are the same

@@ -12,15 +12,17 @@ use Rattle.formula_plan.specs.PlanLists.{IsPlanOf}
 use Rattle.number_relations.specs.Relations.{RelationValue, RelationHolds}
 use Rattle.number_relations.specs.Placed.{IsOrdered, systems_under}
 use Rattle.number_relations.proofs.NamedSteps.{own_named}
+use Rattle.formula_build.specs.KnownNames.{AreKnownIn}
 use Rattle.formula_build.specs.Libraries.{LibraryValue, IsLibrary}
 use Rattle.formula_build.specs.Makings.{Makes, IsReady}
 use Rattle.formula_build.specs.Parts.{AreParts}
 use Rattle.formula_build.specs.Resolved.{AreWays, plan_headers, systems_of}
 use Rattle.formula_build.specs.Solutions.{IsFormed, IsResolved, IsSolution, formula_plan, way_named}
 use Rattle.formula_build.specs.TrackNames.{AreNamed}
-use Rattle.formula_build.specs.TrackSystems.{Fits, IsKnown}
+use Rattle.formula_build.specs.TrackSystems.{Fits, IsKnown, IsOver}
 use Rattle.formula_build.proofs.FormulaLemmas.{formulas_hold}
 use Rattle.formula_build.proofs.FormulaOverLemmas.{over_plans}
+use Rattle.formula_build.proofs.KnownLemmas.{known_plans}
 use Rattle.formula_build.proofs.NamedLemmas.{named_plans}
 use Rattle.formula_build.proofs.PartLemmas.{steps_are_parts}
 use Rattle.formula_build.proofs.TrackSystemLemmas.{over_ready}
@@ -32,15 +34,20 @@ listed_parts plans last h f is =
     (subst (AreParts (formula_plan h f).steps) (sym is.last_is) (steps_are_parts (plan_headers h) f 0))
 
 module _ (l : LibraryValue) (h : Headers) (f : Formula) (library : IsLibrary l) (formed : IsFormed f) (ways : AreWays h way_named) (resolved : IsResolved h f) (few : (formula_plan h f).next ≤ 2 ^ 64)
-    (fits : Fits l (plan_headers h) way_named) (known : IsKnown l (formula_plan h f).last) where
-  named : AreNamed (formula_plan h f).last
+    (fits : Fits l (plan_headers h) way_named) (known : AreKnownIn l f) where
+  pub named : AreNamed (formula_plan h f).last
   named = named_plans (plan_headers h) f 0 formed.1 few
+
+  pub known_plan : IsKnown l (formula_plan h f).last
+  known_plan = known_plans l h way_named fits f 0 resolved.arity known
+
+  pub over : IsOver (plan_headers h) way_named (systems_of (all_occurrences h f)) (formula_plan h f).last
+  over = over_plans h way_named ways f 0 resolved.arity resolved.clash resolved.turn
 
   -- the plan can be made
   pub plan_ready : IsReady l (formula_plan h f).last
   plan_ready =
-      over_ready l (plan_headers h) way_named fits library (formula_plan h f).last (systems_of (all_occurrences h f)) named known
-      (over_plans h way_named ways f 0 resolved.arity resolved.clash resolved.turn)
+      over_ready l (plan_headers h) way_named fits library (formula_plan h f).last (systems_of (all_occurrences h f)) named known_plan over
 
   -- and what it makes is the solution, once its tracks are in order
   pub made_solution : (c r : RelationValue) → Makes l (formula_plan h f).last c → IsOrdered c r → IsSolution l f r

@@ -14,6 +14,7 @@ use Rattle.formula_plan.proofs.TrackLemmas.{fresh_apart}
 use Rattle.formula_resolve.specs.Occurrences.{Binders, term_occurrences, factor_occurrences, addend_occurrences}
 use Rattle.formula_resolve.specs.declared.occurrence.Occurrence.{Occurrence}
 use Rattle.formula_build.specs.TrackSystems.{TrackSystems, IsOver}
+use Rattle.formula_build.proofs.AllLemmas.{all_first, all_second}
 use Rattle.formula_build.proofs.HasLemmas.{first_is, later_is, has_second, other_track_stays}
 use Rattle.formula_build.proofs.GrowthLemmas.{times_up}
 use Rattle.formula_build.proofs.OverLemmas.{each_among, over_projected, Only, OrIs, only_more, only_linked, OnlyOf, only_closed, has_closed, Faces, one_direction, OverOf, over_joined, over_closed, faces_closed}
@@ -274,15 +275,6 @@ module _ (h : Headers) (way : Name → Direction) (on : TrackSystems) (s : Name)
   begun_stands (Some plan) cs k stood = numerals_stand (plan k) cs k (stood k)
   begun_stands None [] k stood = numeral_stands 1 k
   begun_stands None (c ∷ cs) k stood = numerals_stand (numeral_plan s c k) cs k (numeral_stands c k)
-
--- of all occurrences in two parts those of each
-pub all_first : {X : Type 0} (P : X → Type 0) (xs ys : List X) → AllByRecursion P (xs ++ ys) → AllByRecursion P xs
-all_first P [] ys all = tt
-all_first P (x ∷ xs) ys all = (all.0, all_first P xs ys all.1)
-
-pub all_second : {X : Type 0} (P : X → Type 0) (xs ys : List X) → AllByRecursion P (xs ++ ys) → AllByRecursion P ys
-all_second P [] ys all = all
-all_second P (x ∷ xs) ys all = all_second P xs ys all.1
 
 -- the variables of a term over a system whose occurrences are Q
 abbrev pub Occurs : (Occurrence → Type 0) → Name → Binders → Name → Type 0

@@ -429,7 +429,7 @@ module _ (l : LibraryValue) (h : Headers) (way : Name → Direction) (fits : Fit
     )
 
     -- and what it makes has its tracks
-    over_tracks : (p : Plan) (on : TrackSystems) (c : RelationValue) → AreNamed p → IsKnown l p → IsOver h way on p → Makes l p c → HasTracks l on (tracks p) c
+    pub over_tracks : (p : Plan) (on : TrackSystems) (c : RelationValue) → AreNamed p → IsKnown l p → IsOver h way on p → Makes l p c → HasTracks l on (tracks p) c
     over_tracks (compared y r s t) on c named known over (system, is, made) =
         tracks_over_one l on (s ∷ t ∷ []) (compared_names (comparison_of r) (track_name s) (track_name t)) c made.names_are (compared_there r s t) (compared_only r s t) y system is made.systems_are
         (two_over on y s t over.0 over.1)

@@ -2,9 +2,20 @@
 use Rattle.std.specs.Prelude.{⊤}
 use Rattle.formula_parse.specs.Tokens.{Name}
 use Rattle.formula_parse.specs.Trees.{Fact, compare, words, word_letter, letter_word, call, Formula, atom, negated, chain, quantified, marked, Operands, no_operands, operands}
+use Rattle.formula_resolve.specs.declared.file.File.{File}
+use Rattle.formula_resolve.specs.declared.file.File.TheVariants.{Automaton, Word}
 use Rattle.num_system.specs.Sealed.{SystemValue}
 use Rattle.number_relations.specs.Relations.{RelationValue}
 use Rattle.formula_build.specs.Libraries.{LibraryValue, IsRelationIn, IsSystemIn}
+
+-- the file is an automaton that stands for a relation
+abbrev pub IsFileIn : LibraryValue → File → Type 0
+IsFileIn l (Automaton n) = (r : RelationValue) × IsRelationIn l n r
+IsFileIn l (Word n) = ⊥
+
+-- the name stands for a system
+abbrev pub HasSystem : LibraryValue → Name → Type 0
+HasSystem l y = (s : SystemValue) × IsSystemIn l y s
 
 -- what an atom of a system says
 abbrev pub IsKnownFact : LibraryValue → Name → Fact → Type 0

@@ -12,4 +12,6 @@ pub mod KnownNames
 pub mod MadeOf
 pub mod Laws
 pub mod Solutions
+pub mod VariableTracks
+pub mod OneBuilding
 pub mod ResolvedViews

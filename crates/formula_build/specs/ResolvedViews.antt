@@ -1,9 +1,11 @@
 -- How a resolved formula is seen. Nobody has to believe this: it serves the contracts of functions.
-use Rattle.std.specs.Prelude.{◌<◌, ◌^◌, List}
+use Rattle.std.specs.Prelude.{◌≡◌, ◌<◌, ◌^◌, List}
 use Rattle.formula_parse.specs.Trees.{Formula}
 use Rattle.formula_parse.specs.Views.{formula_view}
 use Rattle.formula_plan.specs.PlanLists.{IsPlanOf}
 use Rattle.formula_resolve.specs.Headers.{Headers}
+use Rattle.formula_resolve.specs.Occurrences.{all_occurrences}
+use Rattle.formula_resolve.specs.FreeVariables.{free_variables}
 use Rattle.formula_build.specs.Libraries.{LibraryValue, NamedRelation}
 use Rattle.formula_build.specs.Solutions.{IsFormed, IsResolved, formula_plan, way_named}
 use Rattle.formula_build.specs.Resolved.{AreWays}
@@ -16,11 +18,12 @@ formula_of r = formula_view r.formula.now
 abbrev pub headers_in : Resolved → Headers
 headers_in r = r.names.now.headers
 
--- the formula has a resolution, and this is its plan
+-- the formula has a resolution, and these are its free variables and its plan
 pub record IsPlanned (r : Resolved) : Type 0 where
   pub formed : IsFormed (formula_of r)
   pub ways : AreWays (headers_in r) way_named
   pub resolved : IsResolved (headers_in r) (formula_of r)
+  pub variables : r.variables.items ≡ free_variables (all_occurrences (headers_in r) (formula_of r))
   pub plan : IsPlanOf r.plan.plans r.plan.last (formula_plan (headers_in r) (formula_of r))
   pub few : (formula_plan (headers_in r) (formula_of r)).next < 2 ^ 64
 

@@ -1,10 +1,12 @@
 //! Formulas built.
 
 ghost use Rattle.std.specs.Prelude.{IfOk};
+ghost use Rattle.formula_build.specs.KnownNames.{AreKnownIn};
 ghost use Rattle.formula_build.specs.Resolved.{plan_headers};
 ghost use Rattle.formula_build.specs.ResolvedViews.{IsPlanned, formula_of, headers_in, library_of};
 ghost use Rattle.formula_build.specs.Solutions.{BuildsFormula, IsSolution, formula_plan, way_named};
-ghost use Rattle.formula_build.specs.TrackSystems.{Fits, IsKnown};
+ghost use Rattle.formula_build.specs.TrackSystems.{Fits};
+ghost use Rattle.formula_build.specs.VariableTracks.{IsOverVariables};
 
 use crate::known::Known;
 use crate::library::Library;
@@ -15,8 +17,8 @@ use digit_tuple::steps::Steps;
 use number_relations::relation::Relation;
 use std::alloc::Global;
 
-/// The relation that holds of the numbers for which a resolved formula is true, its tracks in byte order
-/// of the names of its free variables; of a sentence a relation without tracks, whose verdict is its truth.
+/// The relation that holds of the numbers for which a resolved formula is true. Its tracks are the free
+/// variables, in their order, each over its system; of a sentence there are none, and the verdict is its truth.
 /// It is made by the steps of the formula's plan. Each name of the formula stands for something: systems
 /// have the directions of their names, and relations stand over the systems of their headers.
 ///
@@ -31,8 +33,9 @@ pub fn build(
 ) -> Result<Relation, StepFault>
     requires planned { IsPlanned resolved.now }
     requires fits { Fits (library_of resolved.now read.now) (plan_headers (headers_in resolved.now)) way_named }
-    requires known { IsKnown (library_of resolved.now read.now) (formula_plan (headers_in resolved.now) (formula_of resolved.now)).last }
+    requires known { AreKnownIn (library_of resolved.now read.now) (formula_of resolved.now) }
     ensures steps { BuildsFormula steps.old (library_of resolved.now read.now) (formula_plan (headers_in resolved.now) (formula_of resolved.now)) result steps.new }
+    ensures tracks { IfOk result (IsOverVariables (library_of resolved.now read.now) resolved.now.variables.items) }
     ensures solution { IfOk result (IsSolution (library_of resolved.now read.now) (formula_of resolved.now)) }
 {
     read.are_relations();

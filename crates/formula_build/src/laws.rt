@@ -1,6 +1,7 @@
 //! Laws of what plans make, each a call that does nothing.
 
 ghost use Rattle.formula_build.specs.Laws.{OneMade, PlansHold, FormulasHold};
+ghost use Rattle.formula_build.specs.OneBuilding.{OneBuilding};
 
 /// A plan makes one relation.
 pub fn one_made()
@@ -15,4 +16,9 @@ pub fn plans_hold()
 /// What the plan of a formula makes holds of the numbers for which the formula is true.
 pub fn formulas_hold()
     ensures { FormulasHold }
+{}
+
+/// The steps of a plan have one outcome, but for want of memory, whichever of two libraries that agree is used.
+pub fn one_building()
+    ensures { OneBuilding }
 {}

@@ -35,7 +35,7 @@ mod building;
 mod laws;
 
 pub use building::build;
-pub use laws::{formulas_hold, one_made, plans_hold};
+pub use laws::{formulas_hold, one_building, one_made, plans_hold};
 pub use library::Library;
 pub use names::Names;
 pub use resolving::{Resolved, resolve};

@@ -58,8 +58,8 @@ impl NamedSystems {
         Ok(())
     }
 
-    /// All are sealed.
-    pub(crate) fn are_sealed(&self)
+    /// All are sealed. It does nothing.
+    pub fn are_sealed(&self)
         ensures { AreSealed self.now }
     {
         let _ = self.entries.len();

@@ -1,6 +1,6 @@
 use Rattle.std.proofs.Common.{inl, inr, rules}
 use Rattle.std.proofs.lemmas.Result.{IfOk-weaker}
-use Rattle.adder_check.proofs.PlanLemmas.{two_of, between_names, between_sizes}
+use Rattle.adder_check.proofs.PlanLemmas.{two_of, between_names, between_sizes, next_canonical}
 use Rattle.num_system.proofs.SuccessorLemmas.{between_holds}
 use Rattle.adder_check.proofs.successor_steps.successor_steps.Goals as goal
 
@@ -55,3 +55,6 @@ returns-clause-successor c =
     relation c.args.direction s order
     (between_holds c.args.direction s c.in_ok-chain.chain c.in_ok-between.between system c.in_ok-chain.ensures.chain.names (c.in_ok-chain.ensures.relation c.args.direction s system order) c.in_ok-between.ensures.between))
     c.next_step.ensures.relation
+
+pub returns-clause-canonical : goal.returns-clause-canonical
+returns-clause-canonical c = next_canonical c.between_step.new.steps c.next_step.new.steps c.in_ok-less.less c.in_ok-between.between c.next_step.result c.next_step.ensures.steps

@@ -4,8 +4,8 @@ use Rattle.minimise.specs.Residuals.{SameLanguage}
 use Rattle.adder_check.proofs.ZeroSumLemmas.{zero_law_told}
 use Rattle.adder_check.proofs.zero_sums.keeps_zero_law.Goals as goal
 
-pub returns : goal.returns
-returns c = λ way s test system sums equal.
+pub returns-clause-law : goal.returns-clause-law
+returns-clause-law c = λ way s test system sums equal.
     let told = zero_law_told test way s c.args.sums.now.automaton c.args.equal.now system sums equal in
     let here = subst (λ (d : Automaton). SameLanguage d c.args.equal.now) c.dfa.ensures.value in
     let back = subst (λ (d : Automaton). SameLanguage d c.args.equal.now) (sym c.dfa.ensures.value) in

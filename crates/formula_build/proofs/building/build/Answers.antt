@@ -1,9 +1,12 @@
-use Rattle.std.proofs.Common.{sym, subst, arith}
+use Rattle.std.proofs.Common.{List, sym, subst, arith}
 use Rattle.formula_build.specs.Libraries.{IsLibrary}
 use Rattle.formula_plan.specs.Plans.{Plan}
 use Rattle.formula_build.specs.Makings.{IsReady, Makes}
+use Rattle.formula_build.specs.VariableTracks.{IsOverVariables}
+use Rattle.formula_resolve.specs.declared.variable.Variable.{Variable}
 use Rattle.formula_build.specs.ResolvedViews.{formula_of, headers_in, library_of}
 use Rattle.formula_build.proofs.SolutionLemmas.{listed_parts, made_solution, plan_ready}
+use Rattle.formula_build.proofs.VariableTrackLemmas.{made_tracks}
 use Rattle.formula_build.proofs.building.build.Goals as goal
 
 pub make_plans-requires-clause-parts : goal.make_plans-requires-clause-parts
@@ -27,3 +30,13 @@ returns-clause-solution c =
     let p = c.requires.planned in
     made_solution l (headers_in r) (formula_of r) library p.formed p.ways p.resolved (omega (arith, p.few)) c.requires.fits c.requires.known c.in_ok-made.made c.in_ok-ordered.field-0
     (subst (λ (q : Plan). Makes l q c.in_ok-made.made) p.plan.last_is c.in_ok-made.ensures.makes) c.in_ok-ordered.ensures
+
+pub returns-clause-tracks : goal.returns-clause-tracks
+returns-clause-tracks c =
+    let r = c.args.resolved.now in
+    let l = library_of r c.args.read.now in
+    let library : IsLibrary l = record { relations = c.are_relations.ensures; systems = c.are_sealed.ensures } in
+    let p = c.requires.planned in
+    subst (λ (vs : List Variable). IsOverVariables l vs c.in_ok-ordered.field-0) (sym p.variables)
+    (made_tracks l (headers_in r) (formula_of r) library p.formed p.ways p.resolved (omega (arith, p.few)) c.requires.fits c.requires.known c.in_ok-made.made c.in_ok-ordered.field-0
+    (subst (λ (q : Plan). Makes l q c.in_ok-made.made) p.plan.last_is c.in_ok-made.ensures.makes) c.in_ok-ordered.ensures)

@@ -1,0 +1,73 @@
+-- What the automata of two files make.
+use Rattle.std.proofs.Common.{◌≡◌, ℕ, ◌*◌, Bool, true, false, List, [], ◌∷◌, get_or, IsTrue, sym, ap, ◌∙◌, subst, arith, Result, Ok, Err}
+use Rattle.digit_tuple.specs.Automaton.{Branching}
+use Rattle.digit_tuple.specs.Deterministic.{Automaton}
+use Rattle.digit_tuple.specs.Letters.{product}
+use Rattle.digit_tuple.specs.Steps.{StepLog}
+use Rattle.digit_tuple.specs.declared.direction.Direction.{Direction}
+use Rattle.numeration.specs.Systems.{System, IsSystem}
+use Rattle.numeration.specs.Relations.{HoldsOf, IsAdderOf}
+use Rattle.num_system.specs.Links.{Passes}
+use Rattle.adder_check.specs.declared.admit_fault.AdmitFault.{AdmitFault}
+use Rattle.adder_check.specs.declared.admit_fault.AdmitFault.TheVariants as faults
+use Rattle.adder_check.specs.declared.admit_fault.Law.{Law}
+use Rattle.adder_check.specs.AdderLaws.{ZeroLaw, SuccessorLaw, IsAddition}
+use Rattle.adder_check.specs.AdderRelation.{HoldsInFile, adds_in_file, three_of}
+use Rattle.adder_check.specs.Admission.{Where, IsSystemOfFile, IsFirstAdderFault, IsFirstFault, IsFirstFaultOfFiles}
+use Rattle.adder_check.specs.LanguageLaws.{system_in, system_of}
+use Rattle.adder_check.specs.LanguageSteps.{IsOfFile}
+use Rattle.adder_check.proofs.AdditionLemmas.{laws_tell}
+use Rattle.adder_check.proofs.FileAdders.{adder_found, adder_is, first_fault}
+use Rattle.adder_check.proofs.FileSystems.{own_size, is_of_file, is_only, sizes_of_one}
+
+-- where a law holds the next is done, and where it does not it is the answer
+pub where_holds : {B : Type 0} (b : Bool) (law : Law) (next : StepLog → Result B AdmitFault → StepLog → Type 0) (old new : StepLog) (r : Result B AdmitFault) → b ≡ true → next old r new → Where b law next old r new
+where_holds {B = B} b law next old new r is does = subst (λ (c : Bool). Where {B = B} c law next old r new) (sym is) does
+
+pub where_fails : {B : Type 0} (b : Bool) (law : Law) (next : StepLog → Result B AdmitFault → StepLog → Type 0) (old new : StepLog) (r : Result B AdmitFault) → b ≡ false → r ≡ Err (faults.NotAdmitted law) → new ≡ old
+    → Where b law next old r new
+where_fails {B = B} b law next old new r is answer same = subst (λ (c : Bool). Where {B = B} c law next old r new) (sym is) (answer, same)
+
+-- the number of letters of one track
+pub letters_are : (d : Automaton) (k n : ℕ) (ns : List ℕ) → d.sizes ≡ k ∷ [] → ns ≡ d.sizes → n ≡ product ns → n ≡ get_or d.sizes 0 0
+letters_are d k n ns one same count =
+    let letters : product ns ≡ k * 1 = ap product (same ∙ one) in
+    let first : get_or d.sizes 0 0 ≡ k = ap (λ (ms : List ℕ). get_or ms 0 0) one in
+    omega (arith, count, letters, first)
+
+-- so many digits, a language and an adder are a numeration system and its addition, those of the files
+pub record AreParts (way : Direction) (listed adder : Branching) (reversed : Bool) (n : ℕ) (d e : Automaton) : Type 0 where
+  pub sizes : d.sizes ≡ n ∷ []
+  pub words : IsSystemOfFile way listed reversed (system_in way n d)
+  pub system : IsSystem (system_in way n d)
+  pub sums : IsAddition (adds_in_file way (system_in way n d) adder reversed)
+  pub adder_is : IsAdderOf way (system_in way n d) e
+
+module _ (way : Direction) (listed adder : Branching) (reversed : Bool) (d a : Automaton) (file : IsOfFile listed reversed d) (k : ℕ) (one : listed.sizes ≡ k ∷ []) (system : IsSystem (system_of way d))
+    (holds : HoldsOf way (three_of (system_of way d)) (HoldsInFile way (system_of way d) adder reversed) a) where
+  abbrev adds : ℕ → ℕ → ℕ → Type 0
+  adds = adds_in_file way (system_of way d) adder reversed
+
+  abbrev tells : (List ℕ → Bool) → ℕ → ℕ → ℕ → Type 0
+  tells test x y z = IsTrue (test (x ∷ y ∷ z ∷ []))
+
+  -- what is wrong with the adder is wrong with the files
+  pub adder_fault : (fault : AdmitFault) → ((test : List ℕ → Bool) → HoldsOf way (three_of (system_of way d)) (Passes test) a → IsFirstAdderFault (tells test) fault) → IsFirstFaultOfFiles way listed adder reversed fault
+  adder_fault fault wrong = λ s of.
+      subst (λ (t : System). IsFirstFault t (adds_in_file way t adder reversed) fault) (sym (is_only way listed reversed d file k one s of))
+      (first_fault (system_of way d) adds system fault (adder_found way (system_of way d) system (HoldsInFile way (system_of way d) adder reversed) a holds {A = Unit {0}} (Err fault) wrong))
+
+  pub are_parts : (n : ℕ) (e : Automaton) → n ≡ get_or d.sizes 0 0 → e ≡ a
+      → ((test : List ℕ → Bool) → HoldsOf way (three_of (system_of way d)) (Passes test) a → ZeroLaw (tells test) × SuccessorLaw (tells test)) → AreParts way listed adder reversed n d e
+  are_parts n e digits same laws =
+      subst (λ (m : ℕ). AreParts way listed adder reversed m d e) (sym digits)
+      (subst (λ (x : Automaton). AreParts way listed adder reversed (get_or d.sizes 0 0) d x) (sym same) record {
+        sizes = own_size d.sizes k (sizes_of_one way listed reversed d file k one);
+        words = is_of_file way listed reversed d file k one;
+        system = system;
+        sums = law;
+        adder_is = adder_is way (system_of way d) system (HoldsInFile way (system_of way d) adder reversed) a holds law;
+      })
+    where
+      law : IsAddition adds
+      law = (laws_tell adds).0 (adder_found way (system_of way d) system (HoldsInFile way (system_of way d) adder reversed) a holds {A = Unit {0}} (Ok tt) laws)

@@ -1,0 +1,128 @@
+-- What is built with a library is built with a larger one.
+use Rattle.std.proofs.Common.{◌≡◌, ℕ, Bool, true, false, List, [], ◌∷◌, ◌++◌, Some, Result, Ok, Err, inl, inr, refl, sym, ap, subst, if◌then◌else◌}
+use Rattle.std.specs.Str.{bytes_eq}
+use Rattle.std.proofs.lemmas.Option.{none-some}
+use Rattle.digit_tuple.specs.StepResults.{IsRefusedBy}
+use Rattle.digit_tuple.specs.Steps.{StepLog}
+use Rattle.digit_tuple.specs.declared.step_fault.StepFault.{StepFault}
+use Rattle.digit_tuple.specs.declared.step_fault.StepFault.TheVariants as faults
+use Rattle.digit_tuple.specs.declared.steps.StepLine.{StepLine}
+use Rattle.num_system.specs.Sealed.{SystemValue}
+use Rattle.number_relations.specs.Relations.{RelationValue}
+use Rattle.formula_plan.specs.Plans.{Plan, Made, compared, added, number, called, lettered, renamed, constant, joined, paired, complement, projected}
+use Rattle.formula_build.specs.Libraries.{LibraryValue, NamedSystem, NamedRelation, IsLibrary, AreSealed, IsSystemIn, IsRelationIn, system_named, relation_named}
+use Rattle.formula_build.specs.Makings.{Makes}
+use Rattle.formula_build.specs.Building.{IsStep, PassesLetters, PassesStates, AreSteps}
+use Rattle.formula_build.specs.Solutions.{BuildsFormula}
+use Rattle.formula_build.specs.OneBuilding.{Agree}
+
+-- what a name stands for in the one it stands for in the other
+pub record IsWithin (l n : LibraryValue) : Type 0 where
+  pub relations : (name : List ℕ) (r : RelationValue) → IsRelationIn l name r → IsRelationIn n name r
+  pub systems : (name : List ℕ) (s : SystemValue) → IsSystemIn l name s → IsSystemIn n name s
+
+-- the systems of both, and the relations of the first
+abbrev pub both : LibraryValue → LibraryValue → LibraryValue
+both l m = record { relations = l.relations; systems = l.systems ++ m.systems }
+
+sealed_both : (ss ts : List NamedSystem) → AreSealed ss → AreSealed ts → AreSealed (ss ++ ts)
+sealed_both [] ts first second = second
+sealed_both (s ∷ ss) ts first second = (first.0, sealed_both ss ts first.1 second)
+
+pub both_library : (l m : LibraryValue) → IsLibrary l → IsLibrary m → IsLibrary (both l m)
+both_library l m first second = record { relations = first.relations; systems = sealed_both l.systems m.systems first.systems second.systems }
+
+-- the first of a name stays so where more come after
+pub named_first : (ss ts : List NamedSystem) (name : List ℕ) (s : SystemValue) → system_named ss name ≡ Some s → system_named (ss ++ ts) name ≡ Some s
+named_first [] ts name s is = absurd (none-some s is)
+named_first (n ∷ ss) ts name s is = by (bytes_eq n.name name) (named_first ss ts name s) is
+  where
+    by : (b : Bool) → (system_named ss name ≡ Some s → system_named (ss ++ ts) name ≡ Some s) → (if b then Some n.system else system_named ss name) ≡ Some s
+        → (if b then Some n.system else system_named (ss ++ ts) name) ≡ Some s
+    by true rest is = is
+    by false rest is = rest is
+
+named_second : (ss ts : List NamedSystem) (name : List ℕ) (s : SystemValue) → ((t : SystemValue) → system_named ss name ≡ Some t → t ≡ s) → system_named ts name ≡ Some s → system_named (ss ++ ts) name ≡ Some s
+named_second [] ts name s same is = is
+named_second (n ∷ ss) ts name s same is = by (bytes_eq n.name name) (λ (alike : (t : SystemValue) → system_named ss name ≡ Some t → t ≡ s). named_second ss ts name s alike is) same
+  where
+    by : (b : Bool) → (((t : SystemValue) → system_named ss name ≡ Some t → t ≡ s) → system_named (ss ++ ts) name ≡ Some s)
+        → ((t : SystemValue) → (if b then Some n.system else system_named ss name) ≡ Some t → t ≡ s) → (if b then Some n.system else system_named (ss ++ ts) name) ≡ Some s
+    by true rest same = ap Some (same n.system refl)
+    by false rest same = rest same
+
+pub first_within : (l m : LibraryValue) → IsWithin l (both l m)
+first_within l m = record { relations = λ name r is. is; systems = λ name s is. named_first l.systems m.systems name s is }
+
+pub second_within : (l m : LibraryValue) → Agree l m → IsWithin m (both l m)
+second_within l m agree = record {
+  relations = λ name r is. subst (λ (rs : List NamedRelation). relation_named rs name ≡ Some r) (sym agree.relations) is;
+  systems = λ name s is. named_second l.systems m.systems name s (λ t there. agree.systems name t s there is) is;
+}
+
+module _ (l n : LibraryValue) (within : IsWithin l n) where
+  pub makes_within : (p : Plan) (c : RelationValue) → Makes l p c → Makes n p c
+  makes_within (compared y r s t) c (system, is, makes) = (system, within.systems y system is, makes)
+  makes_within (added y s t u) c (system, is, makes) = (system, within.systems y system is, makes)
+  makes_within (number y t) c (system, is, makes) = (system, within.systems y system is, makes)
+  makes_within (called y ts) c (r, is, makes) = (r, within.relations y r is, makes)
+  makes_within (lettered y ts r b) c makes = makes
+  makes_within (renamed s t p) c (a, is, makes) = (a, makes_within p a is, makes)
+  makes_within (constant y k t) c (system, is, makes) = (system, within.systems y system is, makes)
+  makes_within (joined j p q) c (a, b, is, also, makes) = (a, b, makes_within p a is, makes_within q b also, makes)
+  makes_within (paired y ts r w us) c makes = makes
+  makes_within (complement p) c (a, is, makes) = (a, makes_within p a is, makes)
+  makes_within (projected t p) c (a, is, makes) = (a, makes_within p a is, makes)
+
+  step_within : (limit : ℕ) (p : Plan) (c : RelationValue) (line : StepLine) → IsStep limit l p c line → IsStep limit n p c line
+  step_within limit (constant y k t) c line (system, is, step) = (system, within.systems y system is, step)
+  step_within limit (joined j p q) c line (a, b, is, also, step) = (a, b, makes_within p a is, makes_within q b also, step)
+  step_within limit (complement p) c line (a, is, step) = (a, makes_within p a is, step)
+  step_within limit (projected t p) c line (a, is, step) = (a, makes_within p a is, step)
+  step_within limit _ c line step = absurd step
+
+  letters_within : (p : Plan) → PassesLetters l p → PassesLetters n p
+  letters_within (joined j p q) (a, b, is, also, passes) = (a, b, makes_within p a is, makes_within q b also, passes)
+  letters_within (projected t p) (a, is, passes) = (a, makes_within p a is, passes)
+  letters_within _ passes = absurd passes
+
+  states_within : (limit : ℕ) (p : Plan) → PassesStates limit l p → PassesStates limit n p
+  states_within limit (constant y k t) (system, is, passes) = (system, within.systems y system is, passes)
+  states_within limit (joined j p q) (a, b, is, also, passes) = (a, b, makes_within p a is, makes_within q b also, passes)
+  states_within limit (complement p) (a, is, passes) = (a, makes_within p a is, passes)
+  states_within limit (projected t p) (a, is, passes) = (a, makes_within p a is, passes)
+  states_within limit _ passes = absurd passes
+
+  steps_within : (limit : ℕ) (ps : List Plan) (lines : List StepLine) → AreSteps limit l ps lines → AreSteps limit n ps lines
+  steps_within limit [] [] done = done
+  steps_within limit [] (line ∷ lines) done = absurd done
+  steps_within limit (p ∷ ps) [] done = absurd done
+  steps_within limit (p ∷ ps) (line ∷ lines) ((c, step), done) = ((c, step_within limit p c line step), steps_within limit ps lines done)
+
+  refused_within : (new : StepLog) (limit : ℕ) (p : Plan) (fault : StepFault) → IsRefusedBy new (PassesLetters l p) (PassesStates limit l p) fault → IsRefusedBy new (PassesLetters n p) (PassesStates limit n p) fault
+  refused_within new limit p (faults.Letters k) (here, passes) = (here, letters_within p passes)
+  refused_within new limit p (faults.States k) (here, passes) = (here, states_within limit p passes)
+  refused_within new limit p faults.Memory refused = refused
+
+  pub builds_within : (old new : StepLog) (p : Made) (r : Result RelationValue StepFault) → BuildsFormula old l p r new → BuildsFormula old n p r new
+  builds_within old new p (Ok r) is = record {
+    made = is.made;
+    built = record {
+      lines = is.built.lines;
+      done = steps_within old.limit p.steps is.built.lines is.built.done;
+      new_is = is.built.new_is;
+      makes = makes_within p.last is.made is.built.makes;
+    };
+    ordered = is.ordered;
+  }
+  builds_within old new p (Err fault) (inl memory) = inl memory
+  builds_within old new p (Err fault) (inr is) = inr (record {
+    front = is.front;
+    here = is.here;
+    rest = is.rest;
+    steps_are = is.steps_are;
+    lines = is.lines;
+    done = steps_within old.limit is.front is.lines is.done;
+    new_is = is.new_is;
+    refused = refused_within new old.limit is.here fault is.refused;
+  })

@@ -1,0 +1,21 @@
+-- Libraries that agree, and the law that formulas are built alike with them.
+use Rattle.std.specs.Prelude.{◌≡◌, ◌≢◌, Result, Err}
+use Rattle.digit_tuple.specs.Steps.{StepLog}
+use Rattle.digit_tuple.specs.declared.step_fault.StepFault.{StepFault}
+use Rattle.digit_tuple.specs.declared.step_fault.StepFault.TheVariants as faults
+use Rattle.formula_parse.specs.Tokens.{Name}
+use Rattle.formula_plan.specs.Plans.{Made}
+use Rattle.num_system.specs.Sealed.{SystemValue}
+use Rattle.number_relations.specs.Relations.{RelationValue}
+use Rattle.formula_build.specs.Libraries.{LibraryValue, IsLibrary, IsSystemIn}
+use Rattle.formula_build.specs.Solutions.{BuildsFormula}
+
+-- names that stand for something in both libraries stand for the same, and both have the same relations
+pub record Agree (l m : LibraryValue) : Type 0 where
+  pub relations : l.relations ≡ m.relations
+  pub systems : (y : Name) (s t : SystemValue) → IsSystemIn l y s → IsSystemIn m y t → s ≡ t
+
+-- the steps of a plan have one outcome, but for want of memory: one relation and the same lines, or one refusal
+abbrev pub OneBuilding : Type 0
+OneBuilding = (l m : LibraryValue) (old new now : StepLog) (p : Made) (r s : Result RelationValue StepFault) → IsLibrary l → IsLibrary m → Agree l m
+    → BuildsFormula old l p r new → BuildsFormula old m p s now → r ≢ Err faults.Memory → s ≢ Err faults.Memory → (r ≡ s) × (new ≡ now)
