@@ -48,6 +48,12 @@ fails_first first rest (faults.Direction one other) refused = inl refused
 fails_first first rest (faults.Letters step) refused = inl refused
 fails_first first rest (faults.States step) refused = inl refused
 fails_first first rest faults.ScriptLimit refused = inl refused
+fails_first first rest (faults.MixedChain byte) refused = inl refused
+fails_first first rest (faults.NotLinear byte) refused = inl refused
+fails_first first rest (faults.Unknown of file) refused = inl refused
+fails_first first rest (faults.Arity of tracks given) refused = inl refused
+fails_first first rest (faults.Clash of one two) refused = inl refused
+fails_first first rest (faults.Plain of) refused = inl refused
 
 -- and so does what refuses those after it
 pub fails_after : {Y Z : Type 0} (first : Check Y) (rest : Y → Check Z) (y : Y) (f : Fault) → first.answers (Ok y) → Fails (rest y) f → Fails (Then first rest) f
@@ -63,6 +69,12 @@ fails_after first rest y (faults.Direction one other) passed refused = inr (y, p
 fails_after first rest y (faults.Letters step) passed refused = inr (y, passed, refused)
 fails_after first rest y (faults.States step) passed refused = inr (y, passed, refused)
 fails_after first rest y faults.ScriptLimit passed refused = inr (y, passed, refused)
+fails_after first rest y (faults.MixedChain byte) passed refused = inr (y, passed, refused)
+fails_after first rest y (faults.NotLinear byte) passed refused = inr (y, passed, refused)
+fails_after first rest y (faults.Unknown of file) passed refused = inr (y, passed, refused)
+fails_after first rest y (faults.Arity of tracks given) passed refused = inr (y, passed, refused)
+fails_after first rest y (faults.Clash of one two) passed refused = inr (y, passed, refused)
+fails_after first rest y (faults.Plain of) passed refused = inr (y, passed, refused)
 
 -- what the checks after the first make all of them make
 pub makes_after : {Y : Type 0} (first : Check Y) (rest : Y → Check Success) (y : Y) (shown : Bool) (r : Result Made Fault) → first.answers (Ok y) → Makes (rest y) shown r → Makes (Then first rest) shown r

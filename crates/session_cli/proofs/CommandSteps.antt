@@ -4,6 +4,8 @@ use Rattle.std.specs.Option.{option_map}
 use Rattle.wal_outside.specs.Files.{Files, put}
 use Rattle.wal_outside.specs.Places.{Place}
 use Rattle.wal_outside.specs.Views.{StoreView}
+use Rattle.wal_outside.specs.declared.folder.Folder.{Folder}
+use Rattle.wal_outside.specs.declared.folder.Folder.TheVariants.{Automata, Results}
 use Rattle.session_cli.specs.declared.fault.Fault.{Fault}
 use Rattle.session_cli.specs.declared.fault.Fault.TheVariants as faults
 use Rattle.session_cli.specs.declared.plan.Plan.{Plan}
@@ -11,7 +13,8 @@ use Rattle.session_cli.specs.Checks.{Fails}
 use Rattle.session_cli.specs.Trees.{Ledger}
 use Rattle.session_cli.specs.declared.command_word.CommandWord.{CommandWord}
 use Rattle.session_cli.specs.declared.command_word.CommandWord.TheVariants as words
-use Rattle.session_cli.specs.Outcomes.{checks_by, checks_of}
+use Rattle.session_cli.specs.FormulaOutcomes.{formula_checks}
+use Rattle.session_cli.specs.Outcomes.{word_text, checks_by, checks_of}
 use Rattle.session_cli.specs.Runs.{IsAnswer, IsKnownLedger, is_store_fault, failed_after}
 use Rattle.session_cli.specs.Plans.{IsPlan}
 use Rattle.session_cli.specs.Commands.{Stored, Commands, WritesPlan}
@@ -22,6 +25,17 @@ own_ledger None ledger = tt
 own_ledger (Some files) ledger = refl
 
 -- no check of a command reads a file yet, so none is refused at a read
+no_formula_read : (word : List ℕ) (folder : Folder) (limit : ℕ) (ledger : Ledger) (text : List ℕ) (place : Place) → (formula_checks word folder limit ledger text).reads place → ⊥
+no_formula_read word folder limit ledger text place (inl read) = read
+no_formula_read word folder limit ledger text place (inr (head, spells, inl read)) = read
+no_formula_read word folder limit ledger text place (inr (head, spells, inr (formula, parses, inl read))) = read
+no_formula_read word folder limit ledger text place (inr (head, spells, inr (formula, parses, inr (none, files, inl read)))) = read
+no_formula_read word folder limit ledger text place (inr (head, spells, inr (formula, parses, inr (none, files, inr (known, systems, inl read))))) = read
+no_formula_read word folder limit ledger text place (inr (head, spells, inr (formula, parses, inr (none, files, inr (known, systems, inr (done, resolves, inl read)))))) = read
+no_formula_read word folder limit ledger text place (inr (head, spells, inr (formula, parses, inr (none, files, inr (known, systems, inr (done, resolves, inr (lines, builds, inl read))))))) = read
+no_formula_read word folder limit ledger text place (inr (head, spells, inr (formula, parses, inr (none, files, inr (known, systems, inr (done, resolves, inr (lines, builds, inr (variables, are, inl read)))))))) = read
+no_formula_read word folder limit ledger text place (inr (head, spells, inr (formula, parses, inr (none, files, inr (known, systems, inr (done, resolves, inr (lines, builds, inr (variables, are, inr (verdict, says, read))))))))) = read
+
 no_read : (limit : ℕ) (ledger : Ledger) (text : List ℕ) (place : Place) → (checks_of limit ledger text).reads place → ⊥
 no_read limit ledger text place (inl read) = read
 no_read limit ledger text place (inr (done, short, inl read)) = read
@@ -33,6 +47,8 @@ no_read limit ledger text place (inr (done, short, inr (word, is, read))) = by_w
     by_word words.Reg (inr (head, spells, inr (tracks, means, inl read))) = read
     by_word words.Reg (inr (head, spells, inr (tracks, means, inr (pattern, parses, inl read)))) = read
     by_word words.Reg (inr (head, spells, inr (tracks, means, inr (pattern, parses, inr (lines, steps, read))))) = read
+    by_word words.Eval read = no_formula_read (word_text words.Eval) Results limit ledger text place read
+    by_word words.Def read = no_formula_read (word_text words.Def) Automata limit ledger text place read
 
 -- a fault that is not the store's leaves the file of the last call that failed
 kept_failed : (old : Option (Option Place)) (fault : Fault) → is_store_fault fault ≡ false → old ≡ failed_after old (Err fault)
@@ -48,6 +64,12 @@ kept_failed old (faults.States step) other = refl
 kept_failed old (faults.Store folder name) other = cc
 kept_failed old faults.Memory other = refl
 kept_failed old faults.ScriptLimit other = refl
+kept_failed old (faults.MixedChain byte) other = refl
+kept_failed old (faults.NotLinear byte) other = refl
+kept_failed old (faults.Unknown of file) other = refl
+kept_failed old (faults.Arity of tracks given) other = refl
+kept_failed old (faults.Clash of one two) other = refl
+kept_failed old (faults.Plain of) other = refl
 
 -- and the store as it was
 pub kept_store : (store : StoreView) (fault : Fault) → is_store_fault fault ≡ false → Stored store (Err fault) store
@@ -77,6 +99,12 @@ refused_command limit ledger store text shown fault refused = record {
     answer_of (faults.States step) refused = (refused, refl)
     answer_of (faults.Store folder name) refused = absurd (no_read limit ledger text (folder, name) refused)
     answer_of faults.ScriptLimit refused = (refused, refl)
+    answer_of (faults.MixedChain byte) refused = (refused, refl)
+    answer_of (faults.NotLinear byte) refused = (refused, refl)
+    answer_of (faults.Unknown of file) refused = (refused, refl)
+    answer_of (faults.Arity of tracks given) refused = (refused, refl)
+    answer_of (faults.Clash of one two) refused = (refused, refl)
+    answer_of (faults.Plain of) refused = (refused, refl)
 
 same_put : (old : Option Files) (place other : Place) (stored : List ℕ) → place.0 ≡ other.0 → place.1 ≡ other.1 → option_map (λ files. put files place.0 place.1 stored) old ≡ option_map (λ files. put files other.0 other.1 stored) old
 same_put old place other stored folders names = λ i. option_map (λ files. put files (folders i) (names i) stored) old
@@ -128,3 +156,9 @@ planned_command limit ledger old new text shown plan (Err (faults.Direction firs
 planned_command limit ledger old new text shown plan (Err (faults.Letters step)) p wrote = absurd wrote.cause
 planned_command limit ledger old new text shown plan (Err (faults.States step)) p wrote = absurd wrote.cause
 planned_command limit ledger old new text shown plan (Err faults.ScriptLimit) p wrote = absurd wrote.cause
+planned_command limit ledger old new text shown plan (Err (faults.MixedChain byte)) p wrote = absurd wrote.cause
+planned_command limit ledger old new text shown plan (Err (faults.NotLinear byte)) p wrote = absurd wrote.cause
+planned_command limit ledger old new text shown plan (Err (faults.Unknown of file)) p wrote = absurd wrote.cause
+planned_command limit ledger old new text shown plan (Err (faults.Arity of tracks given)) p wrote = absurd wrote.cause
+planned_command limit ledger old new text shown plan (Err (faults.Clash of one two)) p wrote = absurd wrote.cause
+planned_command limit ledger old new text shown plan (Err (faults.Plain of)) p wrote = absurd wrote.cause

@@ -48,7 +48,7 @@ names_in [] = refl
 names_in (s ∷ systems) = ap (λ (ns : List (List ℕ)). name_of s ∷ ns) (names_in systems)
 
 -- what the name of a system that is known means
-its_name_means : (custom : Custom) (s : KnownSystem) → IsSystemNamed custom (name_of s) (way_of s) (system_of s)
+pub its_name_means : (custom : Custom) (s : KnownSystem) → IsSystemNamed custom (name_of s) (way_of s) (system_of s)
 its_name_means custom (Base s) = (kinds.Base s.base, (record { least = s.at_least; most = s.at_most }, refl), refl)
 its_name_means custom (Fibonacci s) = (kinds.Fibonacci, (tt, refl), refl)
 
@@ -141,3 +141,9 @@ unknown_named custom names (faults.Letters step) refused = absurd refused
 unknown_named custom names (faults.States step) refused = absurd refused
 unknown_named custom names (faults.Store folder name) refused = absurd refused
 unknown_named custom names faults.ScriptLimit refused = absurd refused
+unknown_named custom names (faults.MixedChain byte) refused = absurd refused
+unknown_named custom names (faults.NotLinear byte) refused = absurd refused
+unknown_named custom names (faults.Unknown of file) refused = absurd refused
+unknown_named custom names (faults.Arity of tracks given) refused = absurd refused
+unknown_named custom names (faults.Clash of one two) refused = absurd refused
+unknown_named custom names (faults.Plain of) refused = absurd refused

@@ -1,17 +1,12 @@
 -- A command has one proper outcome.
-use Rattle.std.proofs.Common.{◌≡◌, ◌≢◌, ℕ, ◌<◌, ◌≤◌, ◌⊎◌, List, ℤ, length, None, Result, Ok, Err, refl, sym, ap, ◌∙◌, inl, inr, arith}
-use Rattle.wal_outside.specs.declared.folder.Folder.TheVariants.{Automata, Bases}
+use Rattle.std.proofs.Common.{◌≡◌, ◌≢◌, ℕ, ◌<◌, ◌≤◌, ◌⊎◌, List, ℤ, length, get_or, None, Result, Ok, Err, refl, sym, ap, ◌∙◌, inl, inr, arith}
+use Rattle.wal_outside.specs.declared.folder.Folder.TheVariants.{Automata, Results, Bases}
 use Rattle.digit_tuple.specs.declared.direction.Direction.{Direction}
 use Rattle.digit_tuple.specs.declared.steps.StepLine.{StepLine}
-use Rattle.command_head.specs.declared.fault.HeadFault.{HeadFault}
-use Rattle.command_head.specs.declared.fault.HeadFault.TheVariants as head_faults
 use Rattle.command_head.specs.Heads as heads
-use Rattle.command_head.specs.Heads.{RegHead, AtWord, reg_at}
-use Rattle.command_head.specs.Parts.{parts_of, texts_of, first_word_of}
+use Rattle.command_head.specs.Parts.{first_word_of}
 use Rattle.command_head.specs.Grammar.{SpellsReg}
-use Rattle.command_head.proofs.Walks.{goes_run}
-use Rattle.command_head.proofs.SpelledHeads.{reg_goes}
-use Rattle.command_head.proofs.OneFault.{syntax_read, number_read}
+use Rattle.command_head.proofs.OneFault.{one_head, one_reg}
 use Rattle.regex_build.specs.declared.fault.RegexFault.{RegexFault}
 use Rattle.regex_build.specs.declared.fault.RegexFault.TheVariants as regexes
 use Rattle.regex_build.specs.Expression.{Expression}
@@ -24,69 +19,23 @@ use Rattle.session_cli.specs.declared.fault.Fault.TheVariants as faults
 use Rattle.session_cli.specs.declared.command_word.CommandWord.{CommandWord}
 use Rattle.session_cli.specs.declared.command_word.CommandWord.TheVariants as words
 use Rattle.session_cli.specs.Checks.{Check, Pure}
-use Rattle.session_cli.specs.Trees.{File, Regex, Entry, Bytes, Defined, Ledger}
-use Rattle.session_cli.specs.Texts.{HasText}
+use Rattle.session_cli.specs.Trees.{Regex, Defined, Ledger}
 use Rattle.session_cli.specs.Tracks.{NamedSystem, Tracks, OverSets, OverSystems, letter_sets}
 use Rattle.session_cli.specs.Named.{Custom, IsKnown, AreTracksOf}
-use Rattle.session_cli.specs.Accepting.{Success, Answer, StoredAnswers, stored}
-use Rattle.session_cli.specs.RegOutcomes.{HeadAnswers, TracksAnswers, ParsedAnswers, StepsAnswers, after_expression, after_tracks, after_head, reg_checks}
-use Rattle.session_cli.specs.Outcomes.{IsShort, LengthAnswers, WordAnswers, word_text, checks_by, after_length, Outcome}
+use Rattle.session_cli.specs.HeadAnswers.{HeadAnswers}
+use Rattle.session_cli.specs.Accepting.{Answer, stored}
+use Rattle.session_cli.specs.RegOutcomes.{TracksAnswers, ParsedAnswers, StepsAnswers, after_expression, after_tracks, after_head, reg_checks}
+use Rattle.session_cli.specs.Outcomes.{LengthAnswers, WordAnswers, word_text, checks_by, after_length, Outcome}
 use Rattle.session_cli.proofs.CheckSteps.{IsSingle, then_single}
-use Rattle.session_cli.proofs.TrackWidths.{one_track_text, one_lines, done_not_letters, done_not_states, letters_not_states, one_excess}
+use Rattle.session_cli.proofs.TrackWidths.{one_lines, done_not_letters, done_not_states, letters_not_states, one_excess}
 use Rattle.session_cli.proofs.NameLemmas.{one_first, no_first, one_list_of_systems, not_unknown, not_parted, same_part}
-
--- an entry has one text
-pub one_text : (entry : Entry) (text other : List ℕ) → HasText entry text → HasText entry other → text ≡ other
-one_text (Bytes bytes) text other a b = a ∙ sym b
-one_text (Defined (File bytes)) text other a b = a ∙ sym b
-one_text (Defined (Regex tracks e)) text other a b = one_track_text tracks e text other a b
+use Rattle.session_cli.proofs.OneHeads.{head_single}
+use Rattle.session_cli.proofs.OneTexts.{stored_single}
+use Rattle.session_cli.proofs.OneFormulas.{formula_single}
 
 -- an answer is that of one function of what was read
 single_by : {Y : Type 0} (c : Check Y) (value : Result Y Fault) → ((r : Result Y Fault) → c.answers r → r ≡ value) → IsSingle c
 single_by c value is = λ r s a b. is r a ∙ sym (is s b)
-
--- what is stored
-stored_is : (made : Success) (text : List ℕ) → HasText made.entry text → (r : Answer) → StoredAnswers made r → ((length text ≤ 16777216) × (r ≡ Ok made)) ⊎ ((16777216 < length text) × (r ≡ Err (faults.Long 16777216)))
-stored_is made text has (Ok success) (is, (other, has', fits)) = inl (rw (one_text made.entry text other has has') fits, ap (λ (s : Success). let a : Answer = Ok s in a) is)
-stored_is made text has (Err (faults.Long bytes)) (is, (other, has', long)) = inr (rw (one_text made.entry text other has has') long, ap (λ (n : ℕ). let a : Answer = Err (faults.Long n) in a) is)
-stored_is made text has (Err faults.Command) a = absurd a
-stored_is made text has (Err (faults.Syntax grammar at)) a = absurd a
-stored_is made text has (Err (faults.Number grammar at)) a = absurd a
-stored_is made text has (Err (faults.Depth grammar at)) a = absurd a
-stored_is made text has (Err (faults.SystemUnknown name)) a = absurd a
-stored_is made text has (Err (faults.Direction first other)) a = absurd a
-stored_is made text has (Err (faults.Letters step)) a = absurd a
-stored_is made text has (Err (faults.States step)) a = absurd a
-stored_is made text has (Err (faults.Store folder name)) a = absurd a
-stored_is made text has (Err faults.Memory) a = absurd a
-stored_is made text has (Err faults.ScriptLimit) a = absurd a
-
-some_text : (made : Success) (r : Answer) → StoredAnswers made r → (text : List ℕ) × HasText made.entry text
-some_text made (Ok success) (is, (text, has, fits)) = (text, has)
-some_text made (Err (faults.Long bytes)) (is, (text, has, long)) = (text, has)
-some_text made (Err faults.Command) a = absurd a
-some_text made (Err (faults.Syntax grammar at)) a = absurd a
-some_text made (Err (faults.Number grammar at)) a = absurd a
-some_text made (Err (faults.Depth grammar at)) a = absurd a
-some_text made (Err (faults.SystemUnknown name)) a = absurd a
-some_text made (Err (faults.Direction first other)) a = absurd a
-some_text made (Err (faults.Letters step)) a = absurd a
-some_text made (Err (faults.States step)) a = absurd a
-some_text made (Err (faults.Store folder name)) a = absurd a
-some_text made (Err faults.Memory) a = absurd a
-some_text made (Err faults.ScriptLimit) a = absurd a
-
-stored_single : (made : Success) → IsSingle (stored made)
-stored_single made r s a b =
-    let there : (text : List ℕ) × HasText made.entry text = some_text made r a in
-    by_length there.0 (stored_is made there.0 there.1 r a) (stored_is made there.0 there.1 s b)
-  where
-    by_length : (text : List ℕ) → ((length text ≤ 16777216) × (r ≡ Ok made)) ⊎ ((16777216 < length text) × (r ≡ Err (faults.Long 16777216)))
-        → ((length text ≤ 16777216) × (s ≡ Ok made)) ⊎ ((16777216 < length text) × (s ≡ Err (faults.Long 16777216))) → r ≡ s
-    by_length text (inl (fits, is)) (inl (fits', is')) = is ∙ sym is'
-    by_length text (inl (fits, is)) (inr (long, is')) = absurd (omega arith)
-    by_length text (inr (long, is)) (inl (fits, is')) = absurd (omega arith)
-    by_length text (inr (long, is)) (inr (long', is')) = is ∙ sym is'
 
 -- the steps are within the limits, or one of them is the first to pass one
 steps_is : (limit : ℕ) (tracks : Tracks) (e : Expression (List ℤ)) (r : Result (List StepLine) Fault) → StepsAnswers limit tracks e r
@@ -104,6 +53,12 @@ steps_is limit tracks e (Err (faults.Direction first other)) a = absurd a
 steps_is limit tracks e (Err (faults.Store folder name)) a = absurd a
 steps_is limit tracks e (Err faults.Memory) a = absurd a
 steps_is limit tracks e (Err faults.ScriptLimit) a = absurd a
+steps_is limit tracks e (Err (faults.MixedChain byte)) a = absurd a
+steps_is limit tracks e (Err (faults.NotLinear byte)) a = absurd a
+steps_is limit tracks e (Err (faults.Unknown of file)) a = absurd a
+steps_is limit tracks e (Err (faults.Arity of count given)) a = absurd a
+steps_is limit tracks e (Err (faults.Clash of one two)) a = absurd a
+steps_is limit tracks e (Err (faults.Plain of)) a = absurd a
 
 steps_single : (limit : ℕ) (tracks : Tracks) (e : Expression (List ℤ)) → IsSingle (Pure (StepsAnswers limit tracks e))
 steps_single limit tracks e r s a b = by_step (steps_is limit tracks e r a) (steps_is limit tracks e s b)
@@ -142,6 +97,9 @@ parsed_is sets body (Err (faults.Depth grammars.Regex at)) a = record { parse = 
 parsed_is sets body (Err (faults.Syntax grammars.Command at)) a = absurd a
 parsed_is sets body (Err (faults.Number grammars.Command at)) a = absurd a
 parsed_is sets body (Err (faults.Depth grammars.Command at)) a = absurd a
+parsed_is sets body (Err (faults.Syntax grammars.Formula at)) a = absurd a
+parsed_is sets body (Err (faults.Number grammars.Formula at)) a = absurd a
+parsed_is sets body (Err (faults.Depth grammars.Formula at)) a = absurd a
 parsed_is sets body (Err faults.Command) a = absurd a
 parsed_is sets body (Err (faults.Long bytes)) a = absurd a
 parsed_is sets body (Err (faults.SystemUnknown name)) a = absurd a
@@ -151,6 +109,12 @@ parsed_is sets body (Err (faults.States step)) a = absurd a
 parsed_is sets body (Err (faults.Store folder name)) a = absurd a
 parsed_is sets body (Err faults.Memory) a = absurd a
 parsed_is sets body (Err faults.ScriptLimit) a = absurd a
+parsed_is sets body (Err (faults.MixedChain byte)) a = absurd a
+parsed_is sets body (Err (faults.NotLinear byte)) a = absurd a
+parsed_is sets body (Err (faults.Unknown of file)) a = absurd a
+parsed_is sets body (Err (faults.Arity of tracks given)) a = absurd a
+parsed_is sets body (Err (faults.Clash of one two)) a = absurd a
+parsed_is sets body (Err (faults.Plain of)) a = absurd a
 
 parsed_single : (sets : List (List ℤ)) (body : List ℕ) → IsSingle (Pure (ParsedAnswers sets body))
 parsed_single sets body r s a b =
@@ -179,6 +143,12 @@ names_is custom names (Err (faults.States step)) a = absurd a
 names_is custom names (Err (faults.Store folder name)) a = absurd a
 names_is custom names (Err faults.Memory) a = absurd a
 names_is custom names (Err faults.ScriptLimit) a = absurd a
+names_is custom names (Err (faults.MixedChain byte)) a = absurd a
+names_is custom names (Err (faults.NotLinear byte)) a = absurd a
+names_is custom names (Err (faults.Unknown of file)) a = absurd a
+names_is custom names (Err (faults.Arity of tracks given)) a = absurd a
+names_is custom names (Err (faults.Clash of one two)) a = absurd a
+names_is custom names (Err (faults.Plain of)) a = absurd a
 
 by_names : (custom : Custom) (names : List (List ℕ)) (r s : Result Tracks Fault) → IsNames custom names r → IsNames custom names s → r ≡ s
 by_names custom names r s (inl (way, named, are, is)) (inl (way', named', are', is')) =
@@ -215,40 +185,18 @@ tracks_single custom (heads.Sets sets) r s a b = single_by (Pure (TracksAnswers 
     is (Err (faults.Store folder name)) a = absurd a
     is (Err faults.Memory) a = absurd a
     is (Err faults.ScriptLimit) a = absurd a
+    is (Err (faults.MixedChain byte)) a = absurd a
+    is (Err (faults.NotLinear byte)) a = absurd a
+    is (Err (faults.Unknown of file)) a = absurd a
+    is (Err (faults.Arity of tracks given)) a = absurd a
+    is (Err (faults.Clash of one two)) a = absurd a
+    is (Err (faults.Plain of)) a = absurd a
 tracks_single custom (heads.Systems names) r s a b = by_names custom names r s (names_is custom names r a) (names_is custom names s b)
 
--- what is read of the text is its head
-abbrev of_head : Result RegHead HeadFault → Result RegHead Fault
-of_head (Ok head) = Ok head
-of_head (Err (head_faults.Syntax at)) = Err (faults.Syntax grammars.Command at)
-of_head (Err (head_faults.Number at)) = Err (faults.Number grammars.Command at)
-of_head (Err head_faults.Memory) = Err faults.Memory
-
-spelled_read : (text : List ℕ) (head : RegHead) → SpellsReg (texts_of (parts_of text)) head → reg_at text ≡ Ok head
-unfolding reg_at
-spelled_read text head spells = goes_run (length text) AtWord (parts_of text) head (reg_goes (texts_of (parts_of text)) head spells)
-
-head_is : (text : List ℕ) → IsShort text → (r : Result RegHead Fault) → HeadAnswers text r → r ≡ of_head (reg_at text)
-head_is text short (Ok head) a = rw (spelled_read text head a) refl
-head_is text short (Err (faults.Syntax grammars.Command at)) a = rw (syntax_read text at (omega (arith, short)) a) refl
-head_is text short (Err (faults.Number grammars.Command at)) a = rw (number_read text at (omega (arith, short)) a) refl
-head_is text short (Err (faults.Syntax grammars.Regex at)) a = absurd a
-head_is text short (Err (faults.Number grammars.Regex at)) a = absurd a
-head_is text short (Err (faults.Depth grammar at)) a = absurd a
-head_is text short (Err faults.Command) a = absurd a
-head_is text short (Err (faults.Long bytes)) a = absurd a
-head_is text short (Err (faults.SystemUnknown name)) a = absurd a
-head_is text short (Err (faults.Direction first other)) a = absurd a
-head_is text short (Err (faults.Letters step)) a = absurd a
-head_is text short (Err (faults.States step)) a = absurd a
-head_is text short (Err (faults.Store folder name)) a = absurd a
-head_is text short (Err faults.Memory) a = absurd a
-head_is text short (Err faults.ScriptLimit) a = absurd a
-
 -- a `reg` has one outcome
-reg_single : (limit : ℕ) (ledger : Ledger) (text : List ℕ) → IsShort text → IsSingle (reg_checks limit ledger text)
-reg_single limit ledger text short =
-    then_single (Pure (HeadAnswers text)) (λ head. after_head limit (ledger Bases) head) (single_by (Pure (HeadAnswers text)) (of_head (reg_at text)) (head_is text short)) (λ head spells.
+reg_single : (limit : ℕ) (ledger : Ledger) (text : List ℕ) → IsSingle (reg_checks limit ledger text)
+reg_single limit ledger text =
+    then_single (Pure (HeadAnswers SpellsReg text)) (λ head. after_head limit (ledger Bases) head) (head_single SpellsReg (one_head SpellsReg one_reg) text) (λ head spells.
     then_single (Pure (TracksAnswers (ledger Bases) head.alphabets)) (λ tracks. after_tracks limit head.name head.body tracks) (tracks_single (ledger Bases) head.alphabets) (λ tracks means.
     then_single (Pure (ParsedAnswers (letter_sets tracks) head.body)) (λ (pattern : Pattern). after_expression limit head.name tracks pattern.tree) (parsed_single (letter_sets tracks) head.body) (λ pattern parses.
     then_single (Pure (StepsAnswers limit tracks pattern.tree)) (λ lines. stored (record { folder = Automata; name = head.name; entry = Defined (Regex tracks pattern.tree); lines = lines; verdict = None })) (steps_single limit tracks pattern.tree) (λ lines steps.
@@ -272,6 +220,12 @@ length_single text r s a b = by_length (length_is r a) (length_is s b)
     length_is (Err (faults.Store folder name)) a = absurd a
     length_is (Err faults.Memory) a = absurd a
     length_is (Err faults.ScriptLimit) a = absurd a
+    length_is (Err (faults.MixedChain byte)) a = absurd a
+    length_is (Err (faults.NotLinear byte)) a = absurd a
+    length_is (Err (faults.Unknown of file)) a = absurd a
+    length_is (Err (faults.Arity of tracks given)) a = absurd a
+    length_is (Err (faults.Clash of one two)) a = absurd a
+    length_is (Err (faults.Plain of)) a = absurd a
 
     by_length : ((length text ≤ 65536) × (r ≡ Ok tt)) ⊎ ((65536 < length text) × (r ≡ Err (faults.Long 65536))) → ((length text ≤ 65536) × (s ≡ Ok tt)) ⊎ ((65536 < length text) × (s ≡ Err (faults.Long 65536))) → r ≡ s
     by_length (inl (short, is)) (inl (short', is')) = is ∙ sym is'
@@ -279,9 +233,20 @@ length_single text r s a b = by_length (length_is r a) (length_is s b)
     by_length (inr (long, is)) (inl (short, is')) = absurd (omega arith)
     by_length (inr (long, is)) (inr (long', is')) = is ∙ sym is'
 
--- the words of commands differ
+-- the words of commands differ in their first letters
+first_letters : (text v w : List ℕ) → text ≡ v → text ≡ w → get_or v 0 0 ≡ get_or w 0 0
+first_letters text v w a b = ap (λ (xs : List ℕ). get_or xs 0 0) (sym a ∙ b)
+
 one_word : (text : List ℕ) (v w : CommandWord) → text ≡ word_text v → text ≡ word_text w → v ≡ w
 one_word text words.Reg words.Reg a b = refl
+one_word text words.Reg words.Eval a b = let same : 114 ≡ 101 = first_letters text (word_text words.Reg) (word_text words.Eval) a b in absurd (omega (arith, same))
+one_word text words.Reg words.Def a b = let same : 114 ≡ 100 = first_letters text (word_text words.Reg) (word_text words.Def) a b in absurd (omega (arith, same))
+one_word text words.Eval words.Reg a b = let same : 101 ≡ 114 = first_letters text (word_text words.Eval) (word_text words.Reg) a b in absurd (omega (arith, same))
+one_word text words.Eval words.Eval a b = refl
+one_word text words.Eval words.Def a b = let same : 101 ≡ 100 = first_letters text (word_text words.Eval) (word_text words.Def) a b in absurd (omega (arith, same))
+one_word text words.Def words.Reg a b = let same : 100 ≡ 114 = first_letters text (word_text words.Def) (word_text words.Reg) a b in absurd (omega (arith, same))
+one_word text words.Def words.Eval a b = let same : 100 ≡ 101 = first_letters text (word_text words.Def) (word_text words.Eval) a b in absurd (omega (arith, same))
+one_word text words.Def words.Def a b = refl
 
 word_single : (text : List ℕ) → IsSingle (Pure (WordAnswers text))
 word_single text r s a b = by_word (word_is r a) (word_is s b)
@@ -300,6 +265,12 @@ word_single text r s a b = by_word (word_is r a) (word_is s b)
     word_is (Err (faults.Store folder name)) a = absurd a
     word_is (Err faults.Memory) a = absurd a
     word_is (Err faults.ScriptLimit) a = absurd a
+    word_is (Err (faults.MixedChain byte)) a = absurd a
+    word_is (Err (faults.NotLinear byte)) a = absurd a
+    word_is (Err (faults.Unknown of file)) a = absurd a
+    word_is (Err (faults.Arity of tracks given)) a = absurd a
+    word_is (Err (faults.Clash of one two)) a = absurd a
+    word_is (Err (faults.Plain of)) a = absurd a
 
     by_word : ((word : CommandWord) × (first_word_of text ≡ word_text word) × (r ≡ Ok word)) ⊎ (((word : CommandWord) → first_word_of text ≢ word_text word) × (r ≡ Err faults.Command))
         → ((word : CommandWord) × (first_word_of text ≡ word_text word) × (s ≡ Ok word)) ⊎ (((word : CommandWord) → first_word_of text ≢ word_text word) × (s ≡ Err faults.Command)) → r ≡ s
@@ -309,10 +280,12 @@ word_single text r s a b = by_word (word_is r a) (word_is s b)
     by_word (inr (none, at)) (inr (none', at')) = at ∙ sym at'
 
 -- each command has one outcome
-single_by_word : (word : CommandWord) (limit : ℕ) (ledger : Ledger) (text : List ℕ) → IsShort text → IsSingle (checks_by word limit ledger text)
-single_by_word words.Reg limit ledger text short = reg_single limit ledger text short
+single_by_word : (word : CommandWord) (limit : ℕ) (ledger : Ledger) (text : List ℕ) → IsSingle (checks_by word limit ledger text)
+single_by_word words.Reg limit ledger text = reg_single limit ledger text
+single_by_word words.Eval limit ledger text = formula_single (word_text words.Eval) Results limit ledger text
+single_by_word words.Def limit ledger text = formula_single (word_text words.Def) Automata limit ledger text
 
 pub one_answer : (limit : ℕ) (ledger : Ledger) (text : List ℕ) (answer other : Answer) → Outcome limit ledger text answer → Outcome limit ledger text other → answer ≡ other
 one_answer limit ledger text =
     then_single (Pure (LengthAnswers text)) (λ done. after_length limit ledger text) (length_single text) (λ done short.
-    then_single (Pure (WordAnswers text)) (λ word. checks_by word limit ledger text) (word_single text) (λ word is. single_by_word word limit ledger text short))
+    then_single (Pure (WordAnswers text)) (λ word. checks_by word limit ledger text) (word_single text) (λ word is. single_by_word word limit ledger text))

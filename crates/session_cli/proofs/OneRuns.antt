@@ -24,7 +24,8 @@ use Rattle.session_cli.specs.Words.{GivesLimit}
 use Rattle.session_cli.proofs.WholeSteps.{usage_or_memory}
 use Rattle.session_cli.proofs.OneLimits.{one_limit}
 use Rattle.session_cli.proofs.AnyLedger.{any_ledger}
-use Rattle.session_cli.proofs.OneOutcomes.{one_text, one_answer}
+use Rattle.session_cli.proofs.OneTexts.{one_text}
+use Rattle.session_cli.proofs.OneOutcomes.{one_answer}
 
 -- the count of store faults
 pub counted : (limit : ℕ) (ledger last : Ledger) (old new : StoreView) (items : List Item) (answers : List Answer) → Run limit ledger old items answers last new → min (old.faults + store_faults answers) (2 ^ 64 - 1) ≤ new.faults
@@ -44,6 +45,12 @@ proper limit ledger text (Ok success) is store memory = is
 proper limit ledger text (Err (faults.Store folder name)) is store memory = cc
 proper limit ledger text (Err faults.Memory) is store memory = cc
 proper limit ledger text (Err faults.ScriptLimit) is store memory = is
+proper limit ledger text (Err (faults.MixedChain byte)) is store memory = is
+proper limit ledger text (Err (faults.NotLinear byte)) is store memory = is
+proper limit ledger text (Err (faults.Unknown of file)) is store memory = is
+proper limit ledger text (Err (faults.Arity of tracks given)) is store memory = is
+proper limit ledger text (Err (faults.Clash of one two)) is store memory = is
+proper limit ledger text (Err (faults.Plain of)) is store memory = is
 proper limit ledger text (Err faults.Command) is store memory = is
 proper limit ledger text (Err (faults.Syntax grammar at)) is store memory = is
 proper limit ledger text (Err (faults.Number grammar at)) is store memory = is
@@ -59,6 +66,7 @@ open_is : (text : List ℕ) (answer : Answer) → OpenOutcome text answer → ((
 open_is text (Err (faults.Long bytes)) (is, long) = inl (long, ap (λ (n : ℕ). let a : Answer = Err (faults.Long n) in a) is)
 open_is text (Err (faults.Syntax grammars.Command at)) (short, is) = inr (short, ap (λ (n : ℕ). let a : Answer = Err (faults.Syntax grammars.Command n) in a) is)
 open_is text (Err (faults.Syntax grammars.Regex at)) is = absurd is
+open_is text (Err (faults.Syntax grammars.Formula at)) is = absurd is
 open_is text (Err (faults.Depth grammar at)) is = absurd is
 open_is text (Err (faults.SystemUnknown name)) is = absurd is
 open_is text (Err (faults.Direction first other)) is = absurd is
@@ -69,6 +77,12 @@ open_is text (Err (faults.Store folder name)) is = absurd is
 open_is text (Err faults.Command) is = absurd is
 open_is text (Err faults.Memory) is = absurd is
 open_is text (Err faults.ScriptLimit) is = absurd is
+open_is text (Err (faults.MixedChain byte)) is = absurd is
+open_is text (Err (faults.NotLinear byte)) is = absurd is
+open_is text (Err (faults.Unknown of file)) is = absurd is
+open_is text (Err (faults.Arity of tracks given)) is = absurd is
+open_is text (Err (faults.Clash of one two)) is = absurd is
+open_is text (Err (faults.Plain of)) is = absurd is
 open_is text (Ok success) is = absurd is
 
 same_open : (text : List ℕ) (answer other : Answer) → OpenOutcome text answer → OpenOutcome text other → answer ≡ other

@@ -18,7 +18,8 @@ use Rattle.session_cli.specs.Trees.{Ledger}
 use Rattle.session_cli.specs.Tracks.{Tracks}
 use Rattle.session_cli.specs.Named.{Custom, AreTracksOf}
 use Rattle.session_cli.specs.Accepting.{Success}
-use Rattle.session_cli.specs.RegOutcomes.{HeadAnswers, TracksAnswers, after_tracks, after_head, reg_checks}
+use Rattle.session_cli.specs.HeadAnswers.{HeadAnswers}
+use Rattle.session_cli.specs.RegOutcomes.{TracksAnswers, after_tracks, after_head, reg_checks}
 use Rattle.session_cli.specs.Plans.{Makes, Plans}
 use Rattle.session_cli.proofs.CheckSteps.{fails_first, makes_after, plans_after}
 
@@ -28,10 +29,10 @@ unfolding reg_at
 spelled text head read = reg_spelled (texts_of (parts_of text)) head (run_goes (length text) AtWord (parts_of text) head read)
 
 pub head_syntax : (limit : ℕ) (ledger : Ledger) (text : List ℕ) (at : ℕ) → length text ≤ 65536 → reg_at text ≡ Err (head_faults.Syntax at) → Fails (reg_checks limit ledger text) (faults.Syntax grammars.Command at)
-head_syntax limit ledger text at short read = fails_first (Pure (HeadAnswers text)) (λ head. after_head limit (ledger Bases) head) (faults.Syntax grammars.Command at) (syntax_breaks text at (omega (arith, short)) read)
+head_syntax limit ledger text at short read = fails_first (Pure (HeadAnswers SpellsReg text)) (λ head. after_head limit (ledger Bases) head) (faults.Syntax grammars.Command at) (syntax_breaks text at (omega (arith, short)) read)
 
 pub head_number : (limit : ℕ) (ledger : Ledger) (text : List ℕ) (at : ℕ) → length text ≤ 65536 → reg_at text ≡ Err (head_faults.Number at) → Fails (reg_checks limit ledger text) (faults.Number grammars.Command at)
-head_number limit ledger text at short read = fails_first (Pure (HeadAnswers text)) (λ head. after_head limit (ledger Bases) head) (faults.Number grammars.Command at) (number_breaks text at (omega (arith, short)) read)
+head_number limit ledger text at short read = fails_first (Pure (HeadAnswers SpellsReg text)) (λ head. after_head limit (ledger Bases) head) (faults.Number grammars.Command at) (number_breaks text at (omega (arith, short)) read)
 
 -- what is made over the tracks of a head
 pub tracks_made : (limit : ℕ) (custom : Custom) (head : RegHead) (tracks : Tracks) (shown : Bool) (result : Result Made Fault) → AreTracksOf custom head.alphabets tracks → Makes (after_tracks limit head.name head.body tracks) shown result → Makes (after_head limit custom head) shown result
@@ -52,7 +53,7 @@ stands_at limit custom head success (tracks, means, (pattern, parses, (lines, st
 pub reg_planned : (limit : ℕ) (ledger : Ledger) (text : List ℕ) (shown : Bool) (head : RegHead) (plan : Plan) → reg_at text ≡ Ok head → plan.folder ≡ Automata → plan.name ≡ head.name → Makes (after_head limit (ledger Bases) head) shown (Ok plan.made) → Plans (reg_checks limit ledger text) shown (Ok plan)
 reg_planned limit ledger text shown head plan read folder name made =
     let at : IsAt head made.success = stands_at limit (ledger Bases) head made.success made.answers in
-    plans_after (Pure (HeadAnswers text)) (λ h. after_head limit (ledger Bases) h) head shown (Ok plan) (spelled text head read) (record { made = made; folder_is = folder ∙ at.folder; name_is = name ∙ at.name })
+    plans_after (Pure (HeadAnswers SpellsReg text)) (λ h. after_head limit (ledger Bases) h) head shown (Ok plan) (spelled text head read) (record { made = made; folder_is = folder ∙ at.folder; name_is = name ∙ at.name })
 
 pub reg_failed : (limit : ℕ) (ledger : Ledger) (text : List ℕ) (shown : Bool) (head : RegHead) (fault : Fault) → reg_at text ≡ Ok head → Fails (after_head limit (ledger Bases) head) fault → Fails (reg_checks limit ledger text) fault
-reg_failed limit ledger text shown head fault read refused = plans_after (Pure (HeadAnswers text)) (λ h. after_head limit (ledger Bases) h) head shown (Err fault) (spelled text head read) refused
+reg_failed limit ledger text shown head fault read refused = plans_after (Pure (HeadAnswers SpellsReg text)) (λ h. after_head limit (ledger Bases) h) head shown (Err fault) (spelled text head read) refused

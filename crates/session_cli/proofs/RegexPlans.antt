@@ -41,14 +41,13 @@ use Rattle.session_cli.specs.Trees.{Regex, Defined}
 use Rattle.session_cli.specs.Texts.{IsTrackText}
 use Rattle.session_cli.specs.TrackSteps.{AreSteps}
 use Rattle.session_cli.specs.Accepting.{Success, stored}
+use Rattle.session_cli.specs.FormulaSteps.{no_steps}
 use Rattle.session_cli.specs.RegOutcomes.{ParsedAnswers, StepsAnswers, after_expression, after_tracks}
 use Rattle.session_cli.specs.Plans.{Prints, Makes}
 use Rattle.session_cli.proofs.CheckSteps.{fails_first, fails_after, makes_after}
 use Rattle.session_cli.proofs.RegexTexts.{regex_text}
 
 -- no steps yet
-abbrev pub no_steps : ℕ → StepLog
-no_steps limit = record { limit = limit; lines = [] }
 
 -- over the digits of systems stand as many digits as the systems have
 pub system_sizes : (way : Direction) (named : List NamedSystem) → sizes_of (letter_sets (OverSystems way named)) ≡ spelling.sizes_of (systems_of named)
@@ -97,6 +96,12 @@ made_by_steps limit name tracks body shown pattern lines printed_lines automaton
     by_text (Err (faults.States step)) refused = absurd refused
     by_text (Err (faults.Store folder of)) refused = absurd refused
     by_text (Err faults.ScriptLimit) refused = absurd refused
+    by_text (Err (faults.MixedChain byte)) refused = absurd refused
+    by_text (Err (faults.NotLinear byte)) refused = absurd refused
+    by_text (Err (faults.Unknown of file)) refused = absurd refused
+    by_text (Err (faults.Arity of tracks given)) refused = absurd refused
+    by_text (Err (faults.Clash of one two)) refused = absurd refused
+    by_text (Err (faults.Plain of)) refused = absurd refused
 
 -- the step over sets was made
 pub made_over_sets : (limit : ℕ) (name : List ℕ) (sets : List (List ℤ)) (body : List ℕ) (shown : Bool) (pattern : Pattern) (automaton : Automaton) (steps : StepLog) → AreTrackSets sets → Parses sets body (Ok pattern)

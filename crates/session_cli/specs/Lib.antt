@@ -5,10 +5,14 @@ pub mod Checks
 pub mod Tracks
 pub mod Trees
 pub mod Named
+pub mod FormulaTexts
 pub mod Texts
 pub mod TrackSteps
 pub mod Accepting
+pub mod FormulaSteps
+pub mod HeadAnswers
 pub mod RegOutcomes
+pub mod FormulaOutcomes
 pub mod Outcomes
 pub mod Lines
 pub mod Views
@@ -16,9 +20,13 @@ pub mod Runs
 pub mod Whole
 pub mod Laws
 -- what functions inside the crate do
+pub mod FormulaFaults
 pub mod Plans
 pub mod KnownSystems
 pub mod TrackSystems
+pub mod SealedSystems
+pub mod VariablesOver
+pub mod FormulaPlans
 pub mod Commands
 pub mod Tallies
 pub mod Handing

@@ -36,18 +36,25 @@ success_text shown success = shown_steps shown success.lines ++ verdict_line suc
 abbrev pub grammar_name : Grammar → List ℕ
 grammar_name grammars.Command = codes "command"
 grammar_name grammars.Regex = codes "regex"
+grammar_name grammars.Formula = codes "formula"
 
 -- the number, name and kept values of a fault
 abbrev pub detail : Fault → List ℕ
 detail faults.Command = codes ": F01 Command"
 detail (faults.Syntax grammar at) = (codes ": F02 Syntax in " ++ grammar_name grammar) ++ (codes " at " ++ decimal at)
+detail (faults.MixedChain at) = codes ": F03 MixedChain at " ++ decimal at
 detail (faults.Number grammar at) = (codes ": F04 Number in " ++ grammar_name grammar) ++ (codes " at " ++ decimal at)
+detail (faults.NotLinear at) = codes ": F05 NotLinear at " ++ decimal at
 detail (faults.Depth grammar at) = (codes ": F06 Depth in " ++ grammar_name grammar) ++ (codes " at " ++ decimal at)
 detail (faults.Long bytes) = codes ": F07 Long " ++ decimal bytes
+detail (faults.Unknown folder name) = (codes ": F11 Unknown " ++ folder_text folder) ++ (codes "/" ++ name)
+detail (faults.Arity name tracks given) = ((codes ": F13 Arity " ++ name) ++ (codes " " ++ decimal tracks)) ++ (codes " " ++ decimal given)
 detail (faults.SystemUnknown name) = codes ": F14 SystemUnknown " ++ name
+detail (faults.Clash name first other) = ((codes ": F16 Clash " ++ name) ++ (codes " " ++ first)) ++ (codes " " ++ other)
 detail (faults.Direction first other) = (codes ": F17 Direction " ++ first) ++ (codes " " ++ other)
 detail (faults.Letters step) = codes ": F18 Letters step " ++ decimal step
 detail (faults.States step) = codes ": F19 States step " ++ decimal step
+detail (faults.Plain name) = codes ": F21 Plain " ++ name
 detail (faults.Store folder name) = (codes ": F26 Store " ++ folder_text folder) ++ (codes "/" ++ name)
 detail faults.Memory = codes ": F27 Memory"
 detail faults.ScriptLimit = codes ": F28 ScriptLimit"

@@ -1,5 +1,6 @@
 -- What a command does: the entry that it makes, or the fault by which it is refused.
 use Rattle.std.specs.Prelude.{◌≡◌, ◌≢◌, ℕ, ◌<◌, ◌≤◌, List, length, Result, Ok, Err, codes}
+use Rattle.wal_outside.specs.declared.folder.Folder.TheVariants.{Automata, Results}
 use Rattle.command_head.specs.Parts.{first_word_of}
 use Rattle.session_cli.specs.declared.fault.Grammar.TheVariants as grammars
 use Rattle.session_cli.specs.declared.fault.Fault.{Fault}
@@ -10,6 +11,7 @@ use Rattle.session_cli.specs.Checks.{Check, Pure, Then}
 use Rattle.session_cli.specs.Trees.{Ledger}
 use Rattle.session_cli.specs.Accepting.{Success, Answer}
 use Rattle.session_cli.specs.RegOutcomes.{reg_checks}
+use Rattle.session_cli.specs.FormulaOutcomes.{formula_checks}
 
 -- a command may have 65,536 bytes
 abbrev pub IsShort : List ℕ → Type 0
@@ -23,6 +25,8 @@ LengthAnswers text (Err fault) = ⊥
 -- the word with which a command begins
 abbrev pub word_text : CommandWord → List ℕ
 word_text words.Reg = codes "reg"
+word_text words.Eval = codes "eval"
+word_text words.Def = codes "def"
 
 -- the first word is that of this command, or none that a command has
 abbrev pub WordAnswers : List ℕ → Result CommandWord Fault → Type 0
@@ -33,6 +37,8 @@ WordAnswers text (Err fault) = ⊥
 -- the checks of each command
 abbrev pub checks_by : CommandWord → ℕ → Ledger → List ℕ → Check Success
 checks_by words.Reg limit ledger text = reg_checks limit ledger text
+checks_by words.Eval limit ledger text = formula_checks (word_text words.Eval) Results limit ledger text
+checks_by words.Def limit ledger text = formula_checks (word_text words.Def) Automata limit ledger text
 
 -- the checks after the length
 abbrev pub after_length : ℕ → Ledger → List ℕ → Check Success

@@ -5,9 +5,7 @@ use Rattle.wal_outside.specs.declared.folder.Folder.TheVariants.{Automata, Bases
 use Rattle.digit_tuple.specs.declared.steps.StepLine.{StepLine}
 use Rattle.command_head.specs.Heads as heads
 use Rattle.command_head.specs.Heads.{RegHead}
-use Rattle.command_head.specs.Parts.{parts_of, texts_of}
 use Rattle.command_head.specs.Grammar.{SpellsReg}
-use Rattle.command_head.specs.Breaks.{IsSyntaxAt, IsNumberAt}
 use Rattle.regex_build.specs.declared.fault.RegexFault.TheVariants as regexes
 use Rattle.regex_build.specs.Expression.{Expression}
 use Rattle.regex_build.specs.Patterns.{Pattern}
@@ -20,14 +18,8 @@ use Rattle.session_cli.specs.Trees.{Regex, Defined, Ledger}
 use Rattle.session_cli.specs.Tracks.{Tracks, letter_sets}
 use Rattle.session_cli.specs.Named.{Custom, IsKnown, IsFirstWithout, PartInDirection, AreTracksOf}
 use Rattle.session_cli.specs.TrackSteps.{AreSteps, ExceedsLetters, ExceedsStates}
+use Rattle.session_cli.specs.HeadAnswers.{HeadAnswers}
 use Rattle.session_cli.specs.Accepting.{Success, stored}
-
--- the head that the parts of the text spell, or where they first break the grammar
-abbrev pub HeadAnswers : List ℕ → Result RegHead Fault → Type 0
-HeadAnswers text (Ok head) = SpellsReg (texts_of (parts_of text)) head
-HeadAnswers text (Err (faults.Syntax grammars.Command at)) = IsSyntaxAt SpellsReg text at
-HeadAnswers text (Err (faults.Number grammars.Command at)) = IsNumberAt SpellsReg text at
-HeadAnswers text (Err fault) = ⊥
 
 -- the tracks that a head means; or its first system that is not known; or two systems of different directions
 abbrev pub TracksAnswers : Custom → heads.Alphabets → Result Tracks Fault → Type 0
@@ -63,4 +55,4 @@ after_head limit custom head = Then (Pure (TracksAnswers custom head.alphabets))
 
 -- all checks of a `reg`
 abbrev pub reg_checks : ℕ → Ledger → List ℕ → Check Success
-reg_checks limit ledger text = Then (Pure (HeadAnswers text)) (λ head. after_head limit (ledger Bases) head)
+reg_checks limit ledger text = Then (Pure (HeadAnswers SpellsReg text)) (λ head. after_head limit (ledger Bases) head)

@@ -13,7 +13,8 @@ use Rattle.wal_outside.specs.Files.{Files}
 use Rattle.reg_steps.specs.RegexSteps.{IsRegexAutomaton}
 use Rattle.reg_steps.specs.Relations.{IsRelation}
 use Rattle.session_cli.specs.Tracks.{NamedSystem, systems_of, Tracks, OverSets, OverSystems, letter_sets, header_of}
-use Rattle.session_cli.specs.Trees.{Tree, File, Regex, Entry, Bytes, Defined, Ledger}
+use Rattle.session_cli.specs.Trees.{Tree, File, Regex, Formula, Entry, Bytes, Defined, Ledger}
+use Rattle.session_cli.specs.FormulaTexts.{IsFormulaText}
 
 -- The text of an expression over sets. As a file it accepts exactly the words over the sets that the expression matches; it is the text of
 -- the canonical automaton.
@@ -39,6 +40,7 @@ IsTrackText (OverSystems way named) expression text = IsSpelledText way named ex
 abbrev pub HasTreeText : Tree → List ℕ → Type 0
 HasTreeText (File bytes) text = text ≡ bytes
 HasTreeText (Regex tracks expression) text = IsTrackText tracks expression text
+HasTreeText (Formula variables formula) text = IsFormulaText variables formula text
 
 -- the text of an entry
 abbrev pub HasText : Entry → List ℕ → Type 0

@@ -10,14 +10,23 @@ use command_head::first_word;
 pub(crate) enum CommandWord {
     /// `reg`: an expression over tracks, kept as an automaton.
     Reg,
+    /// `eval`: a formula, kept as what it says.
+    Eval,
+    /// `def`: a formula, kept as an automaton that later commands may name.
+    Def,
 }
 
 /// The command whose word stands first in a text. None where it is none that a command has.
 pub(crate) fn command_word(text: &[u8]) -> Option<CommandWord>
     ensures { MatchOption result ((word : CommandWord) → first_word_of text.now ≢ word_text word) (λ word. first_word_of text.now ≡ word_text word) }
 {
-    if first_word(text) == b"reg".as_slice() {
+    let word = first_word(text);
+    if word == b"reg".as_slice() {
         Some(CommandWord::Reg)
+    } else if word == b"eval".as_slice() {
+        Some(CommandWord::Eval)
+    } else if word == b"def".as_slice() {
+        Some(CommandWord::Def)
     } else {
         None
     }

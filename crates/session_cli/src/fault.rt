@@ -1,10 +1,13 @@
 ghost use Rattle.std.specs.Prelude.{◌≡◌};
 ghost use Rattle.session_cli.specs.declared.fault.Fault.TheVariants.{Memory};
 ghost use Rattle.session_cli.specs.TrackSystems.{fault_of};
+ghost use Rattle.session_cli.specs.FormulaFaults.{fault_of_resolution, fault_of_formula};
 
 use digit_tuple::faults::OutOfMemory;
 use digit_tuple::name::Name;
 use digit_tuple::step_fault::StepFault;
+use formula_parse::ParseFault;
+use formula_resolve::ResolveFault;
 use std::alloc::{AllocError, AllocFailed};
 use wal_outside::Folder;
 
@@ -15,6 +18,8 @@ pub enum Grammar {
     Command,
     /// The expression in its quotes.
     Regex,
+    /// The formula in its quotes.
+    Formula,
 }
 
 /// Why a command is refused.
@@ -24,20 +29,32 @@ pub enum Fault {
     Command,
     /// F02: no form goes on with what stands at this byte; or the part ends too early, at its length.
     Syntax(Grammar, usize),
+    /// F03: the connective at this byte is none that its chain goes on with.
+    MixedChain(usize),
     /// F04: the number at this byte is out of its range.
     Number(Grammar, usize),
-    /// F06: the parenthesis at this byte is nested too deeply.
+    /// F05: the `*` at this byte is before the second factor of a product that is no numeral.
+    NotLinear(usize),
+    /// F06: what opens at this byte is nested too deeply.
     Depth(Grammar, usize),
     /// F07: it has more bytes than this, or so has the text that it was to store.
     Long(usize),
+    /// F11: nothing stands under this name in this folder.
+    Unknown(Folder, Name),
+    /// F13: the automaton or word of this name has so many tracks, and so many terms are given.
+    Arity(Name, u32, u32),
     /// F14: there is no system of this name.
     SystemUnknown(Name),
+    /// F16: this variable is over two systems: that of its first occurrence, and the first one that differs.
+    Clash(Name, Name, Name),
     /// F17: its first system, and the first later one of the other direction.
     Direction(Name, Name),
     /// F18: this step, counted from 1, would be over more than 16 tracks or 65,536 letters.
     Letters(u64),
     /// F19: this step, counted from 1, would have more values than a step may have.
     States(u64),
+    /// F21: the automaton of this name is over sets.
+    Plain(Name),
     /// F26: the store failed at this file.
     Store(Folder, Name),
     /// F27: there was not enough memory.
@@ -62,6 +79,35 @@ impl From<StepFault> for Fault {
             StepFault::Letters(step) => Fault::Letters(step),
             StepFault::States(step) => Fault::States(step),
             StepFault::Memory => Fault::Memory,
+        }
+    }
+}
+
+impl From<ResolveFault> for Fault {
+    ghost from_gives = { λ f e. e ≡ fault_of_resolution f };
+
+    fn from(fault: ResolveFault) -> Fault {
+        match fault {
+            ResolveFault::Plain(name) => Fault::Plain(name),
+            ResolveFault::Arity(name, tracks, given) => Fault::Arity(name, tracks, given),
+            ResolveFault::Clash(name, first, other) => Fault::Clash(name, first, other),
+            ResolveFault::Direction(first, other) => Fault::Direction(first, other),
+            ResolveFault::Memory => Fault::Memory,
+        }
+    }
+}
+
+impl From<ParseFault> for Fault {
+    ghost from_gives = { λ f e. e ≡ fault_of_formula f };
+
+    fn from(fault: ParseFault) -> Fault {
+        match fault {
+            ParseFault::Syntax(at) => Fault::Syntax(Grammar::Formula, at),
+            ParseFault::Number(at) => Fault::Number(Grammar::Formula, at),
+            ParseFault::Depth(at) => Fault::Depth(Grammar::Formula, at),
+            ParseFault::MixedChain(at) => Fault::MixedChain(at),
+            ParseFault::NotLinear(at) => Fault::NotLinear(at),
+            ParseFault::Memory => Fault::Memory,
         }
     }
 }

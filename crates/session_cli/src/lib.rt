@@ -17,8 +17,16 @@ mod known_system;
 mod track_systems;
 // the words with which commands begin
 mod command_word;
+// the systems that formulas name, sealed
+mod sealed_systems;
+// how steps are made and shown
+mod step_options;
 // the command `reg`
 mod reg;
+// the text of what a formula makes
+mod formula_text;
+// the commands `eval` and `def`
+mod formula;
 // what a command stores and prints, from its text
 mod planning;
 // one command

@@ -16,6 +16,7 @@ impl Grammar {
         match self {
             Grammar::Command => "command",
             Grammar::Regex => "regex",
+            Grammar::Formula => "formula",
         }
     }
 }
@@ -40,10 +41,15 @@ fn send_detail<K: Sink>(out: &mut K, fault: &Fault) -> Result<(), WriteFault>
     match fault {
         Fault::Command => send(out, b": F01 Command"),
         Fault::Syntax(grammar, at) => send_place(out, b": F02 Syntax in ", *grammar, *at),
+        Fault::MixedChain(at) => send_number(out, b": F03 MixedChain at ", *at as u64),
         Fault::Number(grammar, at) => send_place(out, b": F04 Number in ", *grammar, *at),
+        Fault::NotLinear(at) => send_number(out, b": F05 NotLinear at ", *at as u64),
         Fault::Depth(grammar, at) => send_place(out, b": F06 Depth in ", *grammar, *at),
         Fault::Long(bytes) => send_number(out, b": F07 Long ", *bytes as u64),
+        Fault::Unknown(folder, name) => send_file(out, b": F11 Unknown ", *folder, name),
+        Fault::Arity(name, tracks, given) => send_arity(out, name, *tracks, *given),
         Fault::SystemUnknown(name) => send_two(out, b": F14 SystemUnknown ", name.as_bytes()),
+        Fault::Clash(name, first, other) => send_clash(out, name, first, other),
         Fault::Direction(first, other) => send_four(
             out,
             b": F17 Direction ",
@@ -53,7 +59,8 @@ fn send_detail<K: Sink>(out: &mut K, fault: &Fault) -> Result<(), WriteFault>
         ),
         Fault::Letters(step) => send_number(out, b": F18 Letters step ", *step),
         Fault::States(step) => send_number(out, b": F19 States step ", *step),
-        Fault::Store(folder, name) => send_file(out, *folder, name),
+        Fault::Plain(name) => send_two(out, b": F21 Plain ", name.as_bytes()),
+        Fault::Store(folder, name) => send_file(out, b": F26 Store ", *folder, name),
         Fault::Memory => send(out, b": F27 Memory"),
         Fault::ScriptLimit => send(out, b": F28 ScriptLimit"),
     }
@@ -86,15 +93,49 @@ fn send_number<K: Sink>(out: &mut K, name: &[u8], number: u64) -> Result<(), Wri
     send_two(out, name, buffer.format(number).as_bytes())
 }
 
-/// Hands over the fault of a store and its file.
-fn send_file<K: Sink>(out: &mut K, folder: Folder, name: &Name) -> Result<(), WriteFault>
-    ensures { Sends (K.view out.old) ((codes ": F26 Store " ++ folder_text folder) ++ (codes "/" ++ name.now)) result (K.view out.new) }
+/// Hands over a fault's number and name, and the file that it is about.
+fn send_file<K: Sink>(
+    out: &mut K,
+    fault: &[u8],
+    folder: Folder,
+    name: &Name,
+) -> Result<(), WriteFault>
+    ensures { Sends (K.view out.old) ((fault.now ++ folder_text folder) ++ (codes "/" ++ name.now)) result (K.view out.new) }
+{
+    send_four(out, fault, folder.name().as_bytes(), b"/", name.as_bytes())
+}
+
+/// Hands over the fault of a name that has so many tracks and is given so many terms.
+fn send_arity<K: Sink>(out: &mut K, name: &Name, tracks: u32, given: u32) -> Result<(), WriteFault>
+    ensures { Sends (K.view out.old) (((codes ": F13 Arity " ++ name.now) ++ (codes " " ++ decimal tracks)) ++ (codes " " ++ decimal given)) result (K.view out.new) }
+{
+    let mut buffer = Buffer::new();
+    send_four(
+        out,
+        b": F13 Arity ",
+        name.as_bytes(),
+        b" ",
+        buffer.format(tracks).as_bytes(),
+    )?;
+    let mut buffer = Buffer::new();
+    send_two(out, b" ", buffer.format(given).as_bytes())
+}
+
+/// Hands over the fault of a variable over two systems.
+fn send_clash<K: Sink>(
+    out: &mut K,
+    name: &Name,
+    first: &Name,
+    other: &Name,
+) -> Result<(), WriteFault>
+    ensures { Sends (K.view out.old) (((codes ": F16 Clash " ++ name.now) ++ (codes " " ++ first.now)) ++ (codes " " ++ other.now)) result (K.view out.new) }
 {
     send_four(
         out,
-        b": F26 Store ",
-        folder.name().as_bytes(),
-        b"/",
+        b": F16 Clash ",
         name.as_bytes(),
-    )
+        b" ",
+        first.as_bytes(),
+    )?;
+    send_two(out, b" ", other.as_bytes())
 }

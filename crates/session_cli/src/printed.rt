@@ -1,5 +1,5 @@
 ghost use Rattle.std.specs.Prelude.{◌≡◌, ℕ, ◌+◌, List, [], ◌++◌, decimal, IfOk, OnOk};
-ghost use Rattle.session_cli.specs.Lines.{step_line, step_lines, shown_steps};
+ghost use Rattle.session_cli.specs.Lines.{step_line, step_lines, shown_steps, verdict_line};
 
 use digit_tuple::faults::OutOfMemory;
 use digit_tuple::steps::{StepLine, Steps};
@@ -63,6 +63,17 @@ impl Printed {
             printed.push_step(number + 1, steps.line(number))?;
         }
         Ok(printed)
+    }
+
+    /// Adds the line of a verdict, where there is one.
+    pub(crate) fn push_verdict(&mut self, verdict: Option<bool>) -> Result<(), OutOfMemory>
+        ensures { OnOk result (self.new ≡ self.old ++ verdict_line verdict) }
+    {
+        match verdict {
+            Some(true) => self.push_two(b"TRUE\n", b""),
+            Some(false) => self.push_two(b"FALSE\n", b""),
+            None => Ok(()),
+        }
     }
 
     /// Adds the line of a step.

@@ -16,7 +16,7 @@ use crate::plan::{Made, Plan};
 use crate::printed::Printed;
 use crate::track_systems::TrackSystems;
 use command_head::{Alphabets, HeadFault, RegParts, reg_parts};
-use dfa_text::print_relation;
+use dfa_text::print_within;
 use digit_tuple::dfa::Dfa;
 use digit_tuple::header::Header;
 use digit_tuple::sets::Sets;
@@ -137,12 +137,11 @@ fn made_of(
     requires { automaton.now.sizes ≡ sizes_of (sets_of header.now) }
     ensures { Prints header.now automaton.now shown steps.now.lines result }
 {
-    let stored = print_relation(alloc, header, automaton)?;
-    if stored.len() > TEXT_LIMIT {
-        return Err(Fault::Long(TEXT_LIMIT));
+    match print_within(alloc, header, automaton, TEXT_LIMIT)? {
+        Some(stored) => Ok(Made {
+            stored,
+            printed: Printed::of_steps(alloc, steps, shown)?,
+        }),
+        None => Err(Fault::Long(TEXT_LIMIT)),
     }
-    Ok(Made {
-        stored,
-        printed: Printed::of_steps(alloc, steps, shown)?,
-    })
 }

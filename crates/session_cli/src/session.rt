@@ -9,6 +9,8 @@ use crate::fault::Fault;
 use crate::plan::Plan;
 use crate::planning::plan_of;
 use crate::printed::Printed;
+use crate::sealed_systems::SealedSystems;
+use crate::step_options::StepOptions;
 use digit_tuple::name::Name;
 use std::alloc::Global;
 use std::marker::Model;
@@ -18,6 +20,8 @@ use wal_outside::{Folder, Store, WriteFault};
 #[derive(Drop)]
 pub struct Session {
     limit: u32,
+    // What formulas named so far. It changes no answer.
+    systems: SealedSystems,
 }
 
 impl Model for Session {
@@ -28,10 +32,13 @@ impl Model for Session {
 
 impl Session {
     /// A session with this limit. It takes no memory.
-    pub fn new(limit: u32) -> Session
+    pub fn new(alloc: Global, limit: u32) -> Session
         ensures { result ≡ record { limit = limit } }
     {
-        Session { limit }
+        Session {
+            limit,
+            systems: SealedSystems::new(alloc),
+        }
     }
 
     /// Answers one command. Where it is accepted, its text was stored, and `printed` has what it prints: a line for each step
@@ -51,7 +58,11 @@ impl Session {
         ensures command { (ledger : Ledger) → StoresTold ledger (T.view store.old).files → Commands self.old.limit ledger (T.view store.old) text.now shown result printed.new (T.view store.new) }
     {
         printed.clear();
-        let plan = plan_of(alloc, self.limit, text, shown)?;
+        let options = StepOptions {
+            limit: self.limit,
+            shown,
+        };
+        let plan = plan_of(alloc, options, text, &mut self.systems)?;
         let Plan { folder, name, made } = plan;
         write_text(folder, name, &made.stored, store)?;
         *printed = made.printed;

@@ -108,8 +108,8 @@ fn other_direction(systems: &[KnownSystem], direction: Direction) -> Option<usiz
     None
 }
 
-// The system of this name.
-fn system_named(name: &Name) -> Option<KnownSystem>
+/// The system of this name.
+pub(crate) fn system_named(name: &Name) -> Option<KnownSystem>
     ensures { MatchOption result (¬ IsBuiltInName name.now) (λ system. name.now ≡ name_of system) }
 {
     let found = built_in(name.as_bytes())?;

@@ -35,7 +35,7 @@ pub fn run<S: Source, K: Sink, T: Store>(
     ensures memory { result ≡ Status.Memory → ((S.view script.new).faults ≡ (S.view script.old).faults) × ((K.view out.new).faults ≡ (K.view out.old).faults) }
 {
     match limit_of(alloc, words) {
-        Ok(limit) => answer_all(alloc, &mut Session::new(limit), script, out, store),
+        Ok(limit) => answer_all(alloc, &mut Session::new(alloc, limit), script, out, store),
         Err(WordsFault::Refused) => print_usage(out),
         Err(WordsFault::Memory) => Status::Memory,
     }

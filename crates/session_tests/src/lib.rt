@@ -30,6 +30,18 @@ mod system_rows;
 #[cfg(test)]
 mod fibonacci_rows;
 
+// what is printed of formulas
+#[cfg(test)]
+mod formula_rows;
+
+// what formulas store, and theorems
+#[cfg(test)]
+mod formula_texts;
+
+// formulas at their limits
+#[cfg(test)]
+mod formula_limits;
+
 // words of the command line
 #[cfg(test)]
 mod words;

@@ -8,7 +8,7 @@ use wal_outside::{Folder, MemStore};
 #[test]
 fn a_command_is_answered(rt: HostRuntime) -> Result<(), Fail> {
     let alloc = rt.alloc();
-    let mut session = Session::new(16);
+    let mut session = Session::new(alloc, 16);
     let mut store = MemStore::new(alloc, Vec::new(alloc));
     let mut printed = Printed::new(alloc);
     let text = b"reg ab {0,1} \"0*1\"";

@@ -1,4 +1,5 @@
-use Rattle.session_cli.proofs.OneOutcomes.{one_text, one_answer}
+use Rattle.session_cli.proofs.OneTexts.{one_text}
+use Rattle.session_cli.proofs.OneOutcomes.{one_answer}
 use Rattle.session_cli.proofs.laws.one_outcome.Goals as goal
 
 pub returns-clause-text : goal.returns-clause-text

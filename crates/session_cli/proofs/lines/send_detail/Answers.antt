@@ -23,3 +23,12 @@ returns-in-States g c = rw c.in-States.is c.send_number-in-States.ensures
 
 pub returns-in-Direction : goal.returns-in-Direction
 returns-in-Direction g c = rw c.in-Direction.is (rw (c.as_bytes-in-Direction.ensures, c.as_bytes-in-Direction-2.ensures) at c.send_four.ensures)
+
+pub returns-in-Unknown : goal.returns-in-Unknown
+returns-in-Unknown g c = rw c.in-Unknown.is c.send_file.ensures
+
+pub returns-in-Plain : goal.returns-in-Plain
+returns-in-Plain g c = rw c.in-Plain.is (rw c.as_bytes-in-Plain.ensures at c.send_two-in-Plain.ensures)
+
+pub returns-in-Store : goal.returns-in-Store
+returns-in-Store g c = rw c.in-Store.is c.send_file-in-Store.ensures

@@ -1,0 +1,116 @@
+-- From the relation that was built of a formula to what its command stores and prints.
+use Rattle.std.proofs.Common.{◌≡◌, ◌≢◌, ◌↔◌, ◌⊎◌, ℕ, Bool, true, false, List, [], ◌∷◌, ◌++◌, Option, None, Some, IsSome, IfSome, IsTrue, Ok, inl, inr, refl, sym, subst, arith}
+use Rattle.std.proofs.lemmas.Bool.{false≢true}
+use Rattle.wal_outside.specs.Places.{Place}
+use Rattle.digit_tuple.specs.declared.steps.StepLine.{StepLine}
+use Rattle.formula_parse.specs.Trees as trees
+use Rattle.formula_resolve.specs.declared.variable.Variable as resolved
+use Rattle.formula_build.specs.Libraries.{NamedSystem}
+use Rattle.formula_build.specs.Solutions.{IsSolution}
+use Rattle.formula_build.specs.VariableTracks.{IsOverVariables}
+use Rattle.number_relations.specs.Relations.{RelationValue, RelationHolds}
+use Rattle.session_cli.specs.declared.fault.Fault.{Fault}
+use Rattle.session_cli.specs.declared.fault.Fault.TheVariants as faults
+use Rattle.session_cli.specs.declared.plan.Made.{Made}
+use Rattle.session_cli.specs.Checks.{Pure, Fails}
+use Rattle.session_cli.specs.Trees.{Variable}
+use Rattle.session_cli.specs.Accepting.{FitsFile, stored}
+use Rattle.session_cli.specs.FormulaTexts.{truth_text, IsSolutionText, IsFormulaText, HasVerdict}
+use Rattle.session_cli.specs.FormulaSteps.{library_of}
+use Rattle.session_cli.specs.FormulaOutcomes.{VerdictAnswers, formula_success, after_variables}
+use Rattle.session_cli.specs.FormulaPlans.{automaton_text, IsTextOf, HasNoTextOf}
+use Rattle.session_cli.specs.Lines.{shown_steps, verdict_line}
+use Rattle.session_cli.specs.Plans.{Makes}
+use Rattle.session_cli.specs.VariablesOver.{variables_over}
+use Rattle.session_cli.proofs.CheckSteps.{fails_after, makes_after}
+use Rattle.session_cli.proofs.FormulaSolutions.{solution_text, no_variables, some_variables, sentence_truth}
+
+-- a formula with a variable has the text of its solutions
+with_variables : (variables : List Variable) (formula : trees.Formula) (text : List ℕ) → variables ≢ [] → IsSolutionText variables formula text → IsFormulaText variables formula text
+with_variables [] formula text some is = absurd (some refl)
+with_variables (v ∷ variables) formula text some is = is
+
+-- a relation has no track, or some
+abbrev AreSome : List (List ℕ) → Type 0
+AreSome names = (names ≡ []) ⊎ (names ≢ [])
+
+some_names : (names : List (List ℕ)) → AreSome names
+some_names [] = inl refl
+some_names (n ∷ names) = inr (λ is. cc)
+
+short_truth : (truth : Bool) → FitsFile (truth_text truth)
+short_truth true = omega arith
+short_truth false = omega arith
+
+module _ (systems : List NamedSystem) (formula : trees.Formula) (found : List resolved.Variable) (r : RelationValue) (solution : IsSolution (library_of systems) formula r) (over : IsOverVariables (library_of systems) found r) where
+  abbrev variables : List Variable
+  variables = variables_over found r.systems
+
+  -- the text that is stored is that of the formula
+  pub formula_text_is : (text : List ℕ) → IsTextOf found r text → IsFormulaText variables formula text
+  formula_text_is text (inl (none, (truth, is, text_is))) =
+      let empty : variables ≡ [] = no_variables systems formula found r solution over none in
+      subst (λ (vs : List Variable). IsFormulaText vs formula text) (sym empty) (truth, sentence_truth systems formula found r solution over none truth is, text_is)
+  formula_text_is text (inr (some, text_is, fits)) =
+      with_variables variables formula text (some_variables systems formula found r solution over some) (subst (IsSolutionText variables formula) (sym text_is) (solution_text systems formula found r solution over))
+
+  pub text_fits : (text : List ℕ) → IsTextOf found r text → FitsFile text
+  text_fits text (inl (none, (truth, is, text_is))) = subst FitsFile (sym text_is) (short_truth truth)
+  text_fits text (inr (some, text_is, fits)) = fits
+
+  -- and the verdict that is printed is its truth
+  pub verdict_is : (verdict : Option Bool) → (IsSome verdict ↔ (r.names ≡ [])) → IfSome verdict (λ truth. IsTrue truth ↔ RelationHolds r []) → HasVerdict variables formula verdict
+  verdict_is verdict there truth = by_names (some_names r.names) verdict there truth
+    where
+      of_sentence : (v : Option Bool) → r.names ≡ [] → (IsSome v ↔ (r.names ≡ [])) → IfSome v (λ truth. IsTrue truth ↔ RelationHolds r []) → HasVerdict [] formula v
+      of_sentence None none there truth = absurd (false≢true (there.1 none))
+      of_sentence (Some b) none there truth = sentence_truth systems formula found r solution over none b truth
+
+      of_variables : (vs : List Variable) (v : Option Bool) → vs ≢ [] → r.names ≢ [] → (IsSome v ↔ (r.names ≡ [])) → HasVerdict vs formula v
+      of_variables [] v some named there = absurd (some refl)
+      of_variables (x ∷ vs) None some named there = tt
+      of_variables (x ∷ vs) (Some b) some named there = named (there.0 refl)
+
+      by_names : AreSome r.names → (v : Option Bool) → (IsSome v ↔ (r.names ≡ [])) → IfSome v (λ truth. IsTrue truth ↔ RelationHolds r []) → HasVerdict variables formula v
+      by_names (inl none) v there truth = subst (λ (vs : List Variable). HasVerdict vs formula v) (sym (no_variables systems formula found r solution over none)) (of_sentence v none there truth)
+      by_names (inr some) v there truth = of_variables variables v (some_variables systems formula found r solution over some) some there
+
+  -- so this is what the command makes
+  pub text_made : (place : Place) (lines : List StepLine) (verdict : Option Bool) (shown : Bool) (made : Made) → HasVerdict variables formula verdict → IsTextOf found r made.stored.items
+      → made.printed ≡ shown_steps shown lines ++ verdict_line verdict → Makes (after_variables place formula lines variables) shown (Ok made)
+  text_made place lines verdict shown made says is printed =
+      makes_after (Pure (VerdictAnswers variables formula)) (λ v. stored (formula_success place variables formula lines v)) verdict shown (Ok made) says
+      (record {
+        success = formula_success place variables formula lines verdict;
+        answers = (refl, (made.stored.items, formula_text_is made.stored.items is, text_fits made.stored.items is));
+        has_text = formula_text_is made.stored.items is;
+        printed_is = printed;
+      })
+
+  -- a text that is too long is not stored
+  pub text_refused : (place : Place) (lines : List StepLine) (fault : Fault) → HasNoTextOf found r fault → Fails (after_variables place formula lines variables) fault
+  text_refused place lines (faults.Long bytes) (some, is, long) =
+      let has : IsFormulaText variables formula (automaton_text found r) = with_variables variables formula (automaton_text found r) (some_variables systems formula found r solution over some) (solution_text systems formula found r solution over) in
+      let says : HasVerdict variables formula None = without_verdict variables (some_variables systems formula found r solution over some) in
+      fails_after (Pure (VerdictAnswers variables formula)) (λ v. stored (formula_success place variables formula lines v)) None (faults.Long bytes) says (is, (automaton_text found r, has, long))
+    where
+      without_verdict : (vs : List Variable) → vs ≢ [] → HasVerdict vs formula None
+      without_verdict [] named = absurd (named refl)
+      without_verdict (x ∷ vs) named = tt
+  text_refused place lines faults.Memory refused = tt
+  text_refused place lines faults.Command refused = absurd refused
+  text_refused place lines (faults.Syntax grammar at) refused = absurd refused
+  text_refused place lines (faults.MixedChain at) refused = absurd refused
+  text_refused place lines (faults.Number grammar at) refused = absurd refused
+  text_refused place lines (faults.NotLinear at) refused = absurd refused
+  text_refused place lines (faults.Depth grammar at) refused = absurd refused
+  text_refused place lines (faults.Unknown folder name) refused = absurd refused
+  text_refused place lines (faults.Arity of tracks given) refused = absurd refused
+  text_refused place lines (faults.SystemUnknown name) refused = absurd refused
+  text_refused place lines (faults.Clash of one two) refused = absurd refused
+  text_refused place lines (faults.Direction one other) refused = absurd refused
+  text_refused place lines (faults.Letters step) refused = absurd refused
+  text_refused place lines (faults.States step) refused = absurd refused
+  text_refused place lines (faults.Plain of) refused = absurd refused
+  text_refused place lines (faults.Store folder name) refused = absurd refused
+  text_refused place lines faults.ScriptLimit refused = absurd refused

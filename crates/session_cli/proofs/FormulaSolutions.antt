@@ -1,0 +1,171 @@
+-- The relation that was built of a formula, as what its text says.
+use Rattle.std.proofs.Common.{◌≡◌, ◌≢◌, ◌↔◌, ℕ, Bool, true, false, List, [], ◌∷◌, length, map, Some, IsTrue, if◌then◌else◌, refl, sym, ap, ◌∙◌, subst, arith}
+use Rattle.std.specs.List.{AllByRecursion}
+use Rattle.std.specs.Str.{bytes_eq}
+use Rattle.std.proofs.lemmas.List.{length-map}
+use Rattle.std.proofs.lemmas.Option.{none-some}
+use Rattle.std.proofs.lemmas.Slice.Eq.{bytes_eq-Decides}
+use Rattle.digit_tuple.specs.Names.{AreDistinct}
+use Rattle.digit_tuple.specs.Systems.{IsDigitCount}
+use Rattle.system_names.specs.Names.{IsSystemKind}
+use Rattle.system_names.specs.declared.system_kind.SystemKind.{SystemKind}
+use Rattle.system_names.specs.declared.system_kind.SystemKind.TheVariants.{Base, Fibonacci}
+use Rattle.digit_tuple.specs.declared.direction.Direction.{Direction}
+use Rattle.digit_tuple.specs.declared.header.Header.TheVariants as headers
+use Rattle.digit_tuple.specs.declared.systems.SystemTrack.{SystemTrack}
+use Rattle.numeration.specs.Relations.{HoldsOf}
+use Rattle.numeration.specs.Systems.{System}
+use Rattle.num_system.specs.Sealed as sealed
+use Rattle.num_system.specs.Sealed.{SystemValue}
+use Rattle.number_relations.specs.Relations as relations
+use Rattle.number_relations.specs.Relations.{RelationValue, RelationHolds, IsRelation, HaveOneWay}
+use Rattle.number_relations.proofs.HoldLemmas.{holds_same}
+use Rattle.formula_parse.specs.Trees as trees
+use Rattle.formula_resolve.specs.declared.variable.Variable as resolved
+use Rattle.formula_truth.specs.Truth.{Holds}
+use Rattle.formula_truth.proofs.MeaningLemmas.{MeanTheSame, meanings_matter}
+use Rattle.formula_build.specs.Libraries.{NamedSystem, IsSystemIn, system_named, meanings_of}
+use Rattle.formula_build.specs.Solutions.{IsSolution}
+use Rattle.formula_build.specs.VariableTracks.{AreSystemsOf, IsOverVariables}
+use Rattle.dfa_text.specs.RelationText.{relation_text}
+use Rattle.session_cli.specs.Tracks.{systems_of, header_tracks, track_of}
+use Rattle.session_cli.specs.Trees.{Variable}
+use Rattle.session_cli.specs.Named.{Custom, IsSystemNamed, built_in_system}
+use Rattle.session_cli.specs.FormulaTexts.{no_meanings, assigned, IsSolvedBy, named_systems, IsSolutionText, HasTruth}
+use Rattle.session_cli.specs.FormulaSteps.{AreMeant, library_of}
+use Rattle.session_cli.specs.FormulaOutcomes.{AreVariables}
+use Rattle.session_cli.specs.FormulaPlans.{tracks_over, automaton_text}
+use Rattle.session_cli.specs.VariablesOver.{variable_over, variables_over}
+use Rattle.session_cli.proofs.AssignedLemmas.{names_of_variables, assigned_numbers}
+
+-- a system that is found is what its name means
+pub meant_in : (custom : Custom) (systems : List NamedSystem) (name : List ℕ) (s : SystemValue) → AreMeant custom systems → IsSystemIn (library_of systems) name s → IsSystemNamed custom name s.way (sealed.system_of s)
+meant_in custom [] name s are found = absurd (none-some s found)
+meant_in custom (x ∷ systems) name s are found = by (bytes_eq x.name name) refl (λ (there : system_named systems name ≡ Some s). meant_in custom systems name s are.1 there) found
+  where
+    by : (b : Bool) → bytes_eq x.name name ≡ b → (system_named systems name ≡ Some s → IsSystemNamed custom name s.way (sealed.system_of s)) → (if b then Some x.system else system_named systems name) ≡ Some s → IsSystemNamed custom name s.way (sealed.system_of s)
+    by true same rest is =
+        let names : x.name ≡ name = (bytes_eq-Decides x.name name).0 same in
+        let systems_same : x.system ≡ s = cc in
+        subst (λ (t : SystemValue). IsSystemNamed custom name t.way (sealed.system_of t)) systems_same (subst (λ (n : List ℕ). IsSystemNamed custom n x.system.way (sealed.system_of x.system)) names are.0)
+    by false apart rest is = rest is
+
+-- the variables stand over the systems that their names mean
+pub are_variables : (custom : Custom) (systems : List NamedSystem) (found : List resolved.Variable) (ss : List SystemValue) → AreMeant custom systems → AreSystemsOf (library_of systems) found ss → AreVariables custom found (variables_over found ss)
+are_variables custom systems [] [] are over = tt
+are_variables custom systems [] (s ∷ ss) are over = absurd over
+are_variables custom systems (v ∷ found) [] are over = absurd over
+are_variables custom systems (v ∷ found) (s ∷ ss) are over =
+    (record { name_is = refl; system_is = refl; means = meant_in custom systems v.system s are over.0 }, are_variables custom systems found ss are over.1)
+
+module _ (systems : List NamedSystem) where
+  pub as_many : (found : List resolved.Variable) (ss : List SystemValue) → AreSystemsOf (library_of systems) found ss → length found ≡ length ss
+  as_many [] [] over = refl
+  as_many [] (s ∷ ss) over = absurd over
+  as_many (v ∷ found) [] over = absurd over
+  as_many (v ∷ found) (s ∷ ss) over = omega (arith, as_many found ss over.1)
+
+  over_count : (found : List resolved.Variable) (ss : List SystemValue) → AreSystemsOf (library_of systems) found ss → length (variables_over found ss) ≡ length ss
+  over_count [] [] over = refl
+  over_count [] (s ∷ ss) over = absurd over
+  over_count (v ∷ found) [] over = absurd over
+  over_count (v ∷ found) (s ∷ ss) over = omega (arith, over_count found ss over.1)
+
+  over_names : (found : List resolved.Variable) (ss : List SystemValue) → AreSystemsOf (library_of systems) found ss → names_of_variables (variables_over found ss) ≡ map (λ (v : resolved.Variable). v.name) found
+  over_names [] [] over = refl
+  over_names [] (s ∷ ss) over = absurd over
+  over_names (v ∷ found) [] over = absurd over
+  over_names (v ∷ found) (s ∷ ss) over = ap (λ (ns : List (List ℕ)). v.name ∷ ns) (over_names found ss over.1)
+
+  over_systems : (found : List resolved.Variable) (ss : List SystemValue) → AreSystemsOf (library_of systems) found ss → systems_of (named_systems (variables_over found ss)) ≡ relations.systems_of ss
+  over_systems [] [] over = refl
+  over_systems [] (s ∷ ss) over = absurd over
+  over_systems (v ∷ found) [] over = absurd over
+  over_systems (v ∷ found) (s ∷ ss) over = ap (λ (xs : List System). sealed.system_of s ∷ xs) (over_systems found ss over.1)
+
+over_tracks : (found : List resolved.Variable) (ss : List SystemValue) → header_tracks (named_systems (variables_over found ss)) ≡ tracks_over found ss
+over_tracks [] ss = refl
+over_tracks (v ∷ found) [] = refl
+over_tracks (v ∷ found) (s ∷ ss) = ap (λ (ts : List SystemTrack). track_of (variable_over v s).system ∷ ts) (over_tracks found ss)
+
+over_ways : (way : Direction) (found : List resolved.Variable) (ss : List SystemValue) → AllByRecursion (λ (s : SystemValue). s.way ≡ way) ss → AllByRecursion (λ (v : Variable). v.way ≡ way) (variables_over found ss)
+over_ways way [] ss ways = tt
+over_ways way (v ∷ found) [] ways = tt
+over_ways way (v ∷ found) (s ∷ ss) ways = (ways.0, over_ways way found ss ways.1)
+
+-- no name stands for anything in a library without relations
+same_meanings : (systems : List NamedSystem) → MeanTheSame (meanings_of (library_of systems)) no_meanings
+same_meanings systems = record {
+  holds_there = λ name ns is. none-some is.0 is.1;
+  holds_back = λ name ns is. absurd is;
+  letter_there = λ name ns b is. is;
+  letter_back = λ name ns b is. is;
+}
+
+module _ (systems : List NamedSystem) (formula : trees.Formula) (found : List resolved.Variable) (r : RelationValue) (solution : IsSolution (library_of systems) formula r) (over : IsOverVariables (library_of systems) found r) where
+  abbrev variables : List Variable
+  variables = variables_over found r.systems
+
+  own_names : names_of_variables variables ≡ r.names
+  own_names = over_names systems found r.systems over.systems_are ∙ sym over.names_are
+
+  -- the relation holds of numbers for which the formula is true
+  solves : (ns : List ℕ) → length ns ≡ length variables → RelationHolds r ns ↔ IsSolvedBy variables formula ns
+  solves ns count =
+      let a : List ℕ → ℕ = assigned variables ns in
+      let own : map a r.names ≡ ns = ap (λ (names : List (List ℕ)). map a names) (sym own_names) ∙ assigned_numbers variables ns (subst AreDistinct (sym own_names) solution.relation.tracked.distinct) count in
+      let says : RelationHolds r (map a r.names) ↔ Holds (meanings_of (library_of systems)) formula a = solution.holds a in
+      let same : Holds (meanings_of (library_of systems)) formula a ↔ Holds no_meanings formula a = meanings_matter (meanings_of (library_of systems)) no_meanings (same_meanings systems) formula a in
+      ((λ holds. same.0 (says.0 (subst (RelationHolds r) (sym own) holds))), (λ holds. subst (RelationHolds r) own (says.1 (same.1 holds))))
+
+  -- its automaton accepts the spellings of these numbers
+  solution_holds : HoldsOf (relations.way_of r.systems) (systems_of (named_systems variables)) (IsSolvedBy variables formula) r.automaton
+  solution_holds =
+      let way : Direction = relations.way_of r.systems in
+      let sizes : systems_of (named_systems variables) ≡ relations.systems_of r.systems = over_systems systems found r.systems over.systems_are in
+      let closed : HoldsOf way (systems_of (named_systems variables)) (RelationHolds r) r.automaton = subst (λ (ss : List System). HoldsOf way ss (RelationHolds r) r.automaton) (sym sizes) solution.relation.closed in
+      holds_same way (systems_of (named_systems variables)) (RelationHolds r) (IsSolvedBy variables formula) r.automaton
+      (λ ns count. solves ns (count ∙ ap length sizes ∙ length-map r.systems sealed.system_of ∙ sym (over_count systems found r.systems over.systems_are))) closed
+
+  -- the text of the automaton is that of the formula
+  pub solution_text : IsSolutionText variables formula (automaton_text found r)
+  solution_text = record {
+    way = relations.way_of r.systems;
+    read = over_ways (relations.way_of r.systems) found r.systems solution.relation.one_way;
+    automaton = r.automaton;
+    canonical = solution.relation.tracked.canonical;
+    holds = solution_holds;
+    text_is = ap (λ (ts : List SystemTrack). relation_text (headers.Systems ts) r.automaton) (sym (over_tracks found r.systems));
+  }
+
+  -- a relation without tracks is that of a sentence, whose truth is whether it holds
+  pub no_variables : r.names ≡ [] → variables ≡ []
+  no_variables none = by variables (own_names ∙ none)
+    where
+      by : (vs : List Variable) → names_of_variables vs ≡ [] → vs ≡ []
+      by [] is = refl
+      by (v ∷ vs) is = let more : length (v.name ∷ names_of_variables vs) ≡ 0 = ap length is in absurd (omega (arith, more))
+
+  pub some_variables : r.names ≢ [] → variables ≢ []
+  some_variables some none = some (sym own_names ∙ ap names_of_variables none)
+
+  pub sentence_truth : r.names ≡ [] → (truth : Bool) → (IsTrue truth ↔ RelationHolds r []) → HasTruth formula truth
+  sentence_truth none truth is =
+      let empty : variables ≡ [] = no_variables none in
+      let says : RelationHolds r [] ↔ IsSolvedBy variables formula [] = solves [] (sym (ap length empty)) in
+      let there : RelationHolds r [] ↔ IsSolvedBy [] formula [] = subst (λ (vs : List Variable). RelationHolds r [] ↔ IsSolvedBy vs formula []) empty says in
+      ((λ holds. there.0 (is.0 holds)), (λ holds. is.1 (there.1 holds)))
+
+-- a built-in system has as many digits as a track may have
+meant_digits : (custom : Custom) (name : List ℕ) (s : SystemValue) → IsSystemNamed custom name s.way (sealed.system_of s) → IsDigitCount s.digits
+meant_digits custom name s (kind, named, is) = subst IsDigitCount (sym (ap (λ (x : System). x.digits) is)) (by_kind kind named.0)
+  where
+    by_kind : (k : SystemKind) → IsSystemKind k → IsDigitCount (built_in_system k).digits
+    by_kind (Base k) base = record { some = omega (arith, base.least); small = omega (arith, base.most) }
+    by_kind Fibonacci fib = record { some = omega arith; small = omega arith }
+
+pub over_digits : (custom : Custom) (systems : List NamedSystem) (found : List resolved.Variable) (ss : List SystemValue) → AreMeant custom systems → AreSystemsOf (library_of systems) found ss → AllByRecursion (λ (s : SystemValue). IsDigitCount s.digits) ss
+over_digits custom systems [] [] are over = tt
+over_digits custom systems [] (s ∷ ss) are over = absurd over
+over_digits custom systems (v ∷ found) [] are over = absurd over
+over_digits custom systems (v ∷ found) (s ∷ ss) are over = (meant_digits custom v.system s (meant_in custom systems v.system s are over.0), over_digits custom systems found ss are over.1)

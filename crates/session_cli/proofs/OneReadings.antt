@@ -1,0 +1,121 @@
+-- A quoted text is read as one formula, or refused in one way.
+use Rattle.std.proofs.Common.{◌≡◌, ◌≢◌, ℕ, List, None, Some, Result, Ok, Err, refl, sym, ap, ◌∙◌, arith}
+use Rattle.formula_parse.specs.Trees as trees
+use Rattle.formula_parse.specs.Flaws.{Flaw, mixed_chain, not_linear}
+use Rattle.formula_parse.specs.FormulaTrees.{tree_of}
+use Rattle.formula_parse.specs.Grammar.{Reads, IsFlawed}
+use Rattle.formula_parse.specs.Spots.{spots, tokens}
+use Rattle.formula_parse.specs.Parsing.{Cut, Parses}
+use Rattle.formula_parse.specs.OneAnswer.{IsOfTheText}
+use Rattle.formula_parse.specs.declared.tree.Formula.{Formula as Tree}
+use Rattle.formula_parse.specs.declared.fault.ParseFault.{ParseFault}
+use Rattle.formula_parse.specs.declared.fault.ParseFault.TheVariants as parses
+use Rattle.formula_parse.proofs.Derivations as derivations
+use Rattle.formula_parse.proofs.DerivedFlaws.{formula_flaw}
+use Rattle.formula_parse.proofs.BothGrammars.{breaks_derived, reaches_derived, WholeDerived, whole_derived}
+use Rattle.formula_parse.proofs.Cuts.{one_derivation, Stops, breaks_stop, reaches_stop, whole_stops}
+use Rattle.formula_parse.proofs.OneAnswer.{one_answer_of, one_tree_of}
+use Rattle.session_cli.specs.declared.fault.Grammar.TheVariants as grammars
+use Rattle.session_cli.specs.declared.fault.Fault.{Fault}
+use Rattle.session_cli.specs.declared.fault.Fault.TheVariants as faults
+use Rattle.session_cli.specs.Checks.{Pure}
+use Rattle.session_cli.specs.FormulaFaults.{fault_of_formula}
+use Rattle.session_cli.specs.FormulaOutcomes.{FormulaAnswers}
+use Rattle.session_cli.proofs.CheckSteps.{IsSingle}
+
+-- a formula that is read, or a fault
+abbrev Told : Type 0
+Told = Result trees.Formula ParseFault
+
+abbrev Tells : List ℕ → Told → Type 0
+Tells text (Ok formula) = Reads (tokens (spots text)) formula
+Tells text (Err fault) = (fault ≢ parses.Memory) × (let r : Result Tree ParseFault = Err fault in Parses text r)
+
+-- what is derived of a text that is read, and of one with a flaw
+derived : (text : List ℕ) (formula : trees.Formula) → Reads (tokens (spots text)) formula → WholeDerived (tokens (spots text)) formula None
+derived text formula reads = whole_derived (tokens (spots text)) formula None (record { text = reads.text; derives = reads.derives; tree_is = reads.tree_is; flaw_is = reads.flawless })
+
+flawed : (text : List ℕ) (flaw : Flaw) (is : IsFlawed (tokens (spots text)) flaw) → WholeDerived (tokens (spots text)) (tree_of is.text) (Some flaw)
+flawed text flaw is = whole_derived (tokens (spots text)) (tree_of is.text) (Some flaw) (record { text = is.text; derives = is.derives; tree_is = refl; flaw_is = is.flaw_is })
+
+module _ (text : List ℕ) (formula : trees.Formula) (reads : Reads (tokens (spots text)) formula) where
+  -- what is read has no flaw
+  not_flawed : (flaw : Flaw) → IsFlawed (tokens (spots text)) flaw → ⊥
+  not_flawed flaw is =
+      let whole : WholeDerived (tokens (spots text)) formula None = derived text formula reads in
+      let other : WholeDerived (tokens (spots text)) (tree_of is.text) (Some flaw) = flawed text flaw is in
+      let same : whole.text ≡ other.text = one_derivation whole.text other.text (whole.derives.spells ∙ sym other.derives.spells) in
+      let none : None ≡ Some flaw = sym whole.flaw_is ∙ (ap (λ (f : derivations.Formula). formula_flaw None f) same ∙ other.flaw_is) in cc
+
+  -- and does not stop at a token
+  not_stopped : (cut : Cut text) → Stops (tokens cut.front) cut.spot.token → ⊥
+  not_stopped cut stops =
+      let whole : WholeDerived (tokens (spots text)) formula None = derived text formula reads in
+      whole_stops text whole.text cut whole.derives stops
+
+  not_refused : (fault : ParseFault) → Tells text (Err fault) → ⊥
+  not_refused (parses.Syntax at) (told, is) = not_stopped is.cut (breaks_stop (tokens is.cut.front) is.cut.spot.token (breaks_derived (tokens is.cut.front) is.cut.spot.token is.breaks))
+  not_refused (parses.Number at) (told, is) =
+      not_stopped is.cut (reaches_stop (tokens is.cut.front) is.cut.spot.token is.passes.place (reaches_derived (tokens is.cut.front) is.cut.spot.token is.passes.place is.passes.reaches) (λ allowed. is.passes.out allowed.1))
+  not_refused (parses.Depth at) (told, is) =
+      not_stopped is.cut (reaches_stop (tokens is.cut.front) is.cut.spot.token is.passes.place (reaches_derived (tokens is.cut.front) is.cut.spot.token is.passes.place is.passes.reaches) (λ allowed. let low = allowed.0 in let deep = is.passes.deep in omega arith))
+  not_refused (parses.MixedChain at) (told, is) = not_flawed (mixed_chain at) is
+  not_refused (parses.NotLinear at) (told, is) = not_flawed (not_linear at) is
+  not_refused parses.Memory (told, is) = told refl
+
+-- a fault that is not want of memory is of the text
+of_text : (fault : ParseFault) → fault ≢ parses.Memory → (let r : Result Tree ParseFault = Err fault in IsOfTheText r)
+of_text (parses.Syntax at) told = tt
+of_text (parses.Number at) told = tt
+of_text (parses.Depth at) told = tt
+of_text (parses.MixedChain at) told = tt
+of_text (parses.NotLinear at) told = tt
+of_text parses.Memory told = told refl
+
+one_telling : (text : List ℕ) (r s : Told) → Tells text r → Tells text s → r ≡ s
+one_telling text (Ok formula) (Ok other) a b = ap (λ (f : trees.Formula). let t : Told = Ok f in t) (one_tree_of (tokens (spots text)) formula other a b)
+one_telling text (Ok formula) (Err fault) a b = absurd (not_refused text formula a fault b)
+one_telling text (Err fault) (Ok formula) a b = absurd (not_refused text formula b fault a)
+one_telling text (Err fault) (Err other) (told, a) (told', b) = one_answer_of text (Err fault) (Err other) (of_text fault told) (of_text other told') a b
+
+abbrev of_told : Told → Result trees.Formula Fault
+of_told (Ok formula) = Ok formula
+of_told (Err fault) = Err (fault_of_formula fault)
+
+record IsReading (text : List ℕ) (r : Result trees.Formula Fault) : Type 0 where
+  told : Told
+  tells : Tells text told
+  is : r ≡ of_told told
+
+reading_is : (text : List ℕ) (r : Result trees.Formula Fault) → FormulaAnswers text r → IsReading text r
+reading_is text (Ok formula) a = record { told = Ok formula; tells = a; is = refl }
+reading_is text (Err (faults.Syntax grammars.Formula at)) a = record { told = Err (parses.Syntax at); tells = ((λ is. cc), a); is = refl }
+reading_is text (Err (faults.Number grammars.Formula at)) a = record { told = Err (parses.Number at); tells = ((λ is. cc), a); is = refl }
+reading_is text (Err (faults.Depth grammars.Formula at)) a = record { told = Err (parses.Depth at); tells = ((λ is. cc), a); is = refl }
+reading_is text (Err (faults.MixedChain at)) a = record { told = Err (parses.MixedChain at); tells = ((λ is. cc), a); is = refl }
+reading_is text (Err (faults.NotLinear at)) a = record { told = Err (parses.NotLinear at); tells = ((λ is. cc), a); is = refl }
+reading_is text (Err (faults.Syntax grammars.Command at)) a = absurd a
+reading_is text (Err (faults.Syntax grammars.Regex at)) a = absurd a
+reading_is text (Err (faults.Number grammars.Command at)) a = absurd a
+reading_is text (Err (faults.Number grammars.Regex at)) a = absurd a
+reading_is text (Err (faults.Depth grammars.Command at)) a = absurd a
+reading_is text (Err (faults.Depth grammars.Regex at)) a = absurd a
+reading_is text (Err faults.Command) a = absurd a
+reading_is text (Err (faults.Long bytes)) a = absurd a
+reading_is text (Err (faults.Unknown folder name)) a = absurd a
+reading_is text (Err (faults.Arity name tracks given)) a = absurd a
+reading_is text (Err (faults.SystemUnknown name)) a = absurd a
+reading_is text (Err (faults.Clash name first other)) a = absurd a
+reading_is text (Err (faults.Direction first other)) a = absurd a
+reading_is text (Err (faults.Letters step)) a = absurd a
+reading_is text (Err (faults.States step)) a = absurd a
+reading_is text (Err (faults.Plain name)) a = absurd a
+reading_is text (Err (faults.Store folder name)) a = absurd a
+reading_is text (Err faults.Memory) a = absurd a
+reading_is text (Err faults.ScriptLimit) a = absurd a
+
+pub reading_single : (text : List ℕ) → IsSingle (Pure (FormulaAnswers text))
+reading_single text r s a b =
+    let p : IsReading text r = reading_is text r a in
+    let q : IsReading text s = reading_is text s b in
+    p.is ∙ (ap of_told (one_telling text p.told q.told p.tells q.tells) ∙ sym q.is)

@@ -1,0 +1,65 @@
+-- What the code does for a formula, part by part.
+use Rattle.std.specs.Prelude.{◌≡◌, ◌≢◌, ◌↔◌, ◌⊎◌, ℕ, ◌<◌, ◌≤◌, List, [], ◌∷◌, length, Bool, IsTrue, Result, Ok, Err, ⊤}
+use Rattle.std.specs.List.{AllByRecursion}
+use Rattle.digit_tuple.specs.Systems.{IsDigitCount}
+use Rattle.digit_tuple.specs.declared.header.Header.TheVariants as headers
+use Rattle.digit_tuple.specs.declared.systems.SystemTrack.{SystemTrack}
+use Rattle.dfa_text.specs.RelationText.{relation_text}
+use Rattle.formula_build.specs.Libraries.{NamedSystem}
+use Rattle.formula_parse.specs.FormulaTrees.{default_system}
+use Rattle.formula_resolve.specs.declared.file.File.{File}
+use Rattle.formula_resolve.specs.declared.variable.Variable.{Variable}
+use Rattle.num_system.specs.Sealed.{SystemValue}
+use Rattle.number_relations.specs.Relations.{RelationValue, RelationHolds}
+use Rattle.system_names.specs.Names.{IsBuiltInName}
+use Rattle.session_cli.specs.declared.fault.Fault.{Fault}
+use Rattle.session_cli.specs.declared.fault.Fault.TheVariants as faults
+use Rattle.session_cli.specs.FormulaOutcomes.{IsFirstFile}
+use Rattle.session_cli.specs.FormulaTexts.{truth_text}
+use Rattle.session_cli.specs.SealedSystems.{HasSystemIn}
+use Rattle.session_cli.specs.TrackSystems.{IsUnknown}
+
+-- there is no file, or the fault names the first
+abbrev pub ChecksFiles : List File → Result (Unit {0}) Fault → Type 0
+ChecksFiles files (Ok none) = files ≡ []
+ChecksFiles files (Err (faults.Unknown folder name)) = IsFirstFile files folder name
+ChecksFiles files (Err faults.Memory) = ⊤
+ChecksFiles files (Err fault) = ⊥
+
+-- each of these names is that of a built-in system, and each of them and the default stands for a system
+pub record HasSystems (names : List (List ℕ)) (systems : List NamedSystem) : Type 0 where
+  pub known : AllByRecursion IsBuiltInName names
+  pub mentioned : AllByRecursion (HasSystemIn systems) names
+  pub default : HasSystemIn systems default_system
+
+-- they have, or the fault names the first that is not known
+abbrev pub SealsSystems : List (List ℕ) → List NamedSystem → Result (Unit {0}) Fault → Type 0
+SealsSystems names systems (Ok sealed) = HasSystems names systems
+SealsSystems names systems (Err fault) = IsUnknown names fault
+
+-- the tracks of variables over these systems, as long as there are both
+abbrev pub tracks_over : List Variable → List SystemValue → List SystemTrack
+tracks_over [] systems = []
+tracks_over (v ∷ variables) [] = []
+tracks_over (v ∷ variables) (s ∷ systems) = record { name = v.system; digits = s.digits } ∷ tracks_over variables systems
+
+-- there is a variable for each of the systems, and each has as many digits as a track may have
+pub record HaveTracks (variables : List Variable) (systems : List SystemValue) : Type 0 where
+  pub count : length variables ≡ length systems
+  pub digits : AllByRecursion (λ (s : SystemValue). IsDigitCount s.digits) systems
+
+-- the text of the automaton under the names of these systems
+abbrev pub automaton_text : List Variable → RelationValue → List ℕ
+automaton_text variables r = relation_text (headers.Systems (tracks_over variables r.systems)) r.automaton
+
+-- the text of a relation on the numbers of these variables: its truth where it has no track
+abbrev pub IsTextOf : List Variable → RelationValue → List ℕ → Type 0
+IsTextOf variables r text =
+    ((r.names ≡ []) × ((truth : Bool) × (IsTrue truth ↔ RelationHolds r []) × (text ≡ truth_text truth)))
+    ⊎ ((r.names ≢ []) × (text ≡ automaton_text variables r) × (length text ≤ 16777216))
+
+-- the text is too long, or memory ran out
+abbrev pub HasNoTextOf : List Variable → RelationValue → Fault → Type 0
+HasNoTextOf variables r (faults.Long bytes) = (r.names ≢ []) × (bytes ≡ 16777216) × (16777216 < length (automaton_text variables r))
+HasNoTextOf variables r faults.Memory = ⊤
+HasNoTextOf variables r _ = ⊥

@@ -1,0 +1,64 @@
+//! The text of what a formula makes.
+
+ghost use Rattle.std.specs.Prelude.{◌≡◌, map, IfOk, MatchResult};
+ghost use Rattle.std.specs.Rc.{rc_value};
+ghost use Rattle.session_cli.specs.FormulaTexts.{truth_text as text_of_truth};
+ghost use Rattle.session_cli.specs.FormulaPlans.{HaveTracks, IsTextOf, HasNoTextOf, tracks_over};
+
+use crate::fault::Fault;
+use dfa_text::print_within;
+use digit_tuple::faults::OutOfMemory;
+use digit_tuple::header::Header;
+use digit_tuple::systems::Systems;
+use formula_resolve::Variable;
+use num_system::system::System;
+use number_relations::relation::Relation;
+use std::alloc::Global;
+use std::rc::Rc;
+use wal_outside::TEXT_LIMIT;
+
+/// The text of a relation on the numbers of these variables: its truth where there is none, and else its automaton under
+/// the names of the variables' systems.
+///
+/// # Errors
+/// `Long` exactly where the text has more bytes than a text may have, or `Memory`.
+pub(crate) fn formula_text(
+    alloc: Global,
+    variables: &[Variable],
+    relation: &Relation,
+) -> Result<Vec<u8>, Fault>
+    requires { HaveTracks variables.now relation.now.systems }
+    ensures { MatchResult result (λ text. IsTextOf variables.now relation.now text.items) (HasNoTextOf variables.now relation.now) }
+{
+    if let Some(truth) = relation.verdict() {
+        return Ok(Vec::from_slice(alloc, truth_text(truth))?);
+    }
+    let header = Header::Systems(tracks_of(alloc, variables, relation.systems())?);
+    match print_within(alloc, &header, relation.dfa(), TEXT_LIMIT)? {
+        Some(text) => Ok(text),
+        None => Err(Fault::Long(TEXT_LIMIT)),
+    }
+}
+
+/// The text of a truth value.
+fn truth_text(truth: bool) -> &'static [u8]
+    ensures { result.now ≡ text_of_truth truth }
+{
+    if truth { b"true\n" } else { b"false\n" }
+}
+
+/// The tracks of variables over these systems, one for each.
+fn tracks_of(
+    alloc: Global,
+    variables: &[Variable],
+    systems: &[Rc<System>],
+) -> Result<Systems, OutOfMemory>
+    requires { HaveTracks variables.now (map rc_value systems.now) }
+    ensures { IfOk result (λ tracks. tracks ≡ tracks_over variables.now (map rc_value systems.now)) }
+{
+    let mut tracks = Systems::new(alloc);
+    for (place, variable) in variables.iter().enumerate() {
+        tracks.push(variable.system.copy(alloc)?, systems[place].digits())?;
+    }
+    Ok(tracks)
+}

@@ -1,0 +1,139 @@
+//! What formulas store, and theorems of Presburger arithmetic.
+
+use crate::whole::{SURE, run_script};
+use std::alloc::Global;
+use std::process::Abort;
+use std::test::Fail;
+use wal_outside::Folder;
+
+/// A command, and the folder, the name and the text that it stores.
+static TEXTS: [(&str, Folder, &str, &str); 15] = [
+    ("eval a \"Ex x+x=6\";", Folder::Results, "a", "true\n"),
+    ("eval b \"Ax Ey x=y+y\";", Folder::Results, "b", "false\n"),
+    (
+        "def even \"Ey x=2*y\";",
+        Folder::Automata,
+        "even",
+        "msd_2\n\n0 1\n0 -> 0\n1 -> 1\n\n1 0\n0 -> 0\n1 -> 1\n",
+    ),
+    (
+        "def lt \"y>x\";",
+        Folder::Automata,
+        "lt",
+        "msd_2 msd_2\n\n0 0\n0 0 -> 0\n0 1 -> 1\n1 1 -> 0\n\n1 1\n0 0 -> 1\n0 1 -> 1\n1 0 -> 1\n1 1 -> 1\n",
+    ),
+    (
+        "def z \"x<1\";",
+        Folder::Automata,
+        "z",
+        "msd_2\n\n0 1\n0 -> 0\n",
+    ),
+    (
+        "def w \"Ey y=x+8 & x=0\";",
+        Folder::Automata,
+        "w",
+        "msd_2\n\n0 1\n0 -> 0\n",
+    ),
+    ("def no \"x<x\";", Folder::Automata, "no", "msd_2\n\n0 0\n"),
+    (
+        "eval s \"Ax (x-1!=x | x=0)\";",
+        Folder::Results,
+        "s",
+        "true\n",
+    ),
+    (
+        "eval u \"x-1!=x & x=0\";",
+        Folder::Results,
+        "u",
+        "msd_2\n\n0 0\n",
+    ),
+    ("def d \"x=x+1\";", Folder::Automata, "d", "msd_2\n\n0 0\n"),
+    (
+        "def e \"?lsd_2 x=2\";",
+        Folder::Automata,
+        "e",
+        "lsd_2\n\n0 0\n0 -> 1\n\n1 0\n1 -> 2\n\n2 1\n0 -> 2\n",
+    ),
+    (
+        "def c \"?msd_fib x=4\";",
+        Folder::Automata,
+        "c",
+        "msd_fib\n\n0 0\n0 -> 0\n1 -> 1\n\n1 0\n0 -> 2\n\n2 0\n1 -> 3\n\n3 1\n",
+    ),
+    (
+        "eval f \"?msd_fib Ex ~(x=x)\";",
+        Folder::Results,
+        "f",
+        "false\n",
+    ),
+    (
+        "eval l \"?lsd_fib Ax Ey y=x+x\";",
+        Folder::Results,
+        "l",
+        "true\n",
+    ),
+    ("def s \"1=2\";", Folder::Automata, "s", "false\n"),
+];
+
+/// Sentences that are true of the natural numbers.
+static THEOREMS: [&str; 20] = [
+    "Ax,y x+y=y+x",
+    "Ax,y,z (x+y)+z=x+(y+z)",
+    "Ax x+0=x",
+    "Ax,y,z x+z=y+z => x=y",
+    "Ax,y x<=y <=> (Ez x+z=y)",
+    "Ax,y x<y | x=y | y<x",
+    "Ax ~(x<x)",
+    "Ax,y,z (x<y & y<z) => x<z",
+    "Ax,y x<y => x+1<=y",
+    "Ax x!=0 => (Ey x=y+1)",
+    "Ax Ey x=2*y | x=2*y+1",
+    "~(Ex,y 2*x=2*y+1)",
+    "Ax,y 3*x=3*y => x=y",
+    "An n>43 => (Ex,y,z n=6*x+9*y+20*z)",
+    "~(Ex,y,z 43=6*x+9*y+20*z)",
+    "An n>7 => (Ex,y n=3*x+5*y)",
+    "Ax Ey,z x=3*y+z & z<3",
+    "Ex Ay x<=y",
+    "~(Ex Ay y<=x)",
+    "Ax,y (x-y)+y=x | x<y",
+];
+
+#[test]
+fn formulas_store_their_texts(rt: HostRuntime) -> Result<(), Fail> {
+    for (script, folder, name, text) in &TEXTS {
+        let left = run_script(rt.alloc(), script.as_bytes(), &SURE)?;
+        let stored = left.store.text(*folder, name);
+        assert_eq!(rt; stored, Some(text.as_bytes()), "what {script} stores");
+    }
+    Ok(())
+}
+
+#[test]
+fn theorems_are_true_and_their_negations_false(rt: HostRuntime) -> Result<(), Fail> {
+    for theorem in &THEOREMS {
+        let stated = format!(in rt.alloc(); "eval t \"{theorem}\";")?;
+        expect_verdict(&rt, rt.alloc(), &stated, "TRUE\n")?;
+        let negated = format!(in rt.alloc(); "eval t \"~({theorem})\";")?;
+        expect_verdict(&rt, rt.alloc(), &negated, "FALSE\n")?;
+    }
+    Ok(())
+}
+
+/// Runs a script that prints this and no more.
+fn expect_verdict(rt: &impl Abort, alloc: Global, script: &str, printed: &str) -> Result<(), Fail> {
+    let left = run_script(alloc, script.as_bytes(), &SURE)?;
+    assert_eq!(rt; left.out.held(), printed.as_bytes(), "what {script} prints");
+    Ok(())
+}
+
+// Among commands that are answered a refused one changes nothing.
+#[test]
+fn a_refused_formula_leaves_the_others(rt: HostRuntime) -> Result<(), Fail> {
+    let script = b"def p \"x=0\"; eval q \"x=1 | y=2 & z=3\"; def r \"x*y=1\"; eval s \"1=1\";";
+    let left = run_script(rt.alloc(), script, &SURE)?;
+    let printed = b"error 1: F03 MixedChain at 10\nerror 1: F05 NotLinear at 1\nTRUE\n";
+    assert_eq!(rt; left.out.held(), printed.as_slice());
+    assert_eq!(rt; left.store.len(), 2);
+    Ok(())
+}
