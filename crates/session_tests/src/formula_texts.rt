@@ -1,6 +1,6 @@
 //! What formulas store, and theorems of Presburger arithmetic.
 
-use crate::whole::{SURE, run_script};
+use crate::whole::{Left, SURE, run_script};
 use std::alloc::Global;
 use std::process::Abort;
 use std::test::Fail;
@@ -103,9 +103,21 @@ static THEOREMS: [&str; 20] = [
 fn formulas_store_their_texts(rt: HostRuntime) -> Result<(), Fail> {
     for (script, folder, name, text) in &TEXTS {
         let left = run_script(rt.alloc(), script.as_bytes(), &SURE)?;
-        let stored = left.store.text(*folder, name);
-        assert_eq!(rt; stored, Some(text.as_bytes()), "what {script} stores");
+        expect_text(&rt, &left, *folder, name, text)?;
     }
+    Ok(())
+}
+
+/// This text stands under a name in a folder.
+fn expect_text(
+    rt: &impl Abort,
+    left: &Left,
+    folder: Folder,
+    name: &str,
+    text: &str,
+) -> Result<(), Fail> {
+    let stored = left.store.text(folder, name).ok_or("not stored")?;
+    assert_eq!(rt; stored, text.as_bytes(), "the text of {name}");
     Ok(())
 }
 

@@ -38,6 +38,10 @@ mod formula_rows;
 #[cfg(test)]
 mod formula_texts;
 
+// faults at each place of a formula
+#[cfg(test)]
+mod formula_places;
+
 // formulas at their limits
 #[cfg(test)]
 mod formula_limits;
