@@ -3,18 +3,16 @@
 use crate::whole::{Left, Outside, SURE, over_sink, run_script};
 use session_cli::Status;
 use std::alloc::{AllocError, Global};
+use std::process::Abort;
 use std::test::Fail;
 use wal_outside::Folder;
 
-/// What opens nesting, and what closes it.
-static NESTING: [(&str, &str); 4] = [("(", ")"), ("~", ""), ("Ex ", ""), ("A y ", "")];
-
-/// The fault of what opens nesting 129.
-static DEEP: [&str; 4] = [
-    "error 1: F06 Depth in formula at 128\n",
-    "error 1: F06 Depth in formula at 128\n",
-    "error 1: F06 Depth in formula at 384\n",
-    "error 1: F06 Depth in formula at 512\n",
+/// What opens nesting, what closes it, and the fault of 129 of these.
+static NESTING: [(&str, &str, &str); 4] = [
+    ("(", ")", "error 1: F06 Depth in formula at 128\n"),
+    ("~", "", "error 1: F06 Depth in formula at 128\n"),
+    ("Ex ", "", "error 1: F06 Depth in formula at 384\n"),
+    ("A y ", "", "error 1: F06 Depth in formula at 512\n"),
 ];
 
 /// A `def` of `x=1` inside so many of these.
@@ -33,11 +31,16 @@ fn nested(alloc: Global, open: &str, close: &str, depth: usize) -> Result<Vec<u8
 
 #[test]
 fn formulas_nest_128_deep(rt: HostRuntime) -> Result<(), Fail> {
-    for (kind, (open, close)) in NESTING.iter().enumerate() {
-        let most = run_script(rt.alloc(), &nested(rt.alloc(), open, close, 128)?, &SURE)?;
+    expect_nesting(&rt, rt.alloc(), &NESTING)
+}
+
+/// Of each 128 may stand within one another, and 129 may not.
+fn expect_nesting(rt: &impl Abort, alloc: Global, rows: &[(&str, &str, &str)]) -> Result<(), Fail> {
+    for (open, close, fault) in rows {
+        let most = run_script(alloc, &nested(alloc, open, close, 128)?, &SURE)?;
         assert_eq!(rt; most.status, Status::Done, "128 of {open}");
-        let more = run_script(rt.alloc(), &nested(rt.alloc(), open, close, 129)?, &SURE)?;
-        assert_eq!(rt; more.out.held(), DEEP[kind].as_bytes(), "129 of {open}");
+        let more = run_script(alloc, &nested(alloc, open, close, 129)?, &SURE)?;
+        assert_eq!(rt; more.out.held(), fault.as_bytes(), "129 of {open}");
         assert_eq!(rt; more.store.len(), 0);
     }
     Ok(())

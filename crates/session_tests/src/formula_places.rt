@@ -48,9 +48,14 @@ static PLACES: [(&str, &str); 28] = [
 
 #[test]
 fn faults_have_their_place(rt: HostRuntime) -> Result<(), Fail> {
-    for (formula, fault) in &PLACES {
-        expect_refused_alone(&rt, rt.alloc(), ["eval", formula, fault])?;
-        expect_refused_alone(&rt, rt.alloc(), ["def", formula, fault])?;
+    expect_all_refused(&rt, rt.alloc(), &PLACES)
+}
+
+/// Each formula is refused by its fault, in `eval` and in `def`.
+fn expect_all_refused(rt: &impl Abort, alloc: Global, rows: &[(&str, &str)]) -> Result<(), Fail> {
+    for (formula, fault) in rows {
+        expect_refused_alone(rt, alloc, ["eval", formula, fault])?;
+        expect_refused_alone(rt, alloc, ["def", formula, fault])?;
     }
     Ok(())
 }

@@ -186,24 +186,35 @@ static FAULTS: [(&str, &str); 26] = [
 
 #[test]
 fn steps_of_formulas_are_shown(rt: HostRuntime) -> Result<(), Fail> {
-    for (script, printed) in &STEPS {
-        expect_printed(&rt, rt.alloc(), ["100000", script, printed], 0)?;
-    }
-    Ok(())
-}
-
-#[test]
-fn steps_of_formulas_keep_to_the_limit_of_states(rt: HostRuntime) -> Result<(), Fail> {
-    for (limit, script, printed, code) in &LIMITS {
-        expect_printed(&rt, rt.alloc(), [limit, script, printed], *code)?;
-    }
-    Ok(())
+    expect_all(&rt, rt.alloc(), &STEPS, 0)
 }
 
 #[test]
 fn formulas_are_refused_by_their_first_fault(rt: HostRuntime) -> Result<(), Fail> {
-    for (script, printed) in &FAULTS {
-        expect_printed(&rt, rt.alloc(), ["100000", script, printed], 1)?;
+    expect_all(&rt, rt.alloc(), &FAULTS, 1)
+}
+
+#[test]
+fn steps_of_formulas_keep_to_the_limit_of_states(rt: HostRuntime) -> Result<(), Fail> {
+    expect_all_within(&rt, rt.alloc(), &LIMITS)
+}
+
+/// Each command prints what stands beside it, and ends with this status.
+fn expect_all(rt: &impl Abort, alloc: Global, rows: &[(&str, &str)], code: u8) -> Result<(), Fail> {
+    for (script, printed) in rows {
+        expect_printed(rt, alloc, ["100000", script, printed], code)?;
+    }
+    Ok(())
+}
+
+/// Each command prints what stands beside it, under its limit, and ends with its status.
+fn expect_all_within(
+    rt: &impl Abort,
+    alloc: Global,
+    rows: &[(&str, &str, &str, u8)],
+) -> Result<(), Fail> {
+    for (limit, script, printed, code) in rows {
+        expect_printed(rt, alloc, [limit, script, printed], *code)?;
     }
     Ok(())
 }

@@ -101,9 +101,18 @@ static THEOREMS: [&str; 20] = [
 
 #[test]
 fn formulas_store_their_texts(rt: HostRuntime) -> Result<(), Fail> {
-    for (script, folder, name, text) in &TEXTS {
-        let left = run_script(rt.alloc(), script.as_bytes(), &SURE)?;
-        expect_text(&rt, &left, *folder, name, text)?;
+    expect_texts(&rt, rt.alloc(), &TEXTS)
+}
+
+/// Each command stores its text under its name, in its folder.
+fn expect_texts(
+    rt: &impl Abort,
+    alloc: Global,
+    rows: &[(&str, Folder, &str, &str)],
+) -> Result<(), Fail> {
+    for (script, folder, name, text) in rows {
+        let left = run_script(alloc, script.as_bytes(), &SURE)?;
+        expect_text(rt, &left, *folder, name, text)?;
     }
     Ok(())
 }
@@ -123,11 +132,16 @@ fn expect_text(
 
 #[test]
 fn theorems_are_true_and_their_negations_false(rt: HostRuntime) -> Result<(), Fail> {
-    for theorem in &THEOREMS {
-        let stated = format!(in rt.alloc(); "eval t \"{theorem}\";")?;
-        expect_verdict(&rt, rt.alloc(), &stated, "TRUE\n")?;
-        let negated = format!(in rt.alloc(); "eval t \"~({theorem})\";")?;
-        expect_verdict(&rt, rt.alloc(), &negated, "FALSE\n")?;
+    expect_theorems(&rt, rt.alloc(), &THEOREMS)
+}
+
+/// Each sentence is true, and its negation false.
+fn expect_theorems(rt: &impl Abort, alloc: Global, theorems: &[&str]) -> Result<(), Fail> {
+    for theorem in theorems {
+        let stated = format!(in alloc; "eval t \"{theorem}\";")?;
+        expect_verdict(rt, alloc, &stated, "TRUE\n")?;
+        let negated = format!(in alloc; "eval t \"~({theorem})\";")?;
+        expect_verdict(rt, alloc, &negated, "FALSE\n")?;
     }
     Ok(())
 }

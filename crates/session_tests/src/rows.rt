@@ -93,9 +93,14 @@ fn stored_of(alloc: Global, expression: &str) -> Result<Vec<u8>, Fail> {
 
 #[test]
 fn one_language_has_one_text(rt: HostRuntime) -> Result<(), Fail> {
-    for (first, second) in &PAIRS {
-        let one = stored_of(rt.alloc(), first)?;
-        let other = stored_of(rt.alloc(), second)?;
+    expect_same_texts(&rt, rt.alloc(), &PAIRS)
+}
+
+/// The texts of both expressions are the same.
+fn expect_same_texts(rt: &impl Abort, alloc: Global, pairs: &[(&str, &str)]) -> Result<(), Fail> {
+    for (first, second) in pairs {
+        let one = stored_of(alloc, first)?;
+        let other = stored_of(alloc, second)?;
         assert_eq!(rt;
             one.as_slice(),
             other.as_slice(),

@@ -2,6 +2,8 @@
 
 use crate::rows::Row;
 use crate::whole::{SURE, run_words};
+use std::alloc::Global;
+use std::process::Abort;
 use std::test::Fail;
 
 pub static SYSTEMS: [Row; 29] = [
@@ -265,8 +267,13 @@ static LIMITED: [Limited; 7] = [
 
 #[test]
 fn steps_keep_to_the_limit_of_states(rt: HostRuntime) -> Result<(), Fail> {
-    for row in &LIMITED {
-        let left = run_words(rt.alloc(), row.texts, row.script.as_bytes(), &SURE)?;
+    expect_limited(&rt, rt.alloc(), &LIMITED)
+}
+
+/// Each script prints what stands beside it, under its words, and ends with its status.
+fn expect_limited(rt: &impl Abort, alloc: Global, rows: &[Limited]) -> Result<(), Fail> {
+    for row in rows {
+        let left = run_words(alloc, row.texts, row.script.as_bytes(), &SURE)?;
         assert_eq!(rt; left.out.held(), row.printed.as_bytes());
         assert_eq!(rt; left.status.code(), row.code);
         let stored = usize::from(row.code == 0);

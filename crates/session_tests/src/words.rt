@@ -16,7 +16,7 @@ const SHOWN: &[u8] = b"step 1 regex 33 32\n";
 const EXCEEDED: &[u8] = b"error 1: F19 States step 1\n";
 
 /// Words, what is printed of the script, and the status.
-const WORDS: [(&[&str], &[u8], u8); 24] = [
+static WORDS: [(&[&str], &[u8], u8); 24] = [
     (&["walnut"], SHOWN, 0),
     (&["walnut", "--states", "33"], SHOWN, 0),
     (&["walnut", "--states=33"], SHOWN, 0),
@@ -45,11 +45,16 @@ const WORDS: [(&[&str], &[u8], u8); 24] = [
 
 #[test]
 fn words_are_taken_or_refused_as_listed(rt: HostRuntime) -> Result<(), Fail> {
-    for (texts, printed, code) in WORDS {
-        let left = run_words(rt.alloc(), texts, SCRIPT, &SURE)?;
-        assert_eq!(rt; left.out.held(), printed);
-        assert_eq!(rt; left.status.code(), code);
-        assert_eq!(rt; left.store.len(), usize::from(code == 0));
+    expect_words(&rt, rt.alloc(), &WORDS)
+}
+
+/// The script prints what stands beside the words, and ends with the status.
+fn expect_words(rt: &impl Abort, alloc: Global, rows: &[(&[&str], &[u8], u8)]) -> Result<(), Fail> {
+    for (texts, printed, code) in rows {
+        let left = run_words(alloc, texts, SCRIPT, &SURE)?;
+        assert_eq!(rt; left.out.held(), *printed);
+        assert_eq!(rt; left.status.code(), *code);
+        assert_eq!(rt; left.store.len(), usize::from(*code == 0));
     }
     Ok(())
 }
