@@ -1,7 +1,9 @@
 //! Texts and their first faults.
 
+use crate::long_texts::nested;
 use formula_parse::{ParseFault, parse};
 use std::alloc::Global;
+use std::process::Abort;
 use std::test::Fail;
 
 /// The fault of a text, or none where it has a tree.
@@ -12,7 +14,7 @@ fn fault(alloc: Global, text: &[u8]) -> Option<ParseFault> {
     }
 }
 
-const FAULTS: [(&[u8], ParseFault); 62] = [
+static FAULTS: [(&[u8], ParseFault); 62] = [
     (b"x=1 | y=2 & z=3", ParseFault::MixedChain(10)),
     (b"x*y=2", ParseFault::NotLinear(1)),
     (b"18446744073709551616=x", ParseFault::Number(0)),
@@ -77,29 +79,26 @@ const FAULTS: [(&[u8], ParseFault); 62] = [
     (b"x*(y*z)=1", ParseFault::NotLinear(1)),
 ];
 
-#[test]
-fn texts_have_these_faults(rt: HostRuntime) -> Result<(), Fail> {
-    for (text, expected) in FAULTS {
-        assert_eq!(rt; fault(rt.alloc(), text), Some(expected));
+// Asserts that each text has its fault.
+fn expect_faults(rt: &impl Abort, alloc: Global, rows: &[(&[u8], ParseFault)]) {
+    for (text, expected) in rows {
+        assert_eq!(rt; fault(alloc, text), Some(*expected));
     }
-    Ok(())
 }
 
-/// An equation in so many parentheses.
-fn nested(alloc: Global, depth: usize) -> Result<Vec<u8>, Fail> {
-    let mut text = vec![in alloc; b'('; depth]?;
-    text.extend_from_slice(b"x=1")?;
-    for _ in 0..depth {
-        text.push(b')')?;
-    }
-    Ok(text)
+#[test]
+fn texts_have_these_faults(rt: HostRuntime) {
+    expect_faults(&rt, rt.alloc(), &FAULTS);
 }
 
 #[test]
 fn parentheses_nest_128_deep(rt: HostRuntime) -> Result<(), Fail> {
-    let most = nested(rt.alloc(), 128)?;
-    assert_eq!(rt; fault(rt.alloc(), &most), None);
-    let more = nested(rt.alloc(), 129)?;
-    assert_eq!(rt; fault(rt.alloc(), &more), Some(ParseFault::Depth(128)));
+    let most = nested(rt.alloc(), 128, "")?;
+    assert_eq!(rt; fault(rt.alloc(), most.as_bytes()), None);
+    let more = nested(rt.alloc(), 129, "")?;
+    assert_eq!(rt;
+        fault(rt.alloc(), more.as_bytes()),
+        Some(ParseFault::Depth(128))
+    );
     Ok(())
 }

@@ -35,6 +35,10 @@ mod parsed;
 #[cfg(test)]
 mod plans;
 
+// headers of the names in rows
+#[cfg(test)]
+mod headers;
+
 // formulas with their free variables or their faults
 #[cfg(test)]
 mod resolution;

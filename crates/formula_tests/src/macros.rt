@@ -1,11 +1,14 @@
 //! Texts with calls of macros, and their expansions or first faults.
 
+use crate::long_texts::repeated;
+use crate::parsed::expect;
 use macro_expand::{MacroFault, Macros, expand};
 use std::alloc::{AllocError, Global};
+use std::process::Abort;
 use std::test::Fail;
 
 // The macros of the rows, each with its text.
-const MACROS: [(&str, &str); 20] = [
+static MACROS: [(&str, &str); 20] = [
     ("dbl", "%0=2*%1"),
     ("two", "%0 & %0"),
     ("s", "#s()"),
@@ -29,7 +32,7 @@ const MACROS: [(&str, &str); 20] = [
 ];
 
 // Texts and what they expand to.
-const EXPANSIONS: [(&str, &str); 38] = [
+static EXPANSIONS: [(&str, &str); 38] = [
     ("#dbl(6,x)", "6=2*x"),
     ("", ""),
     ("x=1", "x=1"),
@@ -71,7 +74,7 @@ const EXPANSIONS: [(&str, &str); 38] = [
 ];
 
 // Texts and their first faults, with what these keep.
-const FAULTS: [(&str, &str); 35] = [
+static FAULTS: [(&str, &str); 35] = [
     ("#dbl(6)", "! MacroArgs dbl 1 1"),
     ("#tri(6)", "! Unknown tri"),
     ("#s()", "! MacroDepth s"),
@@ -109,13 +112,19 @@ const FAULTS: [(&str, &str); 35] = [
     ("#One(x)", "! Unknown One"),
 ];
 
+// Adds a macro.
+fn add(macros: &mut Macros, name: &str, text: &str) -> Result<(), Fail> {
+    match macros.add(name.as_bytes(), text.as_bytes()) {
+        Ok(()) => Ok(()),
+        Err(_) => Err(Fail::from("memory")),
+    }
+}
+
 // The macros with these texts.
 fn added(alloc: Global, texts: &[(&str, &str)]) -> Result<Macros, Fail> {
     let mut macros = Macros::new(alloc);
     for (name, text) in texts {
-        if macros.add(name.as_bytes(), text.as_bytes()).is_err() {
-            return Err(Fail::from("memory"));
-        }
+        add(&mut macros, name, text)?;
     }
     Ok(macros)
 }
@@ -148,48 +157,44 @@ fn shown(alloc: Global, text: &[u8], macros: &Macros) -> Result<String, AllocErr
     }
 }
 
-#[test]
-fn texts_expand_so(rt: HostRuntime) -> Result<(), Fail> {
-    let macros = added(rt.alloc(), &MACROS)?;
-    for (text, wanted) in EXPANSIONS {
-        let found = shown(rt.alloc(), text.as_bytes(), &macros)?;
-        assert_eq!(rt; found.as_str(), wanted);
+// Asserts that each text has its expansion, or its fault.
+fn expect_expansions(rt: &impl Abort, alloc: Global, rows: &[(&str, &str)]) -> Result<(), Fail> {
+    let macros = added(alloc, &MACROS)?;
+    for (text, wanted) in rows {
+        let found = shown(alloc, text.as_bytes(), &macros)?;
+        expect(rt, text, &found, wanted);
     }
     Ok(())
+}
+
+#[test]
+fn texts_expand_so(rt: HostRuntime) -> Result<(), Fail> {
+    expect_expansions(&rt, rt.alloc(), &EXPANSIONS)
 }
 
 #[test]
 fn texts_have_these_faults(rt: HostRuntime) -> Result<(), Fail> {
-    let macros = added(rt.alloc(), &MACROS)?;
-    for (text, wanted) in FAULTS {
-        let found = shown(rt.alloc(), text.as_bytes(), &macros)?;
-        assert_eq!(rt; found.as_str(), wanted);
-    }
-    Ok(())
-}
-
-// A part so many times.
-fn repeated(alloc: Global, part: &str, times: usize) -> Result<String, AllocError> {
-    let mut text = String::new(alloc);
-    for _ in 0..times {
-        text.push_str(part)?;
-    }
-    Ok(text)
+    expect_expansions(&rt, rt.alloc(), &FAULTS)
 }
 
 // A part in so many calls within one another.
 fn nested(alloc: Global, opening: &str, part: &str, times: usize) -> Result<String, AllocError> {
-    let mut text = repeated(alloc, opening, times)?;
-    text.push_str(part)?;
-    for _ in 0..times {
-        text.push(')')?;
-    }
+    let mut text = repeated(alloc, opening, times, part)?;
+    text.push_str(&")".repeat(alloc, times)?)?;
     Ok(text)
+}
+
+// Asserts that an expansion has so many bytes, or is the text of a fault.
+fn expect_length(rt: &impl Abort, found: &str, wanted: Result<usize, &str>) {
+    match wanted {
+        Ok(len) => assert_eq!(rt; found.len(), len),
+        Err(fault) => assert_eq!(rt; found, fault),
+    }
 }
 
 // Some calls within one another: what they open with, what stands inside, how many they are, and what they expand to: how
 // many bytes, or a fault.
-const NESTED: [(&str, &str, usize, Result<usize, &str>); 8] = [
+static NESTED: [(&str, &str, usize, Result<usize, &str>); 8] = [
     ("#one(", "x", 16, Ok(1)),
     ("#one(", "x", 17, Err("! MacroDepth one")),
     ("#tri(", "x", 17, Err("! MacroDepth tri")),
@@ -206,16 +211,13 @@ fn calls_nest_16_deep_and_texts_have_65536_bytes(rt: HostRuntime) -> Result<(), 
     for (opening, part, times, wanted) in NESTED {
         let text = nested(rt.alloc(), opening, part, times)?;
         let found = shown(rt.alloc(), text.as_bytes(), &macros)?;
-        match wanted {
-            Ok(len) => assert_eq!(rt; found.len(), len),
-            Err(fault) => assert_eq!(rt; found.as_str(), fault),
-        }
+        expect_length(&rt, &found, wanted);
     }
     Ok(())
 }
 
 // A part so many times and what follows: which text it gives, with `m` as 16,383 calls of an empty macro.
-const LONG: [(&str, usize, &str, Result<usize, &str>); 12] = [
+static LONG: [(&str, usize, &str, Result<usize, &str>); 12] = [
     ("x", 65536, "", Ok(65536)),
     ("x", 65537, "", Err("! MacroLong")),
     ("x", 65536, "#e()", Ok(65536)),
@@ -230,35 +232,41 @@ const LONG: [(&str, usize, &str, Result<usize, &str>); 12] = [
     ("#m()", 3, "#e(#m())", Err("! MacroLong")),
 ];
 
+// The macros of the rows and `m`.
+fn with_calls(alloc: Global) -> Result<Macros, Fail> {
+    let mut macros = added(alloc, &MACROS)?;
+    let calls = "#e()".repeat(alloc, 16383)?;
+    add(&mut macros, "m", &calls)?;
+    Ok(macros)
+}
+
 #[test]
 fn texts_have_65536_bytes_and_calls(rt: HostRuntime) -> Result<(), Fail> {
-    let mut macros = added(rt.alloc(), &MACROS)?;
-    let calls = repeated(rt.alloc(), "#e()", 16383)?;
-    assert!(rt; macros.add(b"m", calls.as_bytes()).is_ok());
+    let macros = with_calls(rt.alloc())?;
     for (part, times, end, wanted) in LONG {
-        let mut text = repeated(rt.alloc(), part, times)?;
-        text.push_str(end)?;
+        let text = repeated(rt.alloc(), part, times, end)?;
         let found = shown(rt.alloc(), text.as_bytes(), &macros)?;
-        match wanted {
-            Ok(len) => assert_eq!(rt; found.len(), len),
-            Err(fault) => assert_eq!(rt; found.as_str(), fault),
-        }
+        expect_length(&rt, &found, wanted);
     }
     Ok(())
 }
 
 // A call whose name has so many bytes: the longest name has 64.
-const NAMES: [(usize, Option<&str>); 3] = [(1, None), (64, None), (65, Some("! Syntax 0"))];
+static NAMES: [(usize, Option<&str>); 3] = [(1, None), (64, None), (65, Some("! Syntax 0"))];
+
+// The expansion of a call of a macro with this name.
+fn shown_of(alloc: Global, name: &str) -> Result<String, Fail> {
+    let macros = added(alloc, &[(name, "text")])?;
+    let text = format!(in alloc; "#{name}()")?;
+    Ok(shown(alloc, text.as_bytes(), &macros)?)
+}
 
 #[test]
 fn names_have_64_bytes(rt: HostRuntime) -> Result<(), Fail> {
     for (len, wanted) in NAMES {
-        let name = repeated(rt.alloc(), "a", len)?;
-        let mut macros = Macros::new(rt.alloc());
-        assert!(rt; macros.add(name.as_bytes(), b"text").is_ok());
-        let text = format!(in rt.alloc(); "#{name}()")?;
-        let found = shown(rt.alloc(), text.as_bytes(), &macros)?;
-        assert_eq!(rt; found.as_str(), wanted.unwrap_or("text"));
+        let name = "a".repeat(rt.alloc(), len)?;
+        let found = shown_of(rt.alloc(), &name)?;
+        expect(&rt, &name, &found, wanted.unwrap_or("text"));
     }
     Ok(())
 }
@@ -273,10 +281,7 @@ fn has(macros: &Macros, name: &str, text: &str) -> bool {
 
 #[test]
 fn the_last_text_added_stands(rt: HostRuntime) -> Result<(), Fail> {
-    let mut macros = Macros::new(rt.alloc());
-    assert!(rt; macros.add(b"f", b"x=1").is_ok());
-    assert!(rt; macros.add(b"g", b"x=2").is_ok());
-    assert!(rt; macros.add(b"f", b"x=3").is_ok());
+    let macros = added(rt.alloc(), &[("f", "x=1"), ("g", "x=2"), ("f", "x=3")])?;
     assert!(rt; has(&macros, "f", "x=3"));
     assert!(rt; has(&macros, "g", "x=2"));
     assert!(rt; macros.text_of(b"h").is_none());

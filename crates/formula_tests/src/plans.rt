@@ -2,15 +2,16 @@
 //! with its track. A fresh track is written by its number after `#`.
 
 use crate::long_texts::repeated;
-use crate::parsed::formula_of;
+use crate::parsed::{expect, formula_of};
 use formula_parse::tree::Formula;
 use formula_plan::{FormulaPlan, Making, Track, plan};
 use formula_resolve::Headers;
 use std::alloc::{AllocError, Global};
+use std::process::Abort;
 use std::test::Fail;
 
 // Terms and comparisons.
-const TERMS: [(&str, &str); 22] = [
+static TERMS: [(&str, &str); 22] = [
     ("x=x", ""),
     ("x!=y", ""),
     ("x-1=y", "const 1 #0, product, project #0"),
@@ -63,7 +64,7 @@ const TERMS: [(&str, &str); 22] = [
 ];
 
 // Chains, negations and quantifiers.
-const FORMULAS: [(&str, &str); 20] = [
+static FORMULAS: [(&str, &str); 20] = [
     (
         "Ex x+x=0",
         "const 0 #1, product, project #0, product, project #1, project x",
@@ -102,7 +103,7 @@ const FORMULAS: [(&str, &str); 20] = [
 ];
 
 // Calls and words.
-const NAMES: [(&str, &str); 8] = [
+static NAMES: [(&str, &str); 8] = [
     ("$f(x,y)", ""),
     (
         "$f(x,x+1)",
@@ -179,55 +180,48 @@ fn steps(alloc: Global, text: &str) -> Result<String, Fail> {
     Ok(written(alloc, &planned)?)
 }
 
-#[test]
-fn terms_have_these_steps(rt: HostRuntime) -> Result<(), Fail> {
-    for (text, wanted) in TERMS {
-        let found = steps(rt.alloc(), text)?;
-        assert_eq!(rt; found.as_str(), wanted);
+// Asserts that each text has its steps.
+fn expect_steps(rt: &impl Abort, alloc: Global, rows: &[(&str, &str)]) -> Result<(), Fail> {
+    for (text, wanted) in rows {
+        expect(rt, text, &steps(alloc, text)?, wanted);
     }
     Ok(())
+}
+
+#[test]
+fn terms_have_these_steps(rt: HostRuntime) -> Result<(), Fail> {
+    expect_steps(&rt, rt.alloc(), &TERMS)
 }
 
 #[test]
 fn formulas_have_these_steps(rt: HostRuntime) -> Result<(), Fail> {
-    for (text, wanted) in FORMULAS {
-        let found = steps(rt.alloc(), text)?;
-        assert_eq!(rt; found.as_str(), wanted);
-    }
-    Ok(())
+    expect_steps(&rt, rt.alloc(), &FORMULAS)
 }
 
 #[test]
 fn calls_and_words_have_these_steps(rt: HostRuntime) -> Result<(), Fail> {
-    for (text, wanted) in NAMES {
-        let found = steps(rt.alloc(), text)?;
-        assert_eq!(rt; found.as_str(), wanted);
-    }
-    Ok(())
+    expect_steps(&rt, rt.alloc(), &NAMES)
 }
 
 // How many relations are made for a text, by steps or without.
-fn relations(alloc: Global, text: &[u8]) -> Result<usize, Fail> {
-    let formula = formula_of(alloc, text)?;
+fn relations(alloc: Global, text: &str) -> Result<usize, Fail> {
+    let formula = formula_of(alloc, text.as_bytes())?;
     let planned = planned(alloc, &formula)?;
     Ok(planned.plans.makings().len())
 }
 
 #[test]
 fn texts_of_65536_bytes_are_planned(rt: HostRuntime) -> Result<(), Fail> {
-    let mut chain = repeated(rt.alloc(), b"x=1&", 16383)?;
-    chain.extend_from_slice(b"x=12")?;
+    let chain = repeated(rt.alloc(), "x=1&", 16383, "x=12")?;
     assert_eq!(rt; relations(rt.alloc(), &chain)?, 49151);
-    let mut sum = repeated(rt.alloc(), b"x+", 32766)?;
-    sum.extend_from_slice(b"x=12")?;
+    let sum = repeated(rt.alloc(), "x+", 32766, "x=12")?;
     assert_eq!(rt; relations(rt.alloc(), &sum)?, 98302);
     Ok(())
 }
 
 #[test]
 fn quantifiers_128_deep_are_planned(rt: HostRuntime) -> Result<(), Fail> {
-    let mut text = repeated(rt.alloc(), b"Ax Ey ", 64)?;
-    text.extend_from_slice(b"x<y")?;
+    let text = repeated(rt.alloc(), "Ax Ey ", 64, "x<y")?;
     assert_eq!(rt; relations(rt.alloc(), &text)?, 5);
     Ok(())
 }

@@ -1,38 +1,20 @@
 //! Formulas and their resolution: the free variables with their systems, `-` where there is none, or the fault with what it
 //! keeps; and the files and systems that formulas mention.
 
+use crate::headers::headers;
 use crate::long_texts::repeated;
-use crate::parsed::formula_of;
-use digit_tuple::header::Header;
+use crate::parsed::{expect, formula_of};
 use digit_tuple::name::Name;
-use digit_tuple::sets::Sets;
-use digit_tuple::systems::Systems;
 use formula_parse::tree::Formula;
 use formula_resolve::{
     File, Headers, Mention, ResolveFault, Variable, first_files, first_systems, mentions, resolve,
 };
 use std::alloc::{AllocError, Global};
+use std::process::Abort;
 use std::test::Fail;
 
-// The automata over systems, each with the systems of its tracks.
-const AUTOMATA: [(&str, &[&str]); 5] = [
-    ("f", &["msd_2", "msd_2"]),
-    ("g", &["lsd_2"]),
-    ("q", &["msd_3"]),
-    ("s", &[]),
-    ("ab", &["msd_2"]),
-];
-
-// The words, each with the systems of its tracks.
-const WORDS: [(&str, &[&str]); 4] = [
-    ("T", &["msd_2"]),
-    ("U", &["msd_2", "msd_2"]),
-    ("L", &["lsd_2"]),
-    ("W", &["msd_3"]),
-];
-
 // Texts and their resolution.
-const ROWS: [(&str, &str); 72] = [
+static ROWS: [(&str, &str); 72] = [
     // Free variables.
     ("x=1", "x msd_2"),
     ("0=0", "-"),
@@ -131,7 +113,7 @@ const ROWS: [(&str, &str); 72] = [
 ];
 
 // Texts, the files that they mention, and the systems.
-const MENTIONS: [(&str, &str, &str); 2] = [
+static MENTIONS: [(&str, &str, &str); 2] = [
     (
         "$g(1) & T[0]=@0 & (?msd_3 $f(1,2)) & $g(0) & ~?lsd_77 1=1",
         "$g T $f",
@@ -143,30 +125,6 @@ const MENTIONS: [(&str, &str, &str); 2] = [
         "msd_2 msd_41 msd_3",
     ),
 ];
-
-// The systems of these names. How many digits they have plays no part here, so each has 2.
-fn systems(alloc: Global, names: &[&str]) -> Result<Systems, Fail> {
-    let mut systems = Systems::new(alloc);
-    for name in names {
-        systems.push(Name::new(alloc, name)?, 2)?;
-    }
-    Ok(systems)
-}
-
-// The headers of the names in the rows. The last header added of a name stands: `ab` is over sets.
-fn headers(alloc: Global) -> Result<Headers, Fail> {
-    let mut headers = Headers::new(alloc);
-    for (name, tracks) in AUTOMATA {
-        let header = Header::Systems(systems(alloc, tracks)?);
-        headers.add_automaton(&Name::new(alloc, name)?, &header)?;
-    }
-    let sets = Header::Sets(Sets::new(alloc));
-    headers.add_automaton(&Name::new(alloc, "ab")?, &sets)?;
-    for (name, tracks) in WORDS {
-        headers.add_word(&Name::new(alloc, name)?, &systems(alloc, tracks)?)?;
-    }
-    Ok(headers)
-}
 
 // Variables with their systems, or `-`.
 fn written(alloc: Global, variables: &[Variable]) -> Result<String, AllocError> {
@@ -219,51 +177,48 @@ fn resolution(alloc: Global, formula: &Formula, headers: &Headers) -> Result<Str
     }
 }
 
-#[test]
-fn texts_have_this_resolution(rt: HostRuntime) -> Result<(), Fail> {
-    let headers = headers(rt.alloc())?;
-    for (text, wanted) in ROWS {
-        let formula = formula_of(rt.alloc(), text.as_bytes())?;
-        let found = resolution(rt.alloc(), &formula, &headers)?;
-        assert_eq!(rt; found.as_str(), wanted, "of {text}");
+// The resolution of the formula that a text is, or its fault.
+fn resolution_of(alloc: Global, text: &str) -> Result<String, Fail> {
+    let formula = formula_of(alloc, text.as_bytes())?;
+    resolution(alloc, &formula, &headers(alloc)?)
+}
+
+// Asserts that each text has its resolution.
+fn expect_resolutions(rt: &impl Abort, alloc: Global, rows: &[(&str, &str)]) -> Result<(), Fail> {
+    for (text, wanted) in rows {
+        expect(rt, text, &resolution_of(alloc, text)?, wanted);
     }
     Ok(())
 }
 
-// A chain of 16,384 atoms.
-fn chain_text(alloc: Global) -> Result<Vec<u8>, AllocError> {
-    let mut text = repeated(alloc, b"x=1&", 16383)?;
-    text.extend_from_slice(b"x=12")?;
-    Ok(text)
-}
-
-// Parentheses 128 deep, which a chain follows.
-fn nested_text(alloc: Global) -> Result<Vec<u8>, AllocError> {
-    let mut text = repeated(alloc, b"(", 128)?;
-    text.extend_from_slice(b"x=1")?;
-    text.extend_from_slice(&repeated(alloc, b"&x=1)", 128)?)?;
-    text.extend_from_slice(&repeated(alloc, b"&x=1", 16190)?)?;
-    text.extend_from_slice(b"&x=12")?;
-    Ok(text)
+#[test]
+fn texts_have_this_resolution(rt: HostRuntime) -> Result<(), Fail> {
+    expect_resolutions(&rt, rt.alloc(), &ROWS)
 }
 
 #[test]
 fn a_chain_of_65536_bytes_is_resolved(rt: HostRuntime) -> Result<(), Fail> {
-    let text = chain_text(rt.alloc())?;
+    let text = repeated(rt.alloc(), "x=1&", 16383, "x=12")?;
     assert_eq!(rt; text.len(), 65536);
-    let formula = formula_of(rt.alloc(), &text)?;
-    let found = resolution(rt.alloc(), &formula, &headers(rt.alloc())?)?;
-    assert_eq!(rt; found.as_str(), "x msd_2");
+    let found = resolution_of(rt.alloc(), &text)?;
+    expect(&rt, "a chain", &found, "x msd_2");
     Ok(())
+}
+
+// Parentheses 128 deep, which a chain follows.
+fn nested_text(alloc: Global) -> Result<String, AllocError> {
+    let mut text = repeated(alloc, "(", 128, "x=1")?;
+    text.push_str(&"&x=1)".repeat(alloc, 128)?)?;
+    text.push_str(&repeated(alloc, "&x=1", 16190, "&x=12")?)?;
+    Ok(text)
 }
 
 #[test]
 fn a_nested_text_of_65536_bytes_is_resolved(rt: HostRuntime) -> Result<(), Fail> {
     let text = nested_text(rt.alloc())?;
     assert_eq!(rt; text.len(), 65536);
-    let formula = formula_of(rt.alloc(), &text)?;
-    let found = resolution(rt.alloc(), &formula, &headers(rt.alloc())?)?;
-    assert_eq!(rt; found.as_str(), "x msd_2");
+    let found = resolution_of(rt.alloc(), &text)?;
+    expect(&rt, "a nested text", &found, "x msd_2");
     Ok(())
 }
 
@@ -297,9 +252,10 @@ fn named(alloc: Global, names: &[Name]) -> Result<String, AllocError> {
     Ok(out)
 }
 
-// What a formula mentions.
-fn mentioned(alloc: Global, formula: &Formula) -> Result<Vec<Mention>, Fail> {
-    Ok(mentions(alloc, formula)?)
+// What the formula that a text is mentions.
+fn mentions_in(alloc: Global, text: &str) -> Result<Vec<Mention>, Fail> {
+    let formula = formula_of(alloc, text.as_bytes())?;
+    Ok(mentions(alloc, &formula)?)
 }
 
 // The files among what is mentioned, each once.
@@ -314,16 +270,28 @@ fn systems_of(alloc: Global, mentioned: &[Mention], headers: &Headers) -> Result
     Ok(named(alloc, &systems)?)
 }
 
+// The files that a text mentions.
+fn files_in(alloc: Global, text: &str) -> Result<String, Fail> {
+    files_of(alloc, &mentions_in(alloc, text)?)
+}
+
+// The systems that a text mentions.
+fn systems_in(alloc: Global, text: &str) -> Result<String, Fail> {
+    systems_of(alloc, &mentions_in(alloc, text)?, &headers(alloc)?)
+}
+
 #[test]
-fn texts_mention_these_files_and_systems(rt: HostRuntime) -> Result<(), Fail> {
-    let headers = headers(rt.alloc())?;
-    for (text, files, systems) in MENTIONS {
-        let formula = formula_of(rt.alloc(), text.as_bytes())?;
-        let found = mentioned(rt.alloc(), &formula)?;
-        let found_files = files_of(rt.alloc(), &found)?;
-        assert_eq!(rt; found_files.as_str(), files, "of {text}");
-        let found_systems = systems_of(rt.alloc(), &found, &headers)?;
-        assert_eq!(rt; found_systems.as_str(), systems, "of {text}");
+fn texts_mention_these_files(rt: HostRuntime) -> Result<(), Fail> {
+    for (text, files, _) in MENTIONS {
+        expect(&rt, text, &files_in(rt.alloc(), text)?, files);
+    }
+    Ok(())
+}
+
+#[test]
+fn texts_mention_these_systems(rt: HostRuntime) -> Result<(), Fail> {
+    for (text, _, systems) in MENTIONS {
+        expect(&rt, text, &systems_in(rt.alloc(), text)?, systems);
     }
     Ok(())
 }

@@ -2,6 +2,7 @@
 
 use morph_words::{Morphism, RulesFault};
 use std::alloc::Global;
+use std::process::Abort;
 use std::test::Fail;
 
 /// The rules of a text as they are printed.
@@ -23,7 +24,7 @@ fn fault(alloc: Global, text: &[u8]) -> Option<RulesFault> {
     }
 }
 
-const PRINTED: [(&[u8], &[u8]); 19] = [
+static PRINTED: [(&[u8], &[u8]); 19] = [
     (b"0->01 1->10", b"0->01 1->10\n"),
     (b"0->01,1->10", b"0->01 1->10\n"),
     (b"0->01 , , 1->10", b"0->01 1->10\n"),
@@ -54,16 +55,21 @@ const PRINTED: [(&[u8], &[u8]); 19] = [
     ),
 ];
 
-#[test]
-fn rules_are_printed(rt: HostRuntime) -> Result<(), Fail> {
-    for (text, expected) in PRINTED {
-        let found = printed(rt.alloc(), text)?;
-        assert_eq!(rt; found.as_slice(), expected);
+// Asserts that each text is printed so.
+fn expect_printed(rt: &impl Abort, alloc: Global, rows: &[(&[u8], &[u8])]) -> Result<(), Fail> {
+    for (text, expected) in rows {
+        let found = printed(alloc, text)?;
+        assert_eq!(rt; found.as_slice(), *expected);
     }
     Ok(())
 }
 
-const FAULTS: [(&[u8], RulesFault); 56] = [
+#[test]
+fn rules_are_printed(rt: HostRuntime) -> Result<(), Fail> {
+    expect_printed(&rt, rt.alloc(), &PRINTED)
+}
+
+static FAULTS: [(&[u8], RulesFault); 56] = [
     (b"", RulesFault::Syntax(0)),
     (b"   ", RulesFault::Syntax(3)),
     (b",", RulesFault::Syntax(0)),
@@ -122,10 +128,14 @@ const FAULTS: [(&[u8], RulesFault); 56] = [
     (b"0[x]->1", RulesFault::Syntax(1)),
 ];
 
-#[test]
-fn rules_have_these_faults(rt: HostRuntime) -> Result<(), Fail> {
-    for (text, expected) in FAULTS {
-        assert_eq!(rt; fault(rt.alloc(), text), Some(expected));
+// Asserts that each text has its fault.
+fn expect_faults(rt: &impl Abort, alloc: Global, rows: &[(&[u8], RulesFault)]) {
+    for (text, expected) in rows {
+        assert_eq!(rt; fault(alloc, text), Some(*expected));
     }
-    Ok(())
+}
+
+#[test]
+fn rules_have_these_faults(rt: HostRuntime) {
+    expect_faults(&rt, rt.alloc(), &FAULTS);
 }

@@ -1,11 +1,12 @@
 //! Texts and their trees. A tree is written with each part in parentheses, and each atom in braces after its system.
 
+use crate::parsed::{expect, formula_of};
 use digit_tuple::name::Name;
-use formula_parse::parse;
 use formula_parse::tree::{
     Connective, Fact, Factor, Formula, Index, Quantifier, Relation, Sign, Term,
 };
 use std::alloc::{AllocError, Global};
+use std::process::Abort;
 use std::test::Fail;
 
 fn write_names(names: &[Name], between: char, out: &mut String) -> Result<(), AllocError> {
@@ -195,7 +196,15 @@ fn write_formula(alloc: Global, formula: &Formula, out: &mut String) -> Result<(
     }
 }
 
-const TREES: [(&str, &str); 50] = [
+// The tree of a text.
+fn written(alloc: Global, text: &str) -> Result<String, Fail> {
+    let tree = formula_of(alloc, text.as_bytes())?;
+    let mut written = String::new(alloc);
+    write_formula(alloc, &tree, &mut written)?;
+    Ok(written)
+}
+
+static TREES: [(&str, &str); 50] = [
     // A quantifier takes all that follows.
     ("Ax Ey x=y+y", "(Ax (Ey {msd_2 x=(y+y)}))"),
     (
@@ -300,13 +309,15 @@ const TREES: [(&str, &str); 50] = [
     ("18446744073709551615<x", "{msd_2 18446744073709551615<x}"),
 ];
 
-#[test]
-fn texts_have_these_trees(rt: HostRuntime) -> Result<(), Fail> {
-    for (text, expected) in TREES {
-        let tree = parse(rt.alloc(), text.as_bytes())?;
-        let mut written = String::new(rt.alloc());
-        write_formula(rt.alloc(), &tree, &mut written)?;
-        assert_eq!(rt; written.as_str(), expected, "of {text}");
+// Asserts that each text has its tree.
+fn expect_trees(rt: &impl Abort, alloc: Global, rows: &[(&str, &str)]) -> Result<(), Fail> {
+    for (text, expected) in rows {
+        expect(rt, text, &written(alloc, text)?, expected);
     }
     Ok(())
+}
+
+#[test]
+fn texts_have_these_trees(rt: HostRuntime) -> Result<(), Fail> {
+    expect_trees(&rt, rt.alloc(), &TREES)
 }

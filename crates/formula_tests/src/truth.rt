@@ -1,13 +1,15 @@
 //! Formulas, and the numbers for which they are true, worked by arithmetic.
 
+use crate::parsed::{expect, formula_of};
 use digit_tuple::name::Name;
-use formula_parse::parse;
+use formula_parse::tree::Formula;
 use formula_truth::{Given, holds_below};
 use std::alloc::Global;
+use std::process::Abort;
 use std::test::Fail;
 
 // Texts, their free variables, and the numbers below 6 for these for which they are true, a digit for each variable: comparisons of terms.
-const TERMS: [(&str, &str, &str); 22] = [
+static TERMS: [(&str, &str, &str); 22] = [
     ("x=3", "x", "3"),
     ("x!=3", "x", "0 1 2 4 5"),
     ("x<3", "x", "0 1 2"),
@@ -53,7 +55,7 @@ const TERMS: [(&str, &str, &str); 22] = [
 ];
 
 // Chains and negations.
-const CONNECTIVES: [(&str, &str, &str); 14] = [
+static CONNECTIVES: [(&str, &str, &str); 14] = [
     ("x=1 & y=2", "xy", "12"),
     ("x=1 | y=2", "xy", "02 10 11 12 13 14 15 22 32 42 52"),
     ("x=1 ^ y=2", "xy", "02 10 11 13 14 15 22 32 42 52"),
@@ -95,7 +97,7 @@ const CONNECTIVES: [(&str, &str, &str); 14] = [
 ];
 
 // Quantifiers.
-const QUANTIFIERS: [(&str, &str, &str); 14] = [
+static QUANTIFIERS: [(&str, &str, &str); 14] = [
     ("Ey y+y=x", "x", "0 2 4"),
     ("Ey x=2*y+1", "x", "1 3 5"),
     ("Ey,z x=2*y+3*z & y>0 & z>0", "x", "5"),
@@ -125,7 +127,7 @@ const QUANTIFIERS: [(&str, &str, &str); 14] = [
 ];
 
 // Calls and words, which mean nothing here.
-const NAMES: [(&str, &str, &str); 4] = [
+static NAMES: [(&str, &str, &str); 4] = [
     ("$f(x)", "x", ""),
     (
         "~$f(x,y)",
@@ -136,17 +138,22 @@ const NAMES: [(&str, &str, &str); 4] = [
     ("T[x]!=U[y]", "xy", ""),
 ];
 
+// The name of one byte.
+fn name_of(alloc: Global, byte: u8) -> Result<Name, Fail> {
+    let mut text = String::new(alloc);
+    text.push(char::from(byte))?;
+    match Name::new(alloc, text.as_str()) {
+        Ok(name) => Ok(name),
+        Err(_) => Err(Fail::from("memory")),
+    }
+}
+
 // Numbers below 6 for some variables, by their digits.
 fn given(alloc: Global, variables: &str, mut digits: u64) -> Result<Vec<Given>, Fail> {
     let mut given = Vec::new(alloc);
     for variable in variables.bytes().rev() {
-        let mut text = String::new(alloc);
-        text.push(char::from(variable))?;
-        let Ok(name) = Name::new(alloc, text.as_str()) else {
-            return Err(Fail::from("memory"));
-        };
         given.push(Given {
-            name,
+            name: name_of(alloc, variable)?,
             number: digits % 6,
         })?;
         digits /= 6;
@@ -174,55 +181,63 @@ fn shown(given: &[Given], out: &mut String) -> Result<(), Fail> {
     Ok(())
 }
 
+// Whether a formula is true of these numbers.
+fn is_true(alloc: Global, formula: &Formula, numbers: &[Given]) -> Result<bool, Fail> {
+    match holds_below(alloc, formula, numbers, 40) {
+        Ok(truth) => Ok(truth),
+        Err(_) => Err(Fail::from("undecided")),
+    }
+}
+
+// Shows the numbers of these digits if a formula is true of them.
+fn show_true(
+    alloc: Global,
+    formula: &Formula,
+    variables: &str,
+    digits: u64,
+    out: &mut String,
+) -> Result<(), Fail> {
+    let numbers = given(alloc, variables, digits)?;
+    if is_true(alloc, formula, &numbers)? {
+        shown(&numbers, out)?;
+    }
+    Ok(())
+}
+
 // The numbers below 6 for which a text is true.
 fn true_of(alloc: Global, text: &str, variables: &str) -> Result<String, Fail> {
-    let Ok(formula) = parse(alloc, text.as_bytes()) else {
-        return Err(Fail::from("no formula"));
-    };
+    let formula = formula_of(alloc, text.as_bytes())?;
     let mut out = String::new(alloc);
     for digits in 0..lists(variables) {
-        let numbers = given(alloc, variables, digits)?;
-        match holds_below(alloc, &formula, &numbers, 40) {
-            Ok(true) => shown(&numbers, &mut out)?,
-            Ok(false) => {}
-            Err(_) => return Err(Fail::from("undecided")),
-        }
+        show_true(alloc, &formula, variables, digits, &mut out)?;
     }
     Ok(out)
 }
 
-#[test]
-fn comparisons_of_terms_are_true_of_these_numbers(rt: HostRuntime) -> Result<(), Fail> {
-    for (text, variables, wanted) in TERMS {
-        let found = true_of(rt.alloc(), text, variables)?;
-        assert_eq!(rt; found.as_str(), wanted);
+// Asserts that each text is true of its numbers.
+fn expect_true(rt: &impl Abort, alloc: Global, rows: &[(&str, &str, &str)]) -> Result<(), Fail> {
+    for (text, variables, wanted) in rows {
+        expect(rt, text, &true_of(alloc, text, variables)?, wanted);
     }
     Ok(())
+}
+
+#[test]
+fn comparisons_of_terms_are_true_of_these_numbers(rt: HostRuntime) -> Result<(), Fail> {
+    expect_true(&rt, rt.alloc(), &TERMS)
 }
 
 #[test]
 fn chains_are_true_of_these_numbers(rt: HostRuntime) -> Result<(), Fail> {
-    for (text, variables, wanted) in CONNECTIVES {
-        let found = true_of(rt.alloc(), text, variables)?;
-        assert_eq!(rt; found.as_str(), wanted);
-    }
-    Ok(())
+    expect_true(&rt, rt.alloc(), &CONNECTIVES)
 }
 
 #[test]
 fn quantified_formulas_are_true_of_these_numbers(rt: HostRuntime) -> Result<(), Fail> {
-    for (text, variables, wanted) in QUANTIFIERS {
-        let found = true_of(rt.alloc(), text, variables)?;
-        assert_eq!(rt; found.as_str(), wanted);
-    }
-    Ok(())
+    expect_true(&rt, rt.alloc(), &QUANTIFIERS)
 }
 
 #[test]
 fn names_without_meaning_are_true_of_these_numbers(rt: HostRuntime) -> Result<(), Fail> {
-    for (text, variables, wanted) in NAMES {
-        let found = true_of(rt.alloc(), text, variables)?;
-        assert_eq!(rt; found.as_str(), wanted);
-    }
-    Ok(())
+    expect_true(&rt, rt.alloc(), &NAMES)
 }

@@ -1,0 +1,74 @@
+//! Headers of the names in the rows of formulas.
+
+use digit_tuple::header::Header;
+use digit_tuple::name::Name;
+use digit_tuple::sets::Sets;
+use digit_tuple::systems::Systems;
+use formula_resolve::Headers;
+use std::alloc::Global;
+use std::test::Fail;
+
+// The automata over systems, each with the systems of its tracks.
+static AUTOMATA: [(&str, &[&str]); 5] = [
+    ("f", &["msd_2", "msd_2"]),
+    ("g", &["lsd_2"]),
+    ("q", &["msd_3"]),
+    ("s", &[]),
+    ("ab", &["msd_2"]),
+];
+
+// The words, each with the systems of its tracks.
+static WORDS: [(&str, &[&str]); 4] = [
+    ("T", &["msd_2"]),
+    ("U", &["msd_2", "msd_2"]),
+    ("L", &["lsd_2"]),
+    ("W", &["msd_3"]),
+];
+
+// The systems of these names. How many digits they have plays no part here, so each has 2.
+fn systems(alloc: Global, names: &[&str]) -> Result<Systems, Fail> {
+    let mut systems = Systems::new(alloc);
+    for name in names {
+        systems.push(Name::new(alloc, name)?, 2)?;
+    }
+    Ok(systems)
+}
+
+// Adds the header of an automaton over systems of these names.
+fn add_automaton(
+    alloc: Global,
+    headers: &mut Headers,
+    name: &str,
+    tracks: &[&str],
+) -> Result<(), Fail> {
+    let header = Header::Systems(systems(alloc, tracks)?);
+    let name = Name::new(alloc, name)?;
+    Ok(headers.add_automaton(&name, &header)?)
+}
+
+// Adds the header of an automaton over sets.
+fn add_plain(alloc: Global, headers: &mut Headers, name: &str) -> Result<(), Fail> {
+    let header = Header::Sets(Sets::new(alloc));
+    let name = Name::new(alloc, name)?;
+    Ok(headers.add_automaton(&name, &header)?)
+}
+
+// Adds the header of a word over systems of these names.
+fn add_word(alloc: Global, headers: &mut Headers, name: &str, tracks: &[&str]) -> Result<(), Fail> {
+    let systems = systems(alloc, tracks)?;
+    let name = Name::new(alloc, name)?;
+    Ok(headers.add_word(&name, &systems)?)
+}
+
+// The headers of the names in the rows. The last header added of a name stands: `ab` is over sets.
+pub(crate) fn headers(alloc: Global) -> Result<Headers, Fail> {
+    let mut headers = Headers::new(alloc);
+    for (name, tracks) in AUTOMATA {
+        add_automaton(alloc, &mut headers, name, tracks)?;
+    }
+    add_plain(alloc, &mut headers, "ab")?;
+    for (name, tracks) in WORDS {
+        add_word(alloc, &mut headers, name, tracks)?;
+    }
+    Ok(headers)
+}
