@@ -1,15 +1,17 @@
 -- What comes first, each once.
-use Rattle.std.proofs.Common.{◌≡◌, ◌≢◌, refl, sym, ap, subst, ◌∙◌, ℕ, zero, suc, ◌+◌, ◌<◌, Bool, true, false, ◌||◌, cond, List, [], ◌∷◌, ◌++◌, map, length, take, get_or, fold, bytes_eq, inl, inr, arith, rules}
+use Rattle.std.proofs.Common.{◌≡◌, ◌≢◌, refl, sym, ap, subst, ◌∙◌, ℕ, zero, suc, ◌+◌, ◌<◌, ◌≤◌, Bool, true, false, ◌||◌, cond, List, [], ◌∷◌, ◌++◌, map, length, take, get_or, fold, bytes_eq, inl, inr, arith, rules}
 use Rattle.std.specs.List.{flat_map}
-use Rattle.std.proofs.lemmas.Bool.{false_from_ne_true}
-use Rattle.std.proofs.lemmas.List.{take_more, append-nil, length-map}
+use Rattle.std.proofs.lemmas.Bool.{cases_lt, false_from_ne_true}
+use Rattle.std.proofs.lemmas.List.{take_more, append-nil, length-map, length-append, take-append-le, get_or_append_left}
+use Rattle.std.proofs.Math.Seq.{get_or-append_seam, take-append_seam}
 use Rattle.std.proofs.lemmas.Grind.{flat_map-append}
 use Rattle.std.proofs.lemmas.List.Elements.{Contains-append_right}
 use Rattle.std.proofs.lemmas.List.Sums.{fold-append}
 use Rattle.std.proofs.lemmas.Slice.Eq.{bytes_eq-Decides}
 use Rattle.digit_tuple.specs.Explored.{AreApart, IsNumbered}
 use Rattle.digit_tuple.proofs.MemberLemmas.{AllPairs-tail, AllPairs-head}
-use Rattle.formula_resolve.specs.FirstMentions.{has, with_new, is_same_file, file_key}
+use Rattle.formula_resolve.specs.FirstMentions.{has, with_new, is_same_file, file_key, mentioned_files, first_files, IsOnce}
+use Rattle.formula_resolve.specs.declared.mention.Mention.{Mention}
 use Rattle.formula_resolve.specs.declared.file.File.{File}
 use Rattle.formula_resolve.specs.declared.file.File.TheVariants.{Automaton, Word}
 
@@ -87,3 +89,37 @@ pub file_there : (files : List File) (seen new : List (List ℕ)) (key : List �
 file_there files seen new key f number same is numbered other =
     sym (ap (λ b. cond b files (files ++ f ∷ []))
     (has_file files f ∙ (λ i. has bytes_eq (sym same i) (sym is i)) ∙ (numbered_old seen new key number numbered (λ at. other (at ∙ ap length same ∙ map_length files))).1))
+
+-- one more that is none of those before it
+with_other : (files : List File) (x : File) → IsOnce files → has is_same_file files x ≡ false → IsOnce (files ++ x ∷ [])
+with_other files x once other i file within at = elim (cases_lt i (length files)) [ inl less ↦ before less | inr not ↦ behind not ]
+  where
+    longer : length (files ++ x ∷ []) ≡ length files + 1
+    longer = length-append files (x ∷ [])
+
+    before : i < length files → has is_same_file (take i (files ++ x ∷ [])) file ≡ false
+    before less =
+        ap (λ front. has is_same_file front file) (take-append-le i files (x ∷ []) (omega (arith, less)))
+        ∙ once i file less (at ∙ get_or_append_left files (x ∷ []) file i less)
+
+    behind : length files ≤ i → has is_same_file (take i (files ++ x ∷ [])) file ≡ false
+    behind not =
+        let last : i ≡ length files = omega (arith, not, within, longer) in
+        let same : file ≡ x = at ∙ ap (λ j. get_or (files ++ x ∷ []) j file) last ∙ get_or-append_seam files x [] file in
+        (λ k. has is_same_file (take (last k) (files ++ x ∷ [])) (same k)) ∙ ap (λ front. has is_same_file front x) (take-append_seam files (x ∷ [])) ∙ other
+
+-- and one that may be among them
+with_once : (files : List File) (x : File) → IsOnce files → IsOnce (with_new is_same_file files x)
+with_once files x once = by (has is_same_file files x) refl
+  where
+    by : (b : Bool) → has is_same_file files x ≡ b → IsOnce (cond b files (files ++ x ∷ []))
+    by true there = once
+    by false other = with_other files x once other
+
+all_once : (files more : List File) → IsOnce files → IsOnce (fold (with_new is_same_file) files more)
+all_once files [] once = once
+all_once files (x ∷ more) once = all_once (with_new is_same_file files x) more (with_once files x once)
+
+-- the files that are mentioned, each once
+pub first_once : (ms : List Mention) → IsOnce (first_files ms)
+first_once ms = all_once [] (flat_map mentioned_files ms) (λ i file within at. absurd (omega (arith, within)))

@@ -1,5 +1,5 @@
 -- Files and systems in the order of their first mention, each once.
-use Rattle.std.specs.Prelude.{ℕ, List, [], ◌∷◌, ◌++◌, Bool, false, ◌||◌, if◌then◌else◌}
+use Rattle.std.specs.Prelude.{◌≡◌, ℕ, ◌<◌, List, [], ◌∷◌, ◌++◌, length, take, slice_index_or, Bool, false, ◌||◌, if◌then◌else◌}
 use Rattle.std.specs.List.{fold, flat_map}
 use Rattle.std.specs.Str.{bytes_eq}
 use Rattle.formula_parse.specs.Tokens.{Name}
@@ -45,6 +45,10 @@ mentioned_systems h (Indexed n k) = word_tracks h n
 
 abbrev pub first_systems : Headers → List Mention → List Name
 first_systems h ms = each_once bytes_eq (flat_map (mentioned_systems h) ms)
+
+-- no file is the same as one before it
+abbrev pub IsOnce : List File → Type 0
+IsOnce files = (i : ℕ) (file : File) → i < length files → file ≡ slice_index_or files i file → has is_same_file (take i files) file ≡ false
 
 -- what tells files apart
 abbrev pub file_key : File → List ℕ

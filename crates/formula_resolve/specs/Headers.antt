@@ -1,12 +1,9 @@
 -- What the tracks of automata and words stand over.
-use Rattle.std.specs.Prelude.{List, [], map, Option, None, Some, Bool, true, false, refl}
+use Rattle.std.specs.Prelude.{List, [], Option, None, Some, Bool, true, false, refl}
 use Rattle.std.specs.Ordering.{nat_cmp}
 use Rattle.std.specs.Cmp.Lexicographic.{slice_cmp}
 use Rattle.std.specs.FinMap as finite
 use Rattle.std.specs.Coded.{Coded, code_by, coded×, coded_ℕ, coded_list, coded_option}
-use Rattle.digit_tuple.specs.declared.systems.SystemTrack.{SystemTrack}
-use Rattle.digit_tuple.specs.declared.header.Header.{Header}
-use Rattle.digit_tuple.specs.declared.header.Header.TheVariants.{Sets, Systems}
 use Rattle.formula_parse.specs.Tokens.{Name}
 
 -- something for each of some names
@@ -30,15 +27,6 @@ headers_code =
 
 abbrev pub no_headers : Headers
 no_headers = record { automata = finite.empty; words = finite.empty }
-
--- the names of the systems
-abbrev pub system_names : List SystemTrack → List Name
-system_names tracks = map (λ t. t.name) tracks
-
--- the systems of a header's tracks; None where they are over sets
-abbrev pub systems_in : Header → Option (List Name)
-systems_in (Sets sets) = None
-systems_in (Systems tracks) = Some (system_names tracks)
 
 -- the headers with one more, in place of one of the name
 abbrev pub with_automaton : Headers → Name → Option (List Name) → Headers

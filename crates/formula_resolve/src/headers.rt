@@ -1,13 +1,10 @@
 //! The systems of the tracks of automata and words, by their names.
 
-ghost use Rattle.std.specs.Prelude.{◌≡◌, OnOk, OnErr, IfOk};
-ghost use Rattle.std.specs.Option.{option_map};
-ghost use Rattle.formula_resolve.specs.Headers.{no_headers, systems_in, system_names, with_automaton, with_word, automaton_tracks, word_tracks, is_plain as is_plain_of};
+ghost use Rattle.std.specs.Prelude.{◌≡◌, OnOk, OnErr, IfOk, None, Some};
+ghost use Rattle.formula_resolve.specs.Headers.{no_headers, with_automaton, with_word, automaton_tracks, word_tracks, is_plain as is_plain_of};
 
 use digit_tuple::faults::OutOfMemory;
-use digit_tuple::header::Header;
 use digit_tuple::name::Name;
-use digit_tuple::systems::Systems;
 use std::alloc::Global;
 use std::collections::BTreeMap;
 use std::marker::Model;
@@ -45,31 +42,46 @@ impl Headers {
         }
     }
 
-    /// Adds the header of the automaton of this name, in place of one that may have been added. A
-    /// sentence is over no system.
+    /// Adds the automaton of this name, whose tracks are over the systems of these names, in place of
+    /// one that may have been added. A sentence is over no system.
     ///
     /// # Errors
     /// Where there is no memory for it, the headers are as before.
-    pub fn add_automaton(&mut self, name: &Name, header: &Header) -> Result<(), OutOfMemory>
-        ensures ok { OnOk result (self.new ≡ with_automaton self.old name.now (systems_in header.now)) }
+    pub fn add_automaton(&mut self, name: &Name, systems: &[Name]) -> Result<(), OutOfMemory>
+        ensures ok { OnOk result (self.new ≡ with_automaton self.old name.now (Some systems.now)) }
         ensures err { OnErr result (self.new ≡ self.old) }
     {
         let key = Vec::from_slice(self.alloc, name.as_bytes())?;
-        let tracks = systems_of(self.alloc, header)?;
-        self.automata.insert(key, tracks)?;
+        let tracks = copied(self.alloc, systems)?;
+        self.automata.insert(key, Some(tracks))?;
         Ok(())
     }
 
-    /// Adds the header of the word of this name, in place of one that may have been added.
+    /// Adds the automaton of this name, whose tracks are over sets, in place of one that may have been
+    /// added.
     ///
     /// # Errors
     /// Where there is no memory for it, the headers are as before.
-    pub fn add_word(&mut self, name: &Name, systems: &Systems) -> Result<(), OutOfMemory>
-        ensures ok { OnOk result (self.new ≡ with_word self.old name.now (system_names systems.now)) }
+    pub fn add_plain(&mut self, name: &Name) -> Result<(), OutOfMemory>
+        ensures ok { OnOk result (self.new ≡ with_automaton self.old name.now None) }
         ensures err { OnErr result (self.new ≡ self.old) }
     {
         let key = Vec::from_slice(self.alloc, name.as_bytes())?;
-        let tracks = names_of(self.alloc, systems)?;
+        self.automata.insert(key, None)?;
+        Ok(())
+    }
+
+    /// Adds the word of this name, whose tracks are over the systems of these names, in place of one
+    /// that may have been added.
+    ///
+    /// # Errors
+    /// Where there is no memory for it, the headers are as before.
+    pub fn add_word(&mut self, name: &Name, systems: &[Name]) -> Result<(), OutOfMemory>
+        ensures ok { OnOk result (self.new ≡ with_word self.old name.now systems.now) }
+        ensures err { OnErr result (self.new ≡ self.old) }
+    {
+        let key = Vec::from_slice(self.alloc, name.as_bytes())?;
+        let tracks = copied(self.alloc, systems)?;
         self.words.insert(key, tracks)?;
         Ok(())
     }
@@ -109,23 +121,13 @@ impl Headers {
     }
 }
 
-/// The systems of a header's tracks; None where they are over sets.
-fn systems_of(alloc: Global, header: &Header) -> Result<Option<Vec<Name>>, OutOfMemory>
-    ensures { IfOk result (λ tracks. option_map (λ t. t.items) tracks ≡ systems_in header.now) }
+/// The names once more.
+fn copied(alloc: Global, names: &[Name]) -> Result<Vec<Name>, OutOfMemory>
+    ensures { IfOk result (λ copies. copies.items ≡ names.now) }
 {
-    match header {
-        Header::Sets(_) => Ok(None),
-        Header::Systems(systems) => Ok(Some(names_of(alloc, systems)?)),
+    let mut copies = Vec::with_capacity(alloc, names.len())?;
+    for name in names {
+        copies.push(name.copy(alloc)?)?;
     }
-}
-
-/// The names of the systems.
-fn names_of(alloc: Global, systems: &Systems) -> Result<Vec<Name>, OutOfMemory>
-    ensures { IfOk result (λ names. names.items ≡ system_names systems.now) }
-{
-    let mut names = Vec::with_capacity(alloc, systems.len())?;
-    for track in systems.as_slice() {
-        names.push(track.name.copy(alloc)?)?;
-    }
-    Ok(names)
+    Ok(copies)
 }

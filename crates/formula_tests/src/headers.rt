@@ -1,9 +1,6 @@
 //! Headers of the names in the rows of formulas.
 
-use digit_tuple::header::Header;
 use digit_tuple::name::Name;
-use digit_tuple::sets::Sets;
-use digit_tuple::systems::Systems;
 use formula_resolve::Headers;
 use std::alloc::Global;
 use std::test::Fail;
@@ -25,35 +22,34 @@ static WORDS: [(&str, &[&str]); 4] = [
     ("W", &["msd_3"]),
 ];
 
-// The systems of these names. How many digits they have plays no part here, so each has 2.
-fn systems(alloc: Global, names: &[&str]) -> Result<Systems, Fail> {
-    let mut systems = Systems::new(alloc);
+// The systems of these names.
+fn systems(alloc: Global, names: &[&str]) -> Result<Vec<Name>, Fail> {
+    let mut systems = Vec::new(alloc);
     for name in names {
-        systems.push(Name::new(alloc, name)?, 2)?;
+        systems.push(Name::new(alloc, name)?)?;
     }
     Ok(systems)
 }
 
-// Adds the header of an automaton over systems of these names.
+// Adds an automaton over systems of these names.
 fn add_automaton(
     alloc: Global,
     headers: &mut Headers,
     name: &str,
     tracks: &[&str],
 ) -> Result<(), Fail> {
-    let header = Header::Systems(systems(alloc, tracks)?);
+    let systems = systems(alloc, tracks)?;
     let name = Name::new(alloc, name)?;
-    Ok(headers.add_automaton(&name, &header)?)
+    Ok(headers.add_automaton(&name, &systems)?)
 }
 
-// Adds the header of an automaton over sets.
+// Adds an automaton over sets.
 fn add_plain(alloc: Global, headers: &mut Headers, name: &str) -> Result<(), Fail> {
-    let header = Header::Sets(Sets::new(alloc));
     let name = Name::new(alloc, name)?;
-    Ok(headers.add_automaton(&name, &header)?)
+    Ok(headers.add_plain(&name)?)
 }
 
-// Adds the header of a word over systems of these names.
+// Adds a word over systems of these names.
 fn add_word(alloc: Global, headers: &mut Headers, name: &str, tracks: &[&str]) -> Result<(), Fail> {
     let systems = systems(alloc, tracks)?;
     let name = Name::new(alloc, name)?;

@@ -4,8 +4,8 @@ use Rattle.std.specs.Str.{bytes_eq}
 use Rattle.std.proofs.lemmas.Slice.Eq.{bytes_eq-Decides}
 use Rattle.digit_tuple.specs.Names.{AreDistinct}
 use Rattle.formula_truth.specs.Assignments.{Assignment, with_value}
-use Rattle.session_cli.specs.Trees.{Variable}
-use Rattle.session_cli.specs.FormulaTexts.{assigned}
+use Rattle.definitions.specs.Trees.{Variable}
+use Rattle.definitions.specs.TreeMeanings.{assigned}
 
 -- under another name nothing changes
 other_kept : (x y : List ℕ) (n : ℕ) (a : Assignment) → x ≢ y → with_value x n a y ≡ a y

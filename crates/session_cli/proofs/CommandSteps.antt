@@ -1,54 +1,26 @@
 -- One command: from what its checks give and what the write did to its answer.
-use Rattle.std.proofs.Common.{◌≡◌, ℕ, Bool, false, List, [], Option, None, Some, Result, Ok, Err, refl, ◌∙◌, inl, inr, arith}
+use Rattle.std.proofs.Common.{◌≡◌, ℕ, ◌≤◌, Bool, false, List, [], Option, None, Some, IfSome, IsTrue, Result, Ok, Err, refl, sym, ap, ◌∙◌, subst, inl, inr, arith}
 use Rattle.std.specs.Option.{option_map}
+use Rattle.wal_outside.specs.Causes.{Rose}
 use Rattle.wal_outside.specs.Files.{Files, put}
 use Rattle.wal_outside.specs.Places.{Place}
 use Rattle.wal_outside.specs.Views.{StoreView}
-use Rattle.wal_outside.specs.declared.folder.Folder.{Folder}
-use Rattle.wal_outside.specs.declared.folder.Folder.TheVariants.{Automata, Results}
 use Rattle.session_cli.specs.declared.fault.Fault.{Fault}
 use Rattle.session_cli.specs.declared.fault.Fault.TheVariants as faults
 use Rattle.session_cli.specs.declared.plan.Plan.{Plan}
 use Rattle.session_cli.specs.Checks.{Fails}
-use Rattle.session_cli.specs.Trees.{Ledger}
-use Rattle.session_cli.specs.declared.command_word.CommandWord.{CommandWord}
-use Rattle.session_cli.specs.declared.command_word.CommandWord.TheVariants as words
-use Rattle.session_cli.specs.FormulaOutcomes.{formula_checks}
-use Rattle.session_cli.specs.Outcomes.{word_text, checks_by, checks_of}
-use Rattle.session_cli.specs.Runs.{IsAnswer, IsKnownLedger, is_store_fault, failed_after}
+use Rattle.definitions.specs.Trees.{Bytes, Ledger, ledger_of}
+use Rattle.session_cli.specs.Outcomes.{checks_of}
+use Rattle.session_cli.specs.Runs.{IsAnswer, IsKnownLedger, StoresTold, is_store_fault, failed_after}
 use Rattle.session_cli.specs.Plans.{IsPlan}
 use Rattle.session_cli.specs.Commands.{Stored, Commands, WritesPlan}
+use Rattle.session_cli.specs.StoreReads.{IsReadFault, HasRead}
+use Rattle.session_cli.specs.Texts.{HasTextAt, Stores}
 
 -- where the ledger is the one by which a command is answered, it is so whatever the store tells
 pub own_ledger : (told : Option Files) (ledger : Ledger) → IsKnownLedger told ledger ledger
 own_ledger None ledger = tt
 own_ledger (Some files) ledger = refl
-
--- no check of a command reads a file yet, so none is refused at a read
-no_formula_read : (word : List ℕ) (folder : Folder) (limit : ℕ) (ledger : Ledger) (text : List ℕ) (place : Place) → (formula_checks word folder limit ledger text).reads place → ⊥
-no_formula_read word folder limit ledger text place (inl read) = read
-no_formula_read word folder limit ledger text place (inr (head, spells, inl read)) = read
-no_formula_read word folder limit ledger text place (inr (head, spells, inr (formula, parses, inl read))) = read
-no_formula_read word folder limit ledger text place (inr (head, spells, inr (formula, parses, inr (none, files, inl read)))) = read
-no_formula_read word folder limit ledger text place (inr (head, spells, inr (formula, parses, inr (none, files, inr (known, systems, inl read))))) = read
-no_formula_read word folder limit ledger text place (inr (head, spells, inr (formula, parses, inr (none, files, inr (known, systems, inr (done, resolves, inl read)))))) = read
-no_formula_read word folder limit ledger text place (inr (head, spells, inr (formula, parses, inr (none, files, inr (known, systems, inr (done, resolves, inr (lines, builds, inl read))))))) = read
-no_formula_read word folder limit ledger text place (inr (head, spells, inr (formula, parses, inr (none, files, inr (known, systems, inr (done, resolves, inr (lines, builds, inr (variables, are, inl read)))))))) = read
-no_formula_read word folder limit ledger text place (inr (head, spells, inr (formula, parses, inr (none, files, inr (known, systems, inr (done, resolves, inr (lines, builds, inr (variables, are, inr (verdict, says, read))))))))) = read
-
-no_read : (limit : ℕ) (ledger : Ledger) (text : List ℕ) (place : Place) → (checks_of limit ledger text).reads place → ⊥
-no_read limit ledger text place (inl read) = read
-no_read limit ledger text place (inr (done, short, inl read)) = read
-no_read limit ledger text place (inr (done, short, inr (word, is, read))) = by_word word read
-  where
-    by_word : (w : CommandWord) → (checks_by w limit ledger text).reads place → ⊥
-    by_word words.Reg (inl read) = read
-    by_word words.Reg (inr (head, spells, inl read)) = read
-    by_word words.Reg (inr (head, spells, inr (tracks, means, inl read))) = read
-    by_word words.Reg (inr (head, spells, inr (tracks, means, inr (pattern, parses, inl read)))) = read
-    by_word words.Reg (inr (head, spells, inr (tracks, means, inr (pattern, parses, inr (lines, steps, read))))) = read
-    by_word words.Eval read = no_formula_read (word_text words.Eval) Results limit ledger text place read
-    by_word words.Def read = no_formula_read (word_text words.Def) Automata limit ledger text place read
 
 -- a fault that is not the store's leaves the file of the last call that failed
 kept_failed : (old : Option (Option Place)) (fault : Fault) → is_store_fault fault ≡ false → old ≡ failed_after old (Err fault)
@@ -67,6 +39,7 @@ kept_failed old faults.ScriptLimit other = refl
 kept_failed old (faults.MixedChain byte) other = refl
 kept_failed old (faults.NotLinear byte) other = refl
 kept_failed old (faults.Unknown of file) other = refl
+kept_failed old (faults.File of file flaw) other = refl
 kept_failed old (faults.Arity of tracks given) other = refl
 kept_failed old (faults.Clash of one two) other = refl
 kept_failed old (faults.Plain of) other = refl
@@ -75,36 +48,98 @@ kept_failed old (faults.Plain of) other = refl
 pub kept_store : (store : StoreView) (fault : Fault) → is_store_fault fault ≡ false → Stored store (Err fault) store
 kept_store store fault other = record { files = refl; later = omega arith; cause = λ is. cc; failed = kept_failed store.failed fault other }
 
+-- a ledger by which a command over these files is answered: that of the files where they are told, and else that of what was found
+pub record IsAnswering (told : Option Files) (ledger : Ledger) (found : Files) : Type 0 where
+  known : Ledger
+  known_is : IsKnownLedger told ledger known
+  stores : Stores known found
+
+entry_stores : (found : Option (List ℕ)) → HasTextAt (option_map (λ (bytes : List ℕ). Bytes bytes) found) found
+entry_stores None = tt
+entry_stores (Some text) = refl
+
+-- files store the ledger that has their texts
+pub files_store : (found : Files) → Stores (ledger_of found) found
+files_store found = λ folder name. entry_stores (found folder name)
+
+pub answering : (told : Option Files) (ledger : Ledger) (found : Files) → StoresTold ledger told → IfSome told (λ files. found ≡ files) → IsAnswering told ledger found
+answering None ledger found stores is = record { known = ledger_of found; known_is = tt; stores = files_store found }
+answering (Some files) ledger found stores is = record { known = ledger; known_is = refl; stores = subst (Stores ledger) (sym is) stores }
+
 -- a command that its checks refuse
-pub refused_command : (limit : ℕ) (ledger : Ledger) (store : StoreView) (text : List ℕ) (shown : Bool) (fault : Fault) → Fails (checks_of limit ledger text) fault → Commands limit ledger store text shown (Err fault) [] store
-refused_command limit ledger store text shown fault refused = record {
+pub refused_command : (limit : ℕ) (ledger : Ledger) (old new : StoreView) (text : List ℕ) (shown : Bool) (fault : Fault) (found : Files) → IsAnswering old.files ledger found → ((known : Ledger) → Stores known found → Fails (checks_of limit known text) fault)
+    → HasRead {X = Plan} old (Err fault) new → Commands limit ledger old text shown (Err fault) [] new
+refused_command limit ledger old new text shown fault found by refused read = record {
   answer = Err fault;
   gives = (refl, refl);
-  known = ledger;
-  known_is = own_ledger store.files ledger;
-  answered = (answer_of fault refused).0;
-  stored = kept_store store fault (answer_of fault refused).1;
+  known = by.known;
+  known_is = by.known_is;
+  answered = answer_of fault (refused by.known by.stores);
+  stored = record { files = read.files; later = read.later; cause = cause_of fault read.cause; failed = failed_of fault read.cause };
 }
   where
-    answer_of : (f : Fault) → Fails (checks_of limit ledger text) f → IsAnswer (checks_of limit ledger text) (Err f) × (is_store_fault f ≡ false)
-    answer_of faults.Memory refused = (tt, refl)
-    answer_of faults.Command refused = (refused, refl)
-    answer_of (faults.Syntax grammar at) refused = (refused, refl)
-    answer_of (faults.Number grammar at) refused = (refused, refl)
-    answer_of (faults.Depth grammar at) refused = (refused, refl)
-    answer_of (faults.Long bytes) refused = (refused, refl)
-    answer_of (faults.SystemUnknown name) refused = (refused, refl)
-    answer_of (faults.Direction first other) refused = (refused, refl)
-    answer_of (faults.Letters step) refused = (refused, refl)
-    answer_of (faults.States step) refused = (refused, refl)
-    answer_of (faults.Store folder name) refused = absurd (no_read limit ledger text (folder, name) refused)
-    answer_of faults.ScriptLimit refused = (refused, refl)
-    answer_of (faults.MixedChain byte) refused = (refused, refl)
-    answer_of (faults.NotLinear byte) refused = (refused, refl)
-    answer_of (faults.Unknown of file) refused = (refused, refl)
-    answer_of (faults.Arity of tracks given) refused = (refused, refl)
-    answer_of (faults.Clash of one two) refused = (refused, refl)
-    answer_of (faults.Plain of) refused = (refused, refl)
+    answer_of : (f : Fault) → Fails (checks_of limit by.known text) f → IsAnswer (checks_of limit by.known text) (Err f)
+    answer_of faults.Memory refused = tt
+    answer_of (faults.Store folder name) refused = inl refused
+    answer_of faults.Command refused = refused
+    answer_of (faults.Syntax grammar at) refused = refused
+    answer_of (faults.Number grammar at) refused = refused
+    answer_of (faults.Depth grammar at) refused = refused
+    answer_of (faults.Long bytes) refused = refused
+    answer_of (faults.SystemUnknown name) refused = refused
+    answer_of (faults.Direction first other) refused = refused
+    answer_of (faults.Letters step) refused = refused
+    answer_of (faults.States step) refused = refused
+    answer_of faults.ScriptLimit refused = refused
+    answer_of (faults.MixedChain byte) refused = refused
+    answer_of (faults.NotLinear byte) refused = refused
+    answer_of (faults.Unknown of file) refused = refused
+    answer_of (faults.File of file flaw) refused = refused
+    answer_of (faults.Arity of tracks given) refused = refused
+    answer_of (faults.Clash of one two) refused = refused
+    answer_of (faults.Plain of) refused = refused
+
+    cause_of : (f : Fault) → IsReadFault f old new → IsTrue (is_store_fault f) → Rose old.faults new.faults
+    cause_of (faults.Store folder name) read is = read.0
+    cause_of faults.Memory read is = cc
+    cause_of faults.Command read is = cc
+    cause_of (faults.Syntax grammar at) read is = cc
+    cause_of (faults.Number grammar at) read is = cc
+    cause_of (faults.Depth grammar at) read is = cc
+    cause_of (faults.Long bytes) read is = cc
+    cause_of (faults.SystemUnknown name) read is = cc
+    cause_of (faults.Direction first other) read is = cc
+    cause_of (faults.Letters step) read is = cc
+    cause_of (faults.States step) read is = cc
+    cause_of faults.ScriptLimit read is = cc
+    cause_of (faults.MixedChain byte) read is = cc
+    cause_of (faults.NotLinear byte) read is = cc
+    cause_of (faults.Unknown of file) read is = cc
+    cause_of (faults.File of file flaw) read is = cc
+    cause_of (faults.Arity of tracks given) read is = cc
+    cause_of (faults.Clash of one two) read is = cc
+    cause_of (faults.Plain of) read is = cc
+
+    failed_of : (f : Fault) → IsReadFault f old new → new.failed ≡ failed_after old.failed (Err f)
+    failed_of (faults.Store folder name) read = read.1
+    failed_of faults.Memory read = read
+    failed_of faults.Command read = read
+    failed_of (faults.Syntax grammar at) read = read
+    failed_of (faults.Number grammar at) read = read
+    failed_of (faults.Depth grammar at) read = read
+    failed_of (faults.Long bytes) read = read
+    failed_of (faults.SystemUnknown name) read = read
+    failed_of (faults.Direction first other) read = read
+    failed_of (faults.Letters step) read = read
+    failed_of (faults.States step) read = read
+    failed_of faults.ScriptLimit read = read
+    failed_of (faults.MixedChain byte) read = read
+    failed_of (faults.NotLinear byte) read = read
+    failed_of (faults.Unknown of file) read = read
+    failed_of (faults.File of file flaw) read = read
+    failed_of (faults.Arity of tracks given) read = read
+    failed_of (faults.Clash of one two) read = read
+    failed_of (faults.Plain of) read = read
 
 same_put : (old : Option Files) (place other : Place) (stored : List ℕ) → place.0 ≡ other.0 → place.1 ≡ other.1 → option_map (λ files. put files place.0 place.1 stored) old ≡ option_map (λ files. put files other.0 other.1 stored) old
 same_put old place other stored folders names = λ i. option_map (λ files. put files (folders i) (names i) stored) old
@@ -114,51 +149,65 @@ abbrev pub printed_by : Result (Unit {0}) Fault → List ℕ → List ℕ
 printed_by (Ok _) printed = printed
 printed_by (Err fault) printed = []
 
--- a command whose text was to be stored
-pub planned_command : (limit : ℕ) (ledger : Ledger) (old new : StoreView) (text : List ℕ) (shown : Bool) (plan : Plan) (result : Result (Unit {0}) Fault)
-    → IsPlan (checks_of limit ledger text) shown plan → WritesPlan old (plan.folder, plan.name) plan.made.stored.items result new → Commands limit ledger old text shown result (printed_by result plan.made.printed) new
-planned_command limit ledger old new text shown plan (Ok x) p wrote = record {
-  answer = Ok p.made.success;
-  gives = p.made.printed_is;
-  known = ledger;
-  known_is = own_ledger old.files ledger;
-  answered = p.made.answers;
-  stored = record {
-    files = (plan.made.stored.items, p.made.has_text, wrote.files ∙ same_put old.files (plan.folder, plan.name) (p.made.success.folder, p.made.success.name) plan.made.stored.items p.folder_is p.name_is);
-    later = wrote.later;
-    cause = λ is. cc;
-    failed = wrote.cause;
-  };
-}
-planned_command limit ledger old new text shown plan (Err (faults.Store folder at)) p wrote = record {
-  answer = Err (faults.Store folder at);
-  gives = (refl, refl);
-  known = ledger;
-  known_is = own_ledger old.files ledger;
-  answered = inr (p.made.success, p.made.answers, wrote.cause.0 ∙ p.folder_is, wrote.cause.1 ∙ p.name_is);
-  stored = record { files = wrote.files; later = wrote.later; cause = λ is. wrote.cause.2; failed = wrote.cause.3 };
-}
-planned_command limit ledger old new text shown plan (Err faults.Memory) p wrote = record {
-  answer = Err faults.Memory;
-  gives = (refl, refl);
-  known = ledger;
-  known_is = own_ledger old.files ledger;
-  answered = tt;
-  stored = record { files = wrote.files; later = wrote.later; cause = λ is. cc; failed = wrote.cause };
-}
-planned_command limit ledger old new text shown plan (Err faults.Command) p wrote = absurd wrote.cause
-planned_command limit ledger old new text shown plan (Err (faults.Syntax grammar at)) p wrote = absurd wrote.cause
-planned_command limit ledger old new text shown plan (Err (faults.Number grammar at)) p wrote = absurd wrote.cause
-planned_command limit ledger old new text shown plan (Err (faults.Depth grammar at)) p wrote = absurd wrote.cause
-planned_command limit ledger old new text shown plan (Err (faults.Long bytes)) p wrote = absurd wrote.cause
-planned_command limit ledger old new text shown plan (Err (faults.SystemUnknown of)) p wrote = absurd wrote.cause
-planned_command limit ledger old new text shown plan (Err (faults.Direction first other)) p wrote = absurd wrote.cause
-planned_command limit ledger old new text shown plan (Err (faults.Letters step)) p wrote = absurd wrote.cause
-planned_command limit ledger old new text shown plan (Err (faults.States step)) p wrote = absurd wrote.cause
-planned_command limit ledger old new text shown plan (Err faults.ScriptLimit) p wrote = absurd wrote.cause
-planned_command limit ledger old new text shown plan (Err (faults.MixedChain byte)) p wrote = absurd wrote.cause
-planned_command limit ledger old new text shown plan (Err (faults.NotLinear byte)) p wrote = absurd wrote.cause
-planned_command limit ledger old new text shown plan (Err (faults.Unknown of file)) p wrote = absurd wrote.cause
-planned_command limit ledger old new text shown plan (Err (faults.Arity of tracks given)) p wrote = absurd wrote.cause
-planned_command limit ledger old new text shown plan (Err (faults.Clash of one two)) p wrote = absurd wrote.cause
-planned_command limit ledger old new text shown plan (Err (faults.Plain of)) p wrote = absurd wrote.cause
+-- the count of faults rises over a read and a write
+rises : (before between after : ℕ) → before ≤ between → Rose between after → Rose before after
+rises before between after later rose = omega (arith, later, rose)
+
+-- a command whose text was to be stored, after its files were read
+pub planned_command : (limit : ℕ) (ledger : Ledger) (old mid new : StoreView) (text : List ℕ) (shown : Bool) (plan : Plan) (result : Result (Unit {0}) Fault) (found : Files) → IsAnswering old.files ledger found
+    → ((known : Ledger) → Stores known found → IsPlan (checks_of limit known text) shown plan) → HasRead {X = Plan} old (Ok plan) mid → WritesPlan mid (plan.folder, plan.name) plan.made.stored.items result new
+    → Commands limit ledger old text shown result (printed_by result plan.made.printed) new
+planned_command limit ledger old mid new text shown plan result found by plans read wrote = by_result result wrote
+  where
+    by_result : (r : Result (Unit {0}) Fault) → WritesPlan mid (plan.folder, plan.name) plan.made.stored.items r new → Commands limit ledger old text shown r (printed_by r plan.made.printed) new
+    by_result (Ok x) w = record {
+      answer = Ok (plans by.known by.stores).made.success;
+      gives = (plans by.known by.stores).made.printed_is;
+      known = by.known;
+      known_is = by.known_is;
+      answered = (plans by.known by.stores).made.answers;
+      stored = record {
+        files = (plan.made.stored.items, (plans by.known by.stores).made.has_text, w.files ∙ (ap (λ (o : Option Files). option_map (λ files. put files plan.folder plan.name plan.made.stored.items) o) read.files ∙ same_put old.files (plan.folder, plan.name) ((plans by.known by.stores).made.success.folder, (plans by.known by.stores).made.success.name) plan.made.stored.items (plans by.known by.stores).folder_is (plans by.known by.stores).name_is));
+        later = omega (arith, w.later, read.later);
+        cause = λ is. cc;
+        failed = w.cause ∙ read.cause;
+      };
+    }
+    by_result (Err (faults.Store folder at)) w = record {
+      answer = Err (faults.Store folder at);
+      gives = (refl, refl);
+      known = by.known;
+      known_is = by.known_is;
+      answered = inr ((plans by.known by.stores).made.success, (plans by.known by.stores).made.answers, w.cause.0 ∙ (plans by.known by.stores).folder_is, w.cause.1 ∙ (plans by.known by.stores).name_is);
+      stored = record {
+        files = w.files ∙ read.files;
+        later = omega (arith, w.later, read.later);
+        cause = λ is. rises old.faults mid.faults new.faults read.later w.cause.2;
+        failed = w.cause.3 ∙ ap (λ (o : Option (Option Place)). option_map (λ _. Some (folder, at)) o) read.cause;
+      };
+    }
+    by_result (Err faults.Memory) w = record {
+      answer = Err faults.Memory;
+      gives = (refl, refl);
+      known = by.known;
+      known_is = by.known_is;
+      answered = tt;
+      stored = record { files = w.files ∙ read.files; later = omega (arith, w.later, read.later); cause = λ is. cc; failed = w.cause ∙ read.cause };
+    }
+    by_result (Err faults.Command) w = absurd w.cause
+    by_result (Err (faults.Syntax grammar at)) w = absurd w.cause
+    by_result (Err (faults.Number grammar at)) w = absurd w.cause
+    by_result (Err (faults.Depth grammar at)) w = absurd w.cause
+    by_result (Err (faults.Long bytes)) w = absurd w.cause
+    by_result (Err (faults.SystemUnknown of)) w = absurd w.cause
+    by_result (Err (faults.Direction first other)) w = absurd w.cause
+    by_result (Err (faults.Letters step)) w = absurd w.cause
+    by_result (Err (faults.States step)) w = absurd w.cause
+    by_result (Err faults.ScriptLimit) w = absurd w.cause
+    by_result (Err (faults.MixedChain byte)) w = absurd w.cause
+    by_result (Err (faults.NotLinear byte)) w = absurd w.cause
+    by_result (Err (faults.Unknown of file)) w = absurd w.cause
+    by_result (Err (faults.File of file flaw)) w = absurd w.cause
+    by_result (Err (faults.Arity of tracks given)) w = absurd w.cause
+    by_result (Err (faults.Clash of one two)) w = absurd w.cause
+    by_result (Err (faults.Plain of)) w = absurd w.cause

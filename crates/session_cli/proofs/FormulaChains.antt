@@ -15,82 +15,84 @@ use Rattle.session_cli.specs.declared.fault.Fault.TheVariants as faults
 use Rattle.session_cli.specs.declared.plan.Made.{Made}
 use Rattle.session_cli.specs.declared.plan.Plan.{Plan}
 use Rattle.session_cli.specs.Checks.{Pure, Fails}
-use Rattle.session_cli.specs.Trees.{Variable, Ledger}
-use Rattle.session_cli.specs.Named.{Custom}
+use Rattle.definitions.specs.Trees.{Variable, Ledger}
+use Rattle.dfa_loading.specs.declared.loaded.Loaded.{Loaded}
 use Rattle.session_cli.specs.Accepting.{Success}
 use Rattle.session_cli.specs.HeadAnswers.{HeadAnswers}
-use Rattle.session_cli.specs.FormulaOutcomes.{FormulaAnswers, FilesAnswers, SystemsAnswers, ResolvedAnswers, BuiltAnswers, VariablesAnswers, after_variables, after_steps, after_resolution, after_systems, after_files, after_formula, after_named_head, formula_checks}
+use Rattle.session_cli.specs.FormulaOutcomes.{FormulaAnswers, LoadedAnswers, loaded, SystemsAnswers, ResolvedAnswers, BuiltAnswers, VariablesAnswers, bindings_now, after_variables, after_steps, after_resolution, after_systems, after_tables, after_formula, after_named_head, formula_checks}
 use Rattle.session_cli.specs.Plans.{Makes, Plans}
 use Rattle.session_cli.proofs.CheckSteps.{fails_first, fails_after, makes_after, plans_after}
 
 -- where the head breaks the grammar
 pub named_syntax : (word : List ℕ) (folder : Folder) (limit : ℕ) (ledger : Ledger) (text : List ℕ) (at : ℕ) → HasHead (SpellsNamed word) (λ (h : NamedHead). h) text (Err (head_faults.Syntax at)) → Fails (formula_checks word folder limit ledger text) (faults.Syntax grammars.Command at)
-named_syntax word folder limit ledger text at breaks = fails_first (Pure (HeadAnswers (SpellsNamed word) text)) (λ head. after_named_head limit (ledger Bases) folder head) (faults.Syntax grammars.Command at) breaks
+named_syntax word folder limit ledger text at breaks = fails_first (Pure (HeadAnswers (SpellsNamed word) text)) (λ head. after_named_head limit ledger folder head) (faults.Syntax grammars.Command at) breaks
 
 pub named_number : (word : List ℕ) (folder : Folder) (limit : ℕ) (ledger : Ledger) (text : List ℕ) (at : ℕ) → HasHead (SpellsNamed word) (λ (h : NamedHead). h) text (Err (head_faults.Number at)) → Fails (formula_checks word folder limit ledger text) (faults.Number grammars.Command at)
-named_number word folder limit ledger text at breaks = fails_first (Pure (HeadAnswers (SpellsNamed word) text)) (λ head. after_named_head limit (ledger Bases) folder head) (faults.Number grammars.Command at) breaks
+named_number word folder limit ledger text at breaks = fails_first (Pure (HeadAnswers (SpellsNamed word) text)) (λ head. after_named_head limit ledger folder head) (faults.Number grammars.Command at) breaks
 
 -- what is accepted stands under the head's name
 record IsAt (folder : Folder) (head : NamedHead) (success : Success) : Type 0 where
   folder_is : folder ≡ success.folder
   name_is : head.name ≡ success.name
 
-stands_at : (limit : ℕ) (custom : Custom) (folder : Folder) (head : NamedHead) (success : Success) → (after_named_head limit custom folder head).answers (Ok success) → IsAt folder head success
-stands_at limit custom folder head success (formula, reads, (none, files, (known, systems, (done, resolves, (lines, builds, (variables, are, (verdict, says, (is, text)))))))) = record {
+stands_at : (limit : ℕ) (ledger : Ledger) (folder : Folder) (head : NamedHead) (success : Success) → (after_named_head limit ledger folder head).answers (Ok success) → IsAt folder head success
+stands_at limit ledger folder head success (formula, reads, (tables, files, (known, systems, (done, resolves, (lines, builds, (variables, are, (verdict, says, (is, text)))))))) = record {
   folder_is = sym (ap (λ (s : Success). s.folder) is);
   name_is = sym (ap (λ (s : Success). s.name) is);
 }
 
 -- a command whose head is this one
 pub named_planned : (word : List ℕ) (folder : Folder) (limit : ℕ) (ledger : Ledger) (text : List ℕ) (shown : Bool) (head : NamedHead) (plan : Plan) → HasHead (SpellsNamed word) (λ (h : NamedHead). h) text (Ok head) → plan.folder ≡ folder → plan.name ≡ head.name
-    → Makes (after_named_head limit (ledger Bases) folder head) shown (Ok plan.made) → Plans (formula_checks word folder limit ledger text) shown (Ok plan)
+    → Makes (after_named_head limit ledger folder head) shown (Ok plan.made) → Plans (formula_checks word folder limit ledger text) shown (Ok plan)
 named_planned word folder limit ledger text shown head plan spells folder_is name_is made =
-    let at : IsAt folder head made.success = stands_at limit (ledger Bases) folder head made.success made.answers in
-    plans_after (Pure (HeadAnswers (SpellsNamed word) text)) (λ h. after_named_head limit (ledger Bases) folder h) head shown (Ok plan) spells (record { made = made; folder_is = folder_is ∙ at.folder_is; name_is = name_is ∙ at.name_is })
+    let at : IsAt folder head made.success = stands_at limit ledger folder head made.success made.answers in
+    plans_after (Pure (HeadAnswers (SpellsNamed word) text)) (λ h. after_named_head limit ledger folder h) head shown (Ok plan) spells (record { made = made; folder_is = folder_is ∙ at.folder_is; name_is = name_is ∙ at.name_is })
 
 pub named_failed : (word : List ℕ) (folder : Folder) (limit : ℕ) (ledger : Ledger) (text : List ℕ) (shown : Bool) (head : NamedHead) (fault : Fault) → HasHead (SpellsNamed word) (λ (h : NamedHead). h) text (Ok head)
-    → Fails (after_named_head limit (ledger Bases) folder head) fault → Plans (formula_checks word folder limit ledger text) shown (Err fault)
-named_failed word folder limit ledger text shown head fault spells refused = plans_after (Pure (HeadAnswers (SpellsNamed word) text)) (λ h. after_named_head limit (ledger Bases) folder h) head shown (Err fault) spells refused
+    → Fails (after_named_head limit ledger folder head) fault → Plans (formula_checks word folder limit ledger text) shown (Err fault)
+named_failed word folder limit ledger text shown head fault spells refused = plans_after (Pure (HeadAnswers (SpellsNamed word) text)) (λ h. after_named_head limit ledger folder h) head shown (Err fault) spells refused
 
 -- the formula breaks its grammar
-pub head_unparsed : (limit : ℕ) (custom : Custom) (folder : Folder) (head : NamedHead) (fault : Fault) → Fails (Pure (FormulaAnswers head.body)) fault → Fails (after_named_head limit custom folder head) fault
-head_unparsed limit custom folder head fault refused = fails_first (Pure (FormulaAnswers head.body)) (λ f. after_formula limit custom (folder, head.name) f) fault refused
+pub head_unparsed : (limit : ℕ) (ledger : Ledger) (folder : Folder) (head : NamedHead) (fault : Fault) → Fails (Pure (FormulaAnswers head.body)) fault → Fails (after_named_head limit ledger folder head) fault
+head_unparsed limit ledger folder head fault refused = fails_first (Pure (FormulaAnswers head.body)) (λ f. after_formula limit ledger (folder, head.name) f) fault refused
 
 -- what is made of a formula that was read
-pub head_parsed : (limit : ℕ) (custom : Custom) (folder : Folder) (head : NamedHead) (formula : trees.Formula) (shown : Bool) (result : Result Made Fault) → FormulaAnswers head.body (Ok formula) → Makes (after_formula limit custom (folder, head.name) formula) shown result → Makes (after_named_head limit custom folder head) shown result
-head_parsed limit custom folder head formula shown result reads makes = makes_after (Pure (FormulaAnswers head.body)) (λ f. after_formula limit custom (folder, head.name) f) formula shown result reads makes
+pub head_parsed : (limit : ℕ) (ledger : Ledger) (folder : Folder) (head : NamedHead) (formula : trees.Formula) (shown : Bool) (result : Result Made Fault) → FormulaAnswers head.body (Ok formula) → Makes (after_formula limit ledger (folder, head.name) formula) shown result → Makes (after_named_head limit ledger folder head) shown result
+head_parsed limit ledger folder head formula shown result reads makes = makes_after (Pure (FormulaAnswers head.body)) (λ f. after_formula limit ledger (folder, head.name) f) formula shown result reads makes
 
--- it names a file
-pub formula_files : (limit : ℕ) (custom : Custom) (place : Place) (formula : trees.Formula) (fault : Fault) → Fails (Pure (FilesAnswers formula)) fault → Fails (after_formula limit custom place formula) fault
-formula_files limit custom place formula fault refused = fails_first (Pure (FilesAnswers formula)) (λ none. after_files limit custom place formula) fault refused
+-- its files are not loaded
+pub formula_unloaded : (limit : ℕ) (ledger : Ledger) (place : Place) (formula : trees.Formula) (fault : Fault) → Fails (loaded ledger formula) fault → Fails (after_formula limit ledger place formula) fault
+formula_unloaded limit ledger place formula fault refused = fails_first (loaded ledger formula) (λ tables. after_tables limit ledger place formula tables) fault refused
+
+-- what is made of it where they are
+pub formula_loaded : (limit : ℕ) (ledger : Ledger) (place : Place) (formula : trees.Formula) (tables : List Loaded) (shown : Bool) (result : Result Made Fault) → LoadedAnswers ledger formula (Ok tables) → Makes (after_tables limit ledger place formula tables) shown result
+    → Makes (after_formula limit ledger place formula) shown result
+formula_loaded limit ledger place formula tables shown result there makes = makes_after (loaded ledger formula) (λ ts. after_tables limit ledger place formula ts) tables shown result there makes
 
 -- it names a system that is not known
-pub formula_unknown : (limit : ℕ) (custom : Custom) (place : Place) (formula : trees.Formula) (fault : Fault) → FilesAnswers formula (Ok tt) → Fails (Pure (SystemsAnswers custom formula)) fault → Fails (after_formula limit custom place formula) fault
-formula_unknown limit custom place formula fault none refused =
-    fails_after (Pure (FilesAnswers formula)) (λ done. after_files limit custom place formula) tt fault none
-    (fails_first (Pure (SystemsAnswers custom formula)) (λ known. after_systems limit custom place formula) fault refused)
+pub tables_unknown : (limit : ℕ) (ledger : Ledger) (place : Place) (formula : trees.Formula) (tables : List Loaded) (fault : Fault) → Fails (Pure (SystemsAnswers (ledger Bases) tables formula)) fault → Fails (after_tables limit ledger place formula tables) fault
+tables_unknown limit ledger place formula tables fault refused = fails_first (Pure (SystemsAnswers (ledger Bases) tables formula)) (λ known. after_systems limit ledger place tables formula) fault refused
 
 -- what is made of it where its systems are known
-pub formula_known : (limit : ℕ) (custom : Custom) (place : Place) (formula : trees.Formula) (shown : Bool) (result : Result Made Fault) → FilesAnswers formula (Ok tt) → SystemsAnswers custom formula (Ok tt) → Makes (after_systems limit custom place formula) shown result
-    → Makes (after_formula limit custom place formula) shown result
-formula_known limit custom place formula shown result none known makes =
-    makes_after (Pure (FilesAnswers formula)) (λ done. after_files limit custom place formula) tt shown result none
-    (makes_after (Pure (SystemsAnswers custom formula)) (λ done. after_systems limit custom place formula) tt shown result known makes)
+pub tables_known : (limit : ℕ) (ledger : Ledger) (place : Place) (formula : trees.Formula) (tables : List Loaded) (shown : Bool) (result : Result Made Fault) → SystemsAnswers (ledger Bases) tables formula (Ok tt) → Makes (after_systems limit ledger place tables formula) shown result
+    → Makes (after_tables limit ledger place formula tables) shown result
+tables_known limit ledger place formula tables shown result known makes = makes_after (Pure (SystemsAnswers (ledger Bases) tables formula)) (λ done. after_systems limit ledger place tables formula) tt shown result known makes
 
 -- it has no resolution
-pub systems_unresolved : (limit : ℕ) (custom : Custom) (place : Place) (formula : trees.Formula) (fault : Fault) → Fails (Pure (ResolvedAnswers formula)) fault → Fails (after_systems limit custom place formula) fault
-systems_unresolved limit custom place formula fault refused = fails_first (Pure (ResolvedAnswers formula)) (λ done. after_resolution limit custom place formula) fault refused
+pub systems_unresolved : (limit : ℕ) (ledger : Ledger) (place : Place) (tables : List Loaded) (formula : trees.Formula) (fault : Fault) → Fails (Pure (ResolvedAnswers tables formula)) fault → Fails (after_systems limit ledger place tables formula) fault
+systems_unresolved limit ledger place tables formula fault refused = fails_first (Pure (ResolvedAnswers tables formula)) (λ done. after_resolution limit ledger place tables formula) fault refused
 
 -- a step passes a limit
-pub resolved_unbuilt : (limit : ℕ) (custom : Custom) (place : Place) (formula : trees.Formula) (fault : Fault) → ResolvedAnswers formula (Ok tt) → Fails (Pure (BuiltAnswers limit custom formula)) fault → Fails (after_systems limit custom place formula) fault
-resolved_unbuilt limit custom place formula fault resolves refused =
-    fails_after (Pure (ResolvedAnswers formula)) (λ done. after_resolution limit custom place formula) tt fault resolves
-    (fails_first (Pure (BuiltAnswers limit custom formula)) (λ lines. after_steps custom place formula lines) fault refused)
+pub resolved_unbuilt : (limit : ℕ) (ledger : Ledger) (place : Place) (tables : List Loaded) (formula : trees.Formula) (fault : Fault) → ResolvedAnswers tables formula (Ok tt) → Fails (Pure (BuiltAnswers limit (ledger Bases) tables formula)) fault → Fails (after_systems limit ledger place tables formula) fault
+resolved_unbuilt limit ledger place tables formula fault resolves refused =
+    fails_after (Pure (ResolvedAnswers tables formula)) (λ done. after_resolution limit ledger place tables formula) tt fault resolves
+    (fails_first (Pure (BuiltAnswers limit (ledger Bases) tables formula)) (λ lines. after_steps ledger place tables formula lines) fault refused)
 
 -- what is made of it where its steps were done
-pub steps_made : (limit : ℕ) (custom : Custom) (place : Place) (formula : trees.Formula) (variables : List Variable) (lines : List StepLine) (shown : Bool) (result : Result Made Fault) → ResolvedAnswers formula (Ok tt) → BuiltAnswers limit custom formula (Ok lines)
-    → VariablesAnswers custom formula (Ok variables) → Makes (after_variables place formula lines variables) shown result → Makes (after_systems limit custom place formula) shown result
-steps_made limit custom place formula variables lines shown result resolves builds are makes =
-    makes_after (Pure (ResolvedAnswers formula)) (λ done. after_resolution limit custom place formula) tt shown result resolves
-    (makes_after (Pure (BuiltAnswers limit custom formula)) (λ ls. after_steps custom place formula ls) lines shown result builds
-    (makes_after (Pure (VariablesAnswers custom formula)) (λ vs. after_variables place formula lines vs) variables shown result are makes))
+pub steps_made : (limit : ℕ) (ledger : Ledger) (place : Place) (tables : List Loaded) (formula : trees.Formula) (variables : List Variable) (lines : List StepLine) (shown : Bool) (result : Result Made Fault) → ResolvedAnswers tables formula (Ok tt)
+    → BuiltAnswers limit (ledger Bases) tables formula (Ok lines) → VariablesAnswers (ledger Bases) tables formula (Ok variables) → Makes (after_variables place (bindings_now ledger formula) formula lines variables) shown result
+    → Makes (after_systems limit ledger place tables formula) shown result
+steps_made limit ledger place tables formula variables lines shown result resolves builds are makes =
+    makes_after (Pure (ResolvedAnswers tables formula)) (λ done. after_resolution limit ledger place tables formula) tt shown result resolves
+    (makes_after (Pure (BuiltAnswers limit (ledger Bases) tables formula)) (λ ls. after_steps ledger place tables formula ls) lines shown result builds
+    (makes_after (Pure (VariablesAnswers (ledger Bases) tables formula)) (λ vs. after_variables place (bindings_now ledger formula) formula lines vs) variables shown result are makes))

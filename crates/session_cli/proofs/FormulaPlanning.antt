@@ -5,7 +5,8 @@ use Rattle.wal_outside.specs.Places.{Place}
 use Rattle.digit_tuple.specs.declared.steps.StepLine.{StepLine}
 use Rattle.formula_parse.specs.Trees as trees
 use Rattle.formula_resolve.specs.declared.variable.Variable as resolved
-use Rattle.formula_build.specs.Libraries.{NamedSystem}
+use Rattle.formula_build.specs.Libraries.{LibraryValue, meanings_of}
+use Rattle.formula_truth.proofs.MeaningLemmas.{MeanTheSame}
 use Rattle.formula_build.specs.Solutions.{IsSolution}
 use Rattle.formula_build.specs.VariableTracks.{IsOverVariables}
 use Rattle.number_relations.specs.Relations.{RelationValue, RelationHolds}
@@ -13,10 +14,12 @@ use Rattle.session_cli.specs.declared.fault.Fault.{Fault}
 use Rattle.session_cli.specs.declared.fault.Fault.TheVariants as faults
 use Rattle.session_cli.specs.declared.plan.Made.{Made}
 use Rattle.session_cli.specs.Checks.{Pure, Fails}
-use Rattle.session_cli.specs.Trees.{Variable}
+use Rattle.definitions.specs.Trees.{Variable, Bindings}
+use Rattle.definitions.specs.TreeMeanings.{meanings_in}
+use Rattle.session_cli.specs.Texts.{no_custom}
 use Rattle.session_cli.specs.Accepting.{FitsFile, stored}
-use Rattle.session_cli.specs.FormulaTexts.{truth_text, IsSolutionText, IsFormulaText, HasVerdict}
-use Rattle.session_cli.specs.FormulaSteps.{library_of}
+use Rattle.definitions.specs.FormulaTexts.{truth_text, IsSolutionText, IsFormulaText, HasVerdict}
+use Rattle.session_cli.specs.FormulaSteps.{AreMeant}
 use Rattle.session_cli.specs.FormulaOutcomes.{VerdictAnswers, formula_success, after_variables}
 use Rattle.session_cli.specs.FormulaPlans.{automaton_text, IsTextOf, HasNoTextOf}
 use Rattle.session_cli.specs.Lines.{shown_steps, verdict_line}
@@ -26,9 +29,9 @@ use Rattle.session_cli.proofs.CheckSteps.{fails_after, makes_after}
 use Rattle.session_cli.proofs.FormulaSolutions.{solution_text, no_variables, some_variables, sentence_truth}
 
 -- a formula with a variable has the text of its solutions
-with_variables : (variables : List Variable) (formula : trees.Formula) (text : List ℕ) → variables ≢ [] → IsSolutionText variables formula text → IsFormulaText variables formula text
-with_variables [] formula text some is = absurd (some refl)
-with_variables (v ∷ variables) formula text some is = is
+with_variables : (bindings : Bindings) (variables : List Variable) (formula : trees.Formula) (text : List ℕ) → variables ≢ [] → IsSolutionText no_custom bindings variables formula text → IsFormulaText no_custom bindings variables formula text
+with_variables bindings [] formula text some is = absurd (some refl)
+with_variables bindings (v ∷ variables) formula text some is = is
 
 -- a relation has no track, or some
 abbrev AreSome : List (List ℕ) → Type 0
@@ -42,59 +45,59 @@ short_truth : (truth : Bool) → FitsFile (truth_text truth)
 short_truth true = omega arith
 short_truth false = omega arith
 
-module _ (systems : List NamedSystem) (formula : trees.Formula) (found : List resolved.Variable) (r : RelationValue) (solution : IsSolution (library_of systems) formula r) (over : IsOverVariables (library_of systems) found r) where
+module _ (l : LibraryValue) (bindings : Bindings) (means : MeanTheSame (meanings_of l) (meanings_in no_custom bindings)) (meant : AreMeant no_custom l.systems) (formula : trees.Formula) (found : List resolved.Variable) (r : RelationValue) (solution : IsSolution l formula r) (over : IsOverVariables l found r) where
   abbrev variables : List Variable
   variables = variables_over found r.systems
 
   -- the text that is stored is that of the formula
-  pub formula_text_is : (text : List ℕ) → IsTextOf found r text → IsFormulaText variables formula text
+  pub formula_text_is : (text : List ℕ) → IsTextOf found r text → IsFormulaText no_custom bindings variables formula text
   formula_text_is text (inl (none, (truth, is, text_is))) =
-      let empty : variables ≡ [] = no_variables systems formula found r solution over none in
-      subst (λ (vs : List Variable). IsFormulaText vs formula text) (sym empty) (truth, sentence_truth systems formula found r solution over none truth is, text_is)
+      let empty : variables ≡ [] = no_variables l bindings means meant formula found r solution over none in
+      subst (λ (vs : List Variable). IsFormulaText no_custom bindings vs formula text) (sym empty) (truth, sentence_truth l bindings means meant formula found r solution over none truth is, text_is)
   formula_text_is text (inr (some, text_is, fits)) =
-      with_variables variables formula text (some_variables systems formula found r solution over some) (subst (IsSolutionText variables formula) (sym text_is) (solution_text systems formula found r solution over))
+      with_variables bindings variables formula text (some_variables l bindings means meant formula found r solution over some) (subst (IsSolutionText no_custom bindings variables formula) (sym text_is) (solution_text l bindings means meant formula found r solution over))
 
   pub text_fits : (text : List ℕ) → IsTextOf found r text → FitsFile text
   text_fits text (inl (none, (truth, is, text_is))) = subst FitsFile (sym text_is) (short_truth truth)
   text_fits text (inr (some, text_is, fits)) = fits
 
   -- and the verdict that is printed is its truth
-  pub verdict_is : (verdict : Option Bool) → (IsSome verdict ↔ (r.names ≡ [])) → IfSome verdict (λ truth. IsTrue truth ↔ RelationHolds r []) → HasVerdict variables formula verdict
+  pub verdict_is : (verdict : Option Bool) → (IsSome verdict ↔ (r.names ≡ [])) → IfSome verdict (λ truth. IsTrue truth ↔ RelationHolds r []) → HasVerdict no_custom bindings variables formula verdict
   verdict_is verdict there truth = by_names (some_names r.names) verdict there truth
     where
-      of_sentence : (v : Option Bool) → r.names ≡ [] → (IsSome v ↔ (r.names ≡ [])) → IfSome v (λ truth. IsTrue truth ↔ RelationHolds r []) → HasVerdict [] formula v
+      of_sentence : (v : Option Bool) → r.names ≡ [] → (IsSome v ↔ (r.names ≡ [])) → IfSome v (λ truth. IsTrue truth ↔ RelationHolds r []) → HasVerdict no_custom bindings [] formula v
       of_sentence None none there truth = absurd (false≢true (there.1 none))
-      of_sentence (Some b) none there truth = sentence_truth systems formula found r solution over none b truth
+      of_sentence (Some b) none there truth = sentence_truth l bindings means meant formula found r solution over none b truth
 
-      of_variables : (vs : List Variable) (v : Option Bool) → vs ≢ [] → r.names ≢ [] → (IsSome v ↔ (r.names ≡ [])) → HasVerdict vs formula v
+      of_variables : (vs : List Variable) (v : Option Bool) → vs ≢ [] → r.names ≢ [] → (IsSome v ↔ (r.names ≡ [])) → HasVerdict no_custom bindings vs formula v
       of_variables [] v some named there = absurd (some refl)
       of_variables (x ∷ vs) None some named there = tt
       of_variables (x ∷ vs) (Some b) some named there = named (there.0 refl)
 
-      by_names : AreSome r.names → (v : Option Bool) → (IsSome v ↔ (r.names ≡ [])) → IfSome v (λ truth. IsTrue truth ↔ RelationHolds r []) → HasVerdict variables formula v
-      by_names (inl none) v there truth = subst (λ (vs : List Variable). HasVerdict vs formula v) (sym (no_variables systems formula found r solution over none)) (of_sentence v none there truth)
-      by_names (inr some) v there truth = of_variables variables v (some_variables systems formula found r solution over some) some there
+      by_names : AreSome r.names → (v : Option Bool) → (IsSome v ↔ (r.names ≡ [])) → IfSome v (λ truth. IsTrue truth ↔ RelationHolds r []) → HasVerdict no_custom bindings variables formula v
+      by_names (inl none) v there truth = subst (λ (vs : List Variable). HasVerdict no_custom bindings vs formula v) (sym (no_variables l bindings means meant formula found r solution over none)) (of_sentence v none there truth)
+      by_names (inr some) v there truth = of_variables variables v (some_variables l bindings means meant formula found r solution over some) some there
 
   -- so this is what the command makes
-  pub text_made : (place : Place) (lines : List StepLine) (verdict : Option Bool) (shown : Bool) (made : Made) → HasVerdict variables formula verdict → IsTextOf found r made.stored.items
-      → made.printed ≡ shown_steps shown lines ++ verdict_line verdict → Makes (after_variables place formula lines variables) shown (Ok made)
+  pub text_made : (place : Place) (lines : List StepLine) (verdict : Option Bool) (shown : Bool) (made : Made) → HasVerdict no_custom bindings variables formula verdict → IsTextOf found r made.stored.items
+      → made.printed ≡ shown_steps shown lines ++ verdict_line verdict → Makes (after_variables place bindings formula lines variables) shown (Ok made)
   text_made place lines verdict shown made says is printed =
-      makes_after (Pure (VerdictAnswers variables formula)) (λ v. stored (formula_success place variables formula lines v)) verdict shown (Ok made) says
+      makes_after (Pure (VerdictAnswers bindings variables formula)) (λ v. stored (formula_success place bindings variables formula lines v)) verdict shown (Ok made) says
       (record {
-        success = formula_success place variables formula lines verdict;
+        success = formula_success place bindings variables formula lines verdict;
         answers = (refl, (made.stored.items, formula_text_is made.stored.items is, text_fits made.stored.items is));
         has_text = formula_text_is made.stored.items is;
         printed_is = printed;
       })
 
   -- a text that is too long is not stored
-  pub text_refused : (place : Place) (lines : List StepLine) (fault : Fault) → HasNoTextOf found r fault → Fails (after_variables place formula lines variables) fault
+  pub text_refused : (place : Place) (lines : List StepLine) (fault : Fault) → HasNoTextOf found r fault → Fails (after_variables place bindings formula lines variables) fault
   text_refused place lines (faults.Long bytes) (some, is, long) =
-      let has : IsFormulaText variables formula (automaton_text found r) = with_variables variables formula (automaton_text found r) (some_variables systems formula found r solution over some) (solution_text systems formula found r solution over) in
-      let says : HasVerdict variables formula None = without_verdict variables (some_variables systems formula found r solution over some) in
-      fails_after (Pure (VerdictAnswers variables formula)) (λ v. stored (formula_success place variables formula lines v)) None (faults.Long bytes) says (is, (automaton_text found r, has, long))
+      let has : IsFormulaText no_custom bindings variables formula (automaton_text found r) = with_variables bindings variables formula (automaton_text found r) (some_variables l bindings means meant formula found r solution over some) (solution_text l bindings means meant formula found r solution over) in
+      let says : HasVerdict no_custom bindings variables formula None = without_verdict variables (some_variables l bindings means meant formula found r solution over some) in
+      fails_after (Pure (VerdictAnswers bindings variables formula)) (λ v. stored (formula_success place bindings variables formula lines v)) None (faults.Long bytes) says (is, (automaton_text found r, has, long))
     where
-      without_verdict : (vs : List Variable) → vs ≢ [] → HasVerdict vs formula None
+      without_verdict : (vs : List Variable) → vs ≢ [] → HasVerdict no_custom bindings vs formula None
       without_verdict [] named = absurd (named refl)
       without_verdict (x ∷ vs) named = tt
   text_refused place lines faults.Memory refused = tt
@@ -105,6 +108,7 @@ module _ (systems : List NamedSystem) (formula : trees.Formula) (found : List re
   text_refused place lines (faults.NotLinear at) refused = absurd refused
   text_refused place lines (faults.Depth grammar at) refused = absurd refused
   text_refused place lines (faults.Unknown folder name) refused = absurd refused
+  text_refused place lines (faults.File folder name flaw) refused = absurd refused
   text_refused place lines (faults.Arity of tracks given) refused = absurd refused
   text_refused place lines (faults.SystemUnknown name) refused = absurd refused
   text_refused place lines (faults.Clash of one two) refused = absurd refused

@@ -24,60 +24,51 @@ use Rattle.formula_parse.specs.Trees as trees
 use Rattle.formula_resolve.specs.declared.variable.Variable as resolved
 use Rattle.formula_truth.specs.Truth.{Holds}
 use Rattle.formula_truth.proofs.MeaningLemmas.{MeanTheSame, meanings_matter}
-use Rattle.formula_build.specs.Libraries.{NamedSystem, IsSystemIn, system_named, meanings_of}
+use Rattle.formula_build.specs.Libraries.{NamedSystem, LibraryValue, IsSystemIn, system_named, meanings_of}
 use Rattle.formula_build.specs.Solutions.{IsSolution}
 use Rattle.formula_build.specs.VariableTracks.{AreSystemsOf, IsOverVariables}
 use Rattle.dfa_text.specs.RelationText.{relation_text}
-use Rattle.session_cli.specs.Tracks.{systems_of, header_tracks, track_of}
-use Rattle.session_cli.specs.Trees.{Variable}
-use Rattle.session_cli.specs.Named.{Custom, IsSystemNamed, built_in_system}
-use Rattle.session_cli.specs.FormulaTexts.{no_meanings, assigned, IsSolvedBy, named_systems, IsSolutionText, HasTruth}
-use Rattle.session_cli.specs.FormulaSteps.{AreMeant, library_of}
+use Rattle.definitions.specs.Tracks.{systems_of, header_tracks, track_of}
+use Rattle.definitions.specs.Trees.{Variable, Bindings}
+use Rattle.definitions.specs.Named.{Custom, IsSystemNamed, AreNamed, built_in_system}
+use Rattle.definitions.specs.FormulaTexts.{IsSolvedBy, named_systems, IsSolutionText, HasTruth}
+use Rattle.definitions.specs.TreeMeanings.{assigned, meanings_in}
+use Rattle.session_cli.specs.Texts.{no_custom}
+use Rattle.session_cli.specs.FormulaSteps.{AreMeant}
 use Rattle.session_cli.specs.FormulaOutcomes.{AreVariables}
 use Rattle.session_cli.specs.FormulaPlans.{tracks_over, automaton_text}
 use Rattle.session_cli.specs.VariablesOver.{variable_over, variables_over}
+use Rattle.session_cli.proofs.MeantNames.{found_meant}
 use Rattle.session_cli.proofs.AssignedLemmas.{names_of_variables, assigned_numbers}
 
--- a system that is found is what its name means
-pub meant_in : (custom : Custom) (systems : List NamedSystem) (name : List ℕ) (s : SystemValue) → AreMeant custom systems → IsSystemIn (library_of systems) name s → IsSystemNamed custom name s.way (sealed.system_of s)
-meant_in custom [] name s are found = absurd (none-some s found)
-meant_in custom (x ∷ systems) name s are found = by (bytes_eq x.name name) refl (λ (there : system_named systems name ≡ Some s). meant_in custom systems name s are.1 there) found
-  where
-    by : (b : Bool) → bytes_eq x.name name ≡ b → (system_named systems name ≡ Some s → IsSystemNamed custom name s.way (sealed.system_of s)) → (if b then Some x.system else system_named systems name) ≡ Some s → IsSystemNamed custom name s.way (sealed.system_of s)
-    by true same rest is =
-        let names : x.name ≡ name = (bytes_eq-Decides x.name name).0 same in
-        let systems_same : x.system ≡ s = cc in
-        subst (λ (t : SystemValue). IsSystemNamed custom name t.way (sealed.system_of t)) systems_same (subst (λ (n : List ℕ). IsSystemNamed custom n x.system.way (sealed.system_of x.system)) names are.0)
-    by false apart rest is = rest is
-
 -- the variables stand over the systems that their names mean
-pub are_variables : (custom : Custom) (systems : List NamedSystem) (found : List resolved.Variable) (ss : List SystemValue) → AreMeant custom systems → AreSystemsOf (library_of systems) found ss → AreVariables custom found (variables_over found ss)
-are_variables custom systems [] [] are over = tt
-are_variables custom systems [] (s ∷ ss) are over = absurd over
-are_variables custom systems (v ∷ found) [] are over = absurd over
-are_variables custom systems (v ∷ found) (s ∷ ss) are over =
-    (record { name_is = refl; system_is = refl; means = meant_in custom systems v.system s are over.0 }, are_variables custom systems found ss are over.1)
+pub are_variables : (custom : Custom) (l : LibraryValue) (found : List resolved.Variable) (ss : List SystemValue) → AreMeant custom l.systems → AreSystemsOf l found ss → AreVariables custom found (variables_over found ss)
+are_variables custom l [] [] are over = tt
+are_variables custom l [] (s ∷ ss) are over = absurd over
+are_variables custom l (v ∷ found) [] are over = absurd over
+are_variables custom l (v ∷ found) (s ∷ ss) are over =
+    (record { name_is = refl; system_is = refl; means = found_meant custom l.systems v.system s are over.0 }, are_variables custom l found ss are over.1)
 
-module _ (systems : List NamedSystem) where
-  pub as_many : (found : List resolved.Variable) (ss : List SystemValue) → AreSystemsOf (library_of systems) found ss → length found ≡ length ss
+module _ (l : LibraryValue) where
+  pub as_many : (found : List resolved.Variable) (ss : List SystemValue) → AreSystemsOf l found ss → length found ≡ length ss
   as_many [] [] over = refl
   as_many [] (s ∷ ss) over = absurd over
   as_many (v ∷ found) [] over = absurd over
   as_many (v ∷ found) (s ∷ ss) over = omega (arith, as_many found ss over.1)
 
-  over_count : (found : List resolved.Variable) (ss : List SystemValue) → AreSystemsOf (library_of systems) found ss → length (variables_over found ss) ≡ length ss
+  over_count : (found : List resolved.Variable) (ss : List SystemValue) → AreSystemsOf l found ss → length (variables_over found ss) ≡ length ss
   over_count [] [] over = refl
   over_count [] (s ∷ ss) over = absurd over
   over_count (v ∷ found) [] over = absurd over
   over_count (v ∷ found) (s ∷ ss) over = omega (arith, over_count found ss over.1)
 
-  over_names : (found : List resolved.Variable) (ss : List SystemValue) → AreSystemsOf (library_of systems) found ss → names_of_variables (variables_over found ss) ≡ map (λ (v : resolved.Variable). v.name) found
+  over_names : (found : List resolved.Variable) (ss : List SystemValue) → AreSystemsOf l found ss → names_of_variables (variables_over found ss) ≡ map (λ (v : resolved.Variable). v.name) found
   over_names [] [] over = refl
   over_names [] (s ∷ ss) over = absurd over
   over_names (v ∷ found) [] over = absurd over
   over_names (v ∷ found) (s ∷ ss) over = ap (λ (ns : List (List ℕ)). v.name ∷ ns) (over_names found ss over.1)
 
-  over_systems : (found : List resolved.Variable) (ss : List SystemValue) → AreSystemsOf (library_of systems) found ss → systems_of (named_systems (variables_over found ss)) ≡ relations.systems_of ss
+  over_systems : (found : List resolved.Variable) (ss : List SystemValue) → AreSystemsOf l found ss → systems_of (named_systems (variables_over found ss)) ≡ relations.systems_of ss
   over_systems [] [] over = refl
   over_systems [] (s ∷ ss) over = absurd over
   over_systems (v ∷ found) [] over = absurd over
@@ -93,45 +84,43 @@ over_ways way [] ss ways = tt
 over_ways way (v ∷ found) [] ways = tt
 over_ways way (v ∷ found) (s ∷ ss) ways = (ways.0, over_ways way found ss ways.1)
 
--- no name stands for anything in a library without relations
-same_meanings : (systems : List NamedSystem) → MeanTheSame (meanings_of (library_of systems)) no_meanings
-same_meanings systems = record {
-  holds_there = λ name ns is. none-some is.0 is.1;
-  holds_back = λ name ns is. absurd is;
-  letter_there = λ name ns b is. is;
-  letter_back = λ name ns b is. is;
-}
+-- each variable's system is the one that its name means
+over_named : (way : Direction) (found : List resolved.Variable) (ss : List SystemValue) → AreVariables no_custom found (variables_over found ss) → AllByRecursion (λ (s : SystemValue). s.way ≡ way) ss → AreNamed no_custom way (named_systems (variables_over found ss))
+over_named way [] ss are ways = tt
+over_named way (v ∷ found) [] are ways = tt
+over_named way (v ∷ found) (s ∷ ss) are ways = (subst (λ (w : Direction). IsSystemNamed no_custom v.system w (sealed.system_of s)) ways.0 are.0.means, over_named way found ss are.1 ways.1)
 
-module _ (systems : List NamedSystem) (formula : trees.Formula) (found : List resolved.Variable) (r : RelationValue) (solution : IsSolution (library_of systems) formula r) (over : IsOverVariables (library_of systems) found r) where
+module _ (l : LibraryValue) (bindings : Bindings) (means : MeanTheSame (meanings_of l) (meanings_in no_custom bindings)) (meant : AreMeant no_custom l.systems) (formula : trees.Formula) (found : List resolved.Variable) (r : RelationValue) (solution : IsSolution l formula r) (over : IsOverVariables l found r) where
   abbrev variables : List Variable
   variables = variables_over found r.systems
 
   own_names : names_of_variables variables ≡ r.names
-  own_names = over_names systems found r.systems over.systems_are ∙ sym over.names_are
+  own_names = over_names l found r.systems over.systems_are ∙ sym over.names_are
 
   -- the relation holds of numbers for which the formula is true
-  solves : (ns : List ℕ) → length ns ≡ length variables → RelationHolds r ns ↔ IsSolvedBy variables formula ns
+  solves : (ns : List ℕ) → length ns ≡ length variables → RelationHolds r ns ↔ IsSolvedBy no_custom bindings variables formula ns
   solves ns count =
       let a : List ℕ → ℕ = assigned variables ns in
       let own : map a r.names ≡ ns = ap (λ (names : List (List ℕ)). map a names) (sym own_names) ∙ assigned_numbers variables ns (subst AreDistinct (sym own_names) solution.relation.tracked.distinct) count in
-      let says : RelationHolds r (map a r.names) ↔ Holds (meanings_of (library_of systems)) formula a = solution.holds a in
-      let same : Holds (meanings_of (library_of systems)) formula a ↔ Holds no_meanings formula a = meanings_matter (meanings_of (library_of systems)) no_meanings (same_meanings systems) formula a in
+      let says : RelationHolds r (map a r.names) ↔ Holds (meanings_of l) formula a = solution.holds a in
+      let same : Holds (meanings_of l) formula a ↔ Holds (meanings_in no_custom bindings) formula a = meanings_matter (meanings_of l) (meanings_in no_custom bindings) means formula a in
       ((λ holds. same.0 (says.0 (subst (RelationHolds r) (sym own) holds))), (λ holds. subst (RelationHolds r) own (says.1 (same.1 holds))))
 
   -- its automaton accepts the spellings of these numbers
-  solution_holds : HoldsOf (relations.way_of r.systems) (systems_of (named_systems variables)) (IsSolvedBy variables formula) r.automaton
+  solution_holds : HoldsOf (relations.way_of r.systems) (systems_of (named_systems variables)) (IsSolvedBy no_custom bindings variables formula) r.automaton
   solution_holds =
       let way : Direction = relations.way_of r.systems in
-      let sizes : systems_of (named_systems variables) ≡ relations.systems_of r.systems = over_systems systems found r.systems over.systems_are in
+      let sizes : systems_of (named_systems variables) ≡ relations.systems_of r.systems = over_systems l found r.systems over.systems_are in
       let closed : HoldsOf way (systems_of (named_systems variables)) (RelationHolds r) r.automaton = subst (λ (ss : List System). HoldsOf way ss (RelationHolds r) r.automaton) (sym sizes) solution.relation.closed in
-      holds_same way (systems_of (named_systems variables)) (RelationHolds r) (IsSolvedBy variables formula) r.automaton
-      (λ ns count. solves ns (count ∙ ap length sizes ∙ length-map r.systems sealed.system_of ∙ sym (over_count systems found r.systems over.systems_are))) closed
+      holds_same way (systems_of (named_systems variables)) (RelationHolds r) (IsSolvedBy no_custom bindings variables formula) r.automaton
+      (λ ns count. solves ns (count ∙ ap length sizes ∙ length-map r.systems sealed.system_of ∙ sym (over_count l found r.systems over.systems_are))) closed
 
   -- the text of the automaton is that of the formula
-  pub solution_text : IsSolutionText variables formula (automaton_text found r)
+  pub solution_text : IsSolutionText no_custom bindings variables formula (automaton_text found r)
   solution_text = record {
     way = relations.way_of r.systems;
     read = over_ways (relations.way_of r.systems) found r.systems solution.relation.one_way;
+    named = over_named (relations.way_of r.systems) found r.systems (are_variables no_custom l found r.systems meant over.systems_are) solution.relation.one_way;
     automaton = r.automaton;
     canonical = solution.relation.tracked.canonical;
     holds = solution_holds;
@@ -149,11 +138,11 @@ module _ (systems : List NamedSystem) (formula : trees.Formula) (found : List re
   pub some_variables : r.names ≢ [] → variables ≢ []
   some_variables some none = some (sym own_names ∙ ap names_of_variables none)
 
-  pub sentence_truth : r.names ≡ [] → (truth : Bool) → (IsTrue truth ↔ RelationHolds r []) → HasTruth formula truth
+  pub sentence_truth : r.names ≡ [] → (truth : Bool) → (IsTrue truth ↔ RelationHolds r []) → HasTruth no_custom bindings formula truth
   sentence_truth none truth is =
       let empty : variables ≡ [] = no_variables none in
-      let says : RelationHolds r [] ↔ IsSolvedBy variables formula [] = solves [] (sym (ap length empty)) in
-      let there : RelationHolds r [] ↔ IsSolvedBy [] formula [] = subst (λ (vs : List Variable). RelationHolds r [] ↔ IsSolvedBy vs formula []) empty says in
+      let says : RelationHolds r [] ↔ IsSolvedBy no_custom bindings variables formula [] = solves [] (sym (ap length empty)) in
+      let there : RelationHolds r [] ↔ IsSolvedBy no_custom bindings [] formula [] = subst (λ (vs : List Variable). RelationHolds r [] ↔ IsSolvedBy no_custom bindings vs formula []) empty says in
       ((λ holds. there.0 (is.0 holds)), (λ holds. is.1 (there.1 holds)))
 
 -- a built-in system has as many digits as a track may have
@@ -164,8 +153,8 @@ meant_digits custom name s (kind, named, is) = subst IsDigitCount (sym (ap (λ (
     by_kind (Base k) base = record { some = omega (arith, base.least); small = omega (arith, base.most) }
     by_kind Fibonacci fib = record { some = omega arith; small = omega arith }
 
-pub over_digits : (custom : Custom) (systems : List NamedSystem) (found : List resolved.Variable) (ss : List SystemValue) → AreMeant custom systems → AreSystemsOf (library_of systems) found ss → AllByRecursion (λ (s : SystemValue). IsDigitCount s.digits) ss
-over_digits custom systems [] [] are over = tt
-over_digits custom systems [] (s ∷ ss) are over = absurd over
-over_digits custom systems (v ∷ found) [] are over = absurd over
-over_digits custom systems (v ∷ found) (s ∷ ss) are over = (meant_digits custom v.system s (meant_in custom systems v.system s are over.0), over_digits custom systems found ss are over.1)
+pub over_digits : (custom : Custom) (l : LibraryValue) (found : List resolved.Variable) (ss : List SystemValue) → AreMeant custom l.systems → AreSystemsOf l found ss → AllByRecursion (λ (s : SystemValue). IsDigitCount s.digits) ss
+over_digits custom l [] [] are over = tt
+over_digits custom l [] (s ∷ ss) are over = absurd over
+over_digits custom l (v ∷ found) [] are over = absurd over
+over_digits custom l (v ∷ found) (s ∷ ss) are over = (meant_digits custom v.system s (found_meant custom l.systems v.system s are over.0), over_digits custom l found ss are over.1)

@@ -2,7 +2,7 @@
 use Rattle.std.proofs.Common.{◌≡◌, ◌⊎◌, ℕ, zero, suc, ◌+◌, ◌<◌, ◌≤◌, List, [], ◌∷◌, ◌++◌, length, map, take, get_or, inl, inr, refl, sym, ap, ◌∙◌, subst, arith}
 use Rattle.std.specs.List.{All, AllByRecursion}
 use Rattle.std.proofs.lemmas.Bool.{cases_lt}
-use Rattle.std.proofs.lemmas.List.{get_or_append_left, get_or_push, get_or-map, length-append}
+use Rattle.std.proofs.lemmas.List.{get_or_append_left, get_or_push, get_or-map, length-append, length-map}
 use Rattle.digit_tuple.specs.Deterministic.{Automaton}
 use Rattle.digit_tuple.specs.declared.direction.Direction.{Direction}
 use Rattle.digit_tuple.specs.declared.systems.SystemTrack.{SystemTrack}
@@ -15,8 +15,9 @@ use Rattle.number_order.proofs.KeptLemmas.{language_kept}
 use Rattle.reg_steps.specs.Relations.{IsSystemLanguage, AreSystemLanguages}
 use Rattle.system_names.specs.declared.system_kind.SystemKind.TheVariants as kinds
 use Rattle.system_names.specs.Names.{IsBuiltInName}
-use Rattle.session_cli.specs.Tracks.{names_of, systems_of, track_of, header_tracks}
-use Rattle.session_cli.specs.Named.{Custom, IsSystemNamed, IsOf, IsKnown, AreNamed, AreSystemsOf, IsFirstWithout, PartInDirection}
+use Rattle.definitions.specs.Tracks.{NamedSystem, names_of, systems_of, track_of, header_tracks}
+use Rattle.definitions.specs.Named.{Custom, IsSystemNamed, IsOf, IsKnown, AreNamed, IsFirstWithout}
+use Rattle.session_cli.specs.HeadTracks.{AreSystemsOf, PartInDirection}
 use Rattle.command_head.specs.Heads as heads
 use Rattle.session_cli.specs.declared.known_system.KnownSystem.{KnownSystem}
 use Rattle.session_cli.specs.declared.known_system.KnownSystem.TheVariants.{Base, Fibonacci}
@@ -26,8 +27,8 @@ use Rattle.session_cli.specs.declared.fault.Fault.TheVariants as faults
 use Rattle.session_cli.specs.Checks.{Pure, Fails}
 use Rattle.session_cli.specs.RegOutcomes.{TracksAnswers}
 use Rattle.session_cli.specs.KnownSystems.{system_of, way_of, known_is_system, name_of}
-use Rattle.session_cli.specs.TrackSystems.{named_of, named_in, AreTrackSystemsOf, IsIn, IsUnknown, IsFirstApart}
-use Rattle.session_cli.proofs.NameLemmas.{one_direction, known_of, of_known, first_so}
+use Rattle.session_cli.specs.TrackSystems.{named_of, named_in, AreTrackSystems, AreTrackSystemsOf, IsIn, IsUnknown, IsFirstApart}
+use Rattle.definitions.proofs.NameLemmas.{one_direction, known_of, of_known, first_so}
 
 -- the name of a system that is known is that of a system that is built in
 built_in_name : (s : KnownSystem) → IsBuiltInName (name_of s)
@@ -144,6 +145,11 @@ unknown_named custom names faults.ScriptLimit refused = absurd refused
 unknown_named custom names (faults.MixedChain byte) refused = absurd refused
 unknown_named custom names (faults.NotLinear byte) refused = absurd refused
 unknown_named custom names (faults.Unknown of file) refused = absurd refused
+unknown_named custom names (faults.File of file flaw) refused = absurd refused
 unknown_named custom names (faults.Arity of tracks given) refused = absurd refused
 unknown_named custom names (faults.Clash of one two) refused = absurd refused
 unknown_named custom names (faults.Plain of) refused = absurd refused
+
+-- there is a system for each track, so one at least
+pub some_named : (t : TrackSystems) → AreTrackSystems t → 0 < length (named_in t.systems.items)
+some_named t are = subst (λ (n : ℕ). 0 < n) (ap length are.names_are ∙ length-map (named_in t.systems.items) (λ (s : NamedSystem). s.name)) are.some

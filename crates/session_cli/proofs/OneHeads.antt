@@ -37,6 +37,7 @@ head_is grammar text (Err (faults.NotLinear byte)) a = absurd a
 head_is grammar text (Err (faults.Depth of at)) a = absurd a
 head_is grammar text (Err (faults.Long bytes)) a = absurd a
 head_is grammar text (Err (faults.Unknown folder name)) a = absurd a
+head_is grammar text (Err (faults.File folder name flaw)) a = absurd a
 head_is grammar text (Err (faults.Arity name tracks given)) a = absurd a
 head_is grammar text (Err (faults.SystemUnknown name)) a = absurd a
 head_is grammar text (Err (faults.Clash name first other)) a = absurd a

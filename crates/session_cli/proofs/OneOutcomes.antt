@@ -19,16 +19,18 @@ use Rattle.session_cli.specs.declared.fault.Fault.TheVariants as faults
 use Rattle.session_cli.specs.declared.command_word.CommandWord.{CommandWord}
 use Rattle.session_cli.specs.declared.command_word.CommandWord.TheVariants as words
 use Rattle.session_cli.specs.Checks.{Check, Pure}
-use Rattle.session_cli.specs.Trees.{Regex, Defined, Ledger}
-use Rattle.session_cli.specs.Tracks.{NamedSystem, Tracks, OverSets, OverSystems, letter_sets}
-use Rattle.session_cli.specs.Named.{Custom, IsKnown, AreTracksOf}
+use Rattle.definitions.specs.Trees.{Regex, Defined, Ledger}
+use Rattle.definitions.specs.Tracks.{NamedSystem, Tracks, OverSets, OverSystems, letter_sets}
+use Rattle.definitions.specs.Named.{Custom, IsKnown}
+use Rattle.session_cli.specs.HeadTracks.{AreTracksOf}
 use Rattle.session_cli.specs.HeadAnswers.{HeadAnswers}
 use Rattle.session_cli.specs.Accepting.{Answer, stored}
 use Rattle.session_cli.specs.RegOutcomes.{TracksAnswers, ParsedAnswers, StepsAnswers, after_expression, after_tracks, after_head, reg_checks}
 use Rattle.session_cli.specs.Outcomes.{LengthAnswers, WordAnswers, word_text, checks_by, after_length, Outcome}
 use Rattle.session_cli.proofs.CheckSteps.{IsSingle, then_single}
 use Rattle.session_cli.proofs.TrackWidths.{one_lines, done_not_letters, done_not_states, letters_not_states, one_excess}
-use Rattle.session_cli.proofs.NameLemmas.{one_first, no_first, one_list_of_systems, not_unknown, not_parted, same_part}
+use Rattle.definitions.proofs.NameLemmas.{one_first, no_first}
+use Rattle.session_cli.proofs.NameLemmas.{one_list_of_systems, not_unknown, not_parted, same_part}
 use Rattle.session_cli.proofs.OneHeads.{head_single}
 use Rattle.session_cli.proofs.OneTexts.{stored_single}
 use Rattle.session_cli.proofs.OneFormulas.{formula_single}
@@ -56,6 +58,7 @@ steps_is limit tracks e (Err faults.ScriptLimit) a = absurd a
 steps_is limit tracks e (Err (faults.MixedChain byte)) a = absurd a
 steps_is limit tracks e (Err (faults.NotLinear byte)) a = absurd a
 steps_is limit tracks e (Err (faults.Unknown of file)) a = absurd a
+steps_is limit tracks e (Err (faults.File of file flaw)) a = absurd a
 steps_is limit tracks e (Err (faults.Arity of count given)) a = absurd a
 steps_is limit tracks e (Err (faults.Clash of one two)) a = absurd a
 steps_is limit tracks e (Err (faults.Plain of)) a = absurd a
@@ -112,6 +115,7 @@ parsed_is sets body (Err faults.ScriptLimit) a = absurd a
 parsed_is sets body (Err (faults.MixedChain byte)) a = absurd a
 parsed_is sets body (Err (faults.NotLinear byte)) a = absurd a
 parsed_is sets body (Err (faults.Unknown of file)) a = absurd a
+parsed_is sets body (Err (faults.File of file flaw)) a = absurd a
 parsed_is sets body (Err (faults.Arity of tracks given)) a = absurd a
 parsed_is sets body (Err (faults.Clash of one two)) a = absurd a
 parsed_is sets body (Err (faults.Plain of)) a = absurd a
@@ -146,6 +150,7 @@ names_is custom names (Err faults.ScriptLimit) a = absurd a
 names_is custom names (Err (faults.MixedChain byte)) a = absurd a
 names_is custom names (Err (faults.NotLinear byte)) a = absurd a
 names_is custom names (Err (faults.Unknown of file)) a = absurd a
+names_is custom names (Err (faults.File of file flaw)) a = absurd a
 names_is custom names (Err (faults.Arity of tracks given)) a = absurd a
 names_is custom names (Err (faults.Clash of one two)) a = absurd a
 names_is custom names (Err (faults.Plain of)) a = absurd a
@@ -188,6 +193,7 @@ tracks_single custom (heads.Sets sets) r s a b = single_by (Pure (TracksAnswers 
     is (Err (faults.MixedChain byte)) a = absurd a
     is (Err (faults.NotLinear byte)) a = absurd a
     is (Err (faults.Unknown of file)) a = absurd a
+    is (Err (faults.File of file flaw)) a = absurd a
     is (Err (faults.Arity of tracks given)) a = absurd a
     is (Err (faults.Clash of one two)) a = absurd a
     is (Err (faults.Plain of)) a = absurd a
@@ -223,6 +229,7 @@ length_single text r s a b = by_length (length_is r a) (length_is s b)
     length_is (Err (faults.MixedChain byte)) a = absurd a
     length_is (Err (faults.NotLinear byte)) a = absurd a
     length_is (Err (faults.Unknown of file)) a = absurd a
+    length_is (Err (faults.File of file flaw)) a = absurd a
     length_is (Err (faults.Arity of tracks given)) a = absurd a
     length_is (Err (faults.Clash of one two)) a = absurd a
     length_is (Err (faults.Plain of)) a = absurd a
@@ -268,6 +275,7 @@ word_single text r s a b = by_word (word_is r a) (word_is s b)
     word_is (Err (faults.MixedChain byte)) a = absurd a
     word_is (Err (faults.NotLinear byte)) a = absurd a
     word_is (Err (faults.Unknown of file)) a = absurd a
+    word_is (Err (faults.File of file flaw)) a = absurd a
     word_is (Err (faults.Arity of tracks given)) a = absurd a
     word_is (Err (faults.Clash of one two)) a = absurd a
     word_is (Err (faults.Plain of)) a = absurd a

@@ -103,6 +103,7 @@ reading_is text (Err (faults.Depth grammars.Regex at)) a = absurd a
 reading_is text (Err faults.Command) a = absurd a
 reading_is text (Err (faults.Long bytes)) a = absurd a
 reading_is text (Err (faults.Unknown folder name)) a = absurd a
+reading_is text (Err (faults.File folder name flaw)) a = absurd a
 reading_is text (Err (faults.Arity name tracks given)) a = absurd a
 reading_is text (Err (faults.SystemUnknown name)) a = absurd a
 reading_is text (Err (faults.Clash name first other)) a = absurd a

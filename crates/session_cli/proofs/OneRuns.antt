@@ -12,18 +12,17 @@ use Rattle.session_cli.specs.declared.fault.Grammar.TheVariants as grammars
 use Rattle.session_cli.specs.declared.fault.Fault.TheVariants as faults
 use Rattle.session_cli.specs.declared.status.Status.{Status}
 use Rattle.session_cli.specs.declared.status.Status.TheVariants as status
-use Rattle.session_cli.specs.Trees.{Ledger}
+use Rattle.definitions.specs.Trees.{Ledger}
 use Rattle.session_cli.specs.Accepting.{Answer, after}
 use Rattle.session_cli.specs.Outcomes.{checks_of, Outcome, OpenOutcome}
 use Rattle.wal_outside.specs.Views.{SourceView, SinkView, StoreView}
 use Rattle.session_cli.specs.Views.{IsTold}
-use Rattle.session_cli.specs.Runs.{IsAnswer, IsAnswerOf, Changes, Run, first_ledger, of_fault, is_store_fault, is_memory_fault, is_refusal, some_of, status_by, status_of, printed}
+use Rattle.session_cli.specs.Runs.{IsAnswer, IsAnswerOf, IsKnownLedger, Changes, Run, first_ledger, of_fault, is_store_fault, is_memory_fault, is_refusal, some_of, status_by, status_of, printed}
 use Rattle.session_cli.specs.Whole.{stop_status, RanThrough, SourceFailed, WantedMemory, HasRun, HasCalled}
 use Rattle.session_cli.specs.Laws.{IsClean, EndAlike, store_faults}
 use Rattle.session_cli.specs.Words.{GivesLimit}
 use Rattle.session_cli.proofs.WholeSteps.{usage_or_memory}
 use Rattle.session_cli.proofs.OneLimits.{one_limit}
-use Rattle.session_cli.proofs.AnyLedger.{any_ledger}
 use Rattle.session_cli.proofs.OneTexts.{one_text}
 use Rattle.session_cli.proofs.OneOutcomes.{one_answer}
 
@@ -48,6 +47,7 @@ proper limit ledger text (Err faults.ScriptLimit) is store memory = is
 proper limit ledger text (Err (faults.MixedChain byte)) is store memory = is
 proper limit ledger text (Err (faults.NotLinear byte)) is store memory = is
 proper limit ledger text (Err (faults.Unknown of file)) is store memory = is
+proper limit ledger text (Err (faults.File of file flaw)) is store memory = is
 proper limit ledger text (Err (faults.Arity of tracks given)) is store memory = is
 proper limit ledger text (Err (faults.Clash of one two)) is store memory = is
 proper limit ledger text (Err (faults.Plain of)) is store memory = is
@@ -80,6 +80,7 @@ open_is text (Err faults.ScriptLimit) is = absurd is
 open_is text (Err (faults.MixedChain byte)) is = absurd is
 open_is text (Err (faults.NotLinear byte)) is = absurd is
 open_is text (Err (faults.Unknown of file)) is = absurd is
+open_is text (Err (faults.File of file flaw)) is = absurd is
 open_is text (Err (faults.Arity of tracks given)) is = absurd is
 open_is text (Err (faults.Clash of one two)) is = absurd is
 open_is text (Err (faults.Plain of)) is = absurd is
@@ -95,12 +96,22 @@ same_open text answer other a b = by_cases (open_is text answer a) (open_is text
     by_cases (inr (short, is)) (inl (long, is')) = absurd (omega arith)
     by_cases (inr (short, is)) (inr (short', is')) = is ∙ sym is'
 
+-- where the files are told, an item is answered by its ledger
+known_same : (told : Option Files) (files : Files) (ledger known : Ledger) → told ≡ Some files → IsKnownLedger told ledger known → known ≡ ledger
+known_same None files ledger known is same = cc
+known_same (Some others) files ledger known is same = same
+
+-- and they stay told
+still_told : (answer : Answer) (old new : Option Files) (files : Files) → old ≡ Some files → Changes old answer new → (after : Files) × (new ≡ Some after)
+still_told (Ok success) old new files is (stored, has, new_is) = (put files success.folder success.name stored, new_is ∙ ap (λ (o : Option Files). option_map (λ fs. put fs success.folder success.name stored) o) is)
+still_told (Err fault) old new files is new_is = (files, new_is ∙ is)
+
 -- an item has one answer that is neither the store's nor memory's
-same_item : (limit : ℕ) (ended : Ended) (ledger known : Ledger) (text : List ℕ) (answer other : Answer) → IsAnswerOf limit ended ledger text answer → IsAnswerOf limit ended known text other
+same_item : (limit : ℕ) (ended : Ended) (ledger : Ledger) (text : List ℕ) (answer other : Answer) → IsAnswerOf limit ended ledger text answer → IsAnswerOf limit ended ledger text other
     → of_fault is_store_fault answer ≡ false → of_fault is_memory_fault answer ≡ false → of_fault is_store_fault other ≡ false → of_fault is_memory_fault other ≡ false → answer ≡ other
-same_item limit (Terminated shown) ledger known text answer other a b s m s' m' = one_answer limit ledger text answer other (proper limit ledger text answer a s m) (any_ledger limit known ledger text other (proper limit known text other b s' m'))
-same_item limit Unterminated ledger known text answer other a b s m s' m' = same_open text answer other a b
-same_item limit PastLimit ledger known text answer other a b s m s' m' = a ∙ sym b
+same_item limit (Terminated shown) ledger text answer other a b s m s' m' = one_answer limit ledger text answer other (proper limit ledger text answer a s m) (proper limit ledger text other b s' m')
+same_item limit Unterminated ledger text answer other a b s m s' m' = same_open text answer other a b
+same_item limit PastLimit ledger text answer other a b s m s' m' = a ∙ sym b
 
 -- one answer changes the same files in one way
 same_changes : (answer : Answer) (old old' new new' : Option Files) → old ≡ old' → Changes old answer new → Changes old' answer new' → new ≡ new'
@@ -133,24 +144,27 @@ record SameEnd (answers others : List Answer) (new new' : StoreView) : Type 0 wh
   answers_are : answers ≡ others
   files : new.files ≡ new'.files
 
-same_answers : (limit : ℕ) (items : List Item) (answers others : List Answer) (ledger last last' : Ledger) (old old' new new' : StoreView) → old.files ≡ old'.files → Run limit ledger old items answers last new → Run limit ledger old' items others last' new'
+same_answers : (limit : ℕ) (items : List Item) (answers others : List Answer) (ledger last last' : Ledger) (old old' new new' : StoreView) (files : Files) → old.files ≡ Some files → old'.files ≡ Some files → Run limit ledger old items answers last new → Run limit ledger old' items others last' new'
     → AreProper answers → AreProper others → SameEnd answers others new new'
-same_answers limit [] [] [] ledger last last' old old' new new' same run run' are are' = record {
+same_answers limit [] [] [] ledger last last' old old' new new' files told told' run run' are are' = record {
   answers_are = refl;
-  files = ap (λ (s : StoreView). s.files) run.1 ∙ (same ∙ sym (ap (λ (s : StoreView). s.files) run'.1));
+  files = ap (λ (s : StoreView). s.files) run.1 ∙ (told ∙ (sym told' ∙ sym (ap (λ (s : StoreView). s.files) run'.1)));
 }
-same_answers limit [] [] (b ∷ others) ledger last last' old old' new new' same run run' are are' = absurd run'
-same_answers limit [] (a ∷ answers) others ledger last last' old old' new new' same run run' are are' = absurd run
-same_answers limit (item ∷ items) [] others ledger last last' old old' new new' same run run' are are' = absurd run
-same_answers limit (item ∷ items) (a ∷ answers) [] ledger last last' old old' new new' same run run' are are' = absurd run'
-same_answers limit (item ∷ items) (a ∷ answers) (b ∷ others) ledger last last' old old' new new' same run run' are are' =
-    let first : a ≡ b = same_item limit item.ended run.1.known run'.1.known item.text a b run.1.answered run'.1.answered
+same_answers limit [] [] (b ∷ others) ledger last last' old old' new new' files told told' run run' are are' = absurd run'
+same_answers limit [] (a ∷ answers) others ledger last last' old old' new new' files told told' run run' are are' = absurd run
+same_answers limit (item ∷ items) [] others ledger last last' old old' new new' files told told' run run' are are' = absurd run
+same_answers limit (item ∷ items) (a ∷ answers) [] ledger last last' old old' new new' files told told' run run' are are' = absurd run'
+same_answers limit (item ∷ items) (a ∷ answers) (b ∷ others) ledger last last' old old' new new' files told told' run run' are are' =
+    let first : a ≡ b = same_item limit item.ended ledger item.text a b
+    (subst (λ (l : Ledger). IsAnswerOf limit item.ended l item.text a) (known_same old.files files ledger run.1.known told run.1.known_is) run.1.answered)
+    (subst (λ (l : Ledger). IsAnswerOf limit item.ended l item.text b) (known_same old'.files files ledger run'.1.known told' run'.1.known_is) run'.1.answered)
     (none_first (of_fault is_store_fault a) (some_of (of_fault is_store_fault) answers) are.store) (none_first (of_fault is_memory_fault a) (some_of (of_fault is_memory_fault) answers) are.memory)
     (none_first (of_fault is_store_fault b) (some_of (of_fault is_store_fault) others) are'.store) (none_first (of_fault is_memory_fault b) (some_of (of_fault is_memory_fault) others) are'.memory) in
     let P : Answer → Type 0 = λ x. Changes old'.files x run'.0.files in
-    let mids : run.0.files ≡ run'.0.files = same_changes a old.files old'.files run.0.files run'.0.files same run.1.files (subst P (sym first) run'.1.files) in
+    let mids : run.0.files ≡ run'.0.files = same_changes a old.files old'.files run.0.files run'.0.files (told ∙ sym told') run.1.files (subst P (sym first) run'.1.files) in
+    let more = still_told a old.files run.0.files files told run.1.files in
     let Q : Answer → Type 0 = λ x. Run limit (after ledger x) run'.0 items others last' new' in
-    let rest : SameEnd answers others new new' = same_answers limit items answers others (after ledger a) last last' run.0 run'.0 new new' mids run.2 (subst Q (sym first) run'.2) (proper_rest a answers are) (proper_rest b others are') in
+    let rest : SameEnd answers others new new' = same_answers limit items answers others (after ledger a) last last' run.0 run'.0 new new' more.0 more.1 (sym mids ∙ more.1) run.2 (subst Q (sym first) run'.2) (proper_rest a answers are) (proper_rest b others are') in
     record { answers_are = λ i. first i ∷ rest.answers_are i; files = rest.files }
 
 clean_store : (refused store memory : Bool) → IsClean (status_by refused store memory) → (store ≡ false) × (memory ≡ false)
@@ -166,14 +180,15 @@ clean_answers answers state is clean =
     let both : (some_of (of_fault is_store_fault) answers ≡ false) × (some_of (of_fault is_memory_fault) answers ≡ false) = clean_store (some_of is_refusal answers) (some_of (of_fault is_store_fault) answers) (some_of (of_fault is_memory_fault) answers) (subst P is clean) in
     record { store = both.0; memory = both.1 }
 
-through_alike : (limit : ℕ) (script : List ℕ) (from to from' to' : SourceView) (old new old' new' : StoreView) (held now held' now' : SinkView) (state state' : Status) → RanThrough limit script from to old new held now state → RanThrough limit script from' to' old' new' held' now' state'
-    → old.files ≡ old'.files → IsClean state → IsClean state' → EndAlike new new' held now held' now' state state'
-through_alike limit script from to from' to' old new old' new' held now held' now' state state' a b same clean clean' =
+through_alike : (limit : ℕ) (script : List ℕ) (files : Files) (from to from' to' : SourceView) (old new old' new' : StoreView) (held now held' now' : SinkView) (state state' : Status) → RanThrough limit script from to old new held now state → RanThrough limit script from' to' old' new' held' now' state'
+    → old.files ≡ Some files → old'.files ≡ Some files → IsClean state → IsClean state' → EndAlike new new' held now held' now' state state'
+through_alike limit script files from to from' to' old new old' new' held now held' now' state state' a b told told' clean clean' =
+    let same : old.files ≡ old'.files = told ∙ sym told' in
     let items : a.items ≡ b.items = same_lists (start script) a.items b.items (record { last = a.last; cut = a.cut; end = a.end }) (record { last = b.last; cut = b.cut; end = b.end }) in
     let P : List Item → Type 0 = λ is. Run limit (first_ledger old'.files) old' is b.answers b.ledger new' in
     let Q : Option Files → Type 0 = λ files. Run limit (first_ledger files) old' a.items b.answers b.ledger new' in
     let run : Run limit (first_ledger old.files) old' a.items b.answers b.ledger new' = subst Q (sym same) (subst P (sym items) b.run) in
-    let ends : SameEnd a.answers b.answers new new' = same_answers limit a.items a.answers b.answers (first_ledger old.files) a.ledger b.ledger old old' new new' same a.run run (clean_answers a.answers state a.state_is clean) (clean_answers b.answers state' b.state_is clean') in
+    let ends : SameEnd a.answers b.answers new new' = same_answers limit a.items a.answers b.answers (first_ledger old.files) a.ledger b.ledger old old' new new' files told told' a.run run (clean_answers a.answers state a.state_is clean) (clean_answers b.answers state' b.state_is clean') in
     let texts : printed b.items b.answers ≡ printed a.items a.answers = λ i. printed (sym items i) (sym ends.answers_are i) in
     record {
       status = a.state_is ∙ (ap (λ (xs : List Answer). status_of xs) ends.answers_are ∙ sym b.state_is);
@@ -231,14 +246,14 @@ clean_run words from to old new held now state (inr (inl (none, usage))) clean =
 clean_run words from to old new held now state (inr (inr unread)) clean = absurd (not_memory state unread.state_is clean)
 
 -- calls with the same words over one script, from the same files, that end clean end alike
-pub calls_alike : (words : List (List ℕ)) (script : List ℕ) (from to from' to' : SourceView) (old new old' new' : StoreView) (held now held' now' : SinkView) (state state' : Status)
+pub calls_alike : (words : List (List ℕ)) (script : List ℕ) (files : Files) (from to from' to' : SourceView) (old new old' new' : StoreView) (held now held' now' : SinkView) (state state' : Status)
     → HasCalled words from to old new held now state → HasCalled words from' to' old' new' held' now' state'
-    → from.left ≡ Some script → from'.left ≡ Some script → old.files ≡ old'.files → IsClean state → IsClean state'
+    → from.left ≡ Some script → from'.left ≡ Some script → old.files ≡ Some files → old'.files ≡ Some files → IsClean state → IsClean state'
     → EndAlike new new' held now held' now' state state'
-calls_alike words script from to from' to' old new old' new' held now held' now' state state' call call' is is' same clean clean' =
+calls_alike words script files from to from' to' old new old' new' held now held' now' state state' call call' is is' told told' clean clean' =
     let ran : (limit : ℕ) × GivesLimit words limit × HasRun limit from to old new held now state = clean_run words from to old new held now state call clean in
     let ran' : (limit : ℕ) × GivesLimit words limit × HasRun limit from' to' old' new' held' now' state' = clean_run words from' to' old' new' held' now' state' call' clean' in
     let limits : ran'.0 ≡ ran.0 = one_limit words ran'.0 ran.0 ran'.1 ran.1 in
     let P : ℕ → Type 0 = λ limit. HasRun limit from' to' old' new' held' now' state' in
-    through_alike ran.0 script from to from' to' old new old' new' held now held' now' state state' (clean_through ran.0 script from to old new held now state ran.2 is clean)
-    (clean_through ran.0 script from' to' old' new' held' now' state' (subst P limits ran'.2) is' clean') same clean clean'
+    through_alike ran.0 script files from to from' to' old new old' new' held now held' now' state state' (clean_through ran.0 script from to old new held now state ran.2 is clean)
+    (clean_through ran.0 script from' to' old' new' held' now' state' (subst P limits ran'.2) is' clean') told told' clean clean'

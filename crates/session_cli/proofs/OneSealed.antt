@@ -13,21 +13,12 @@ use Rattle.numeration.specs.Spelling.{Spells, letters_in}
 use Rattle.numeration.specs.Relations.{HoldsOf, IsLanguageOf, IsAdderOf, IsEqualityOf, IsOrderOf, IsZeroOf, IsSum, IsEqual, IsLess, IsZero}
 use Rattle.num_system.specs.Sealed.{SystemValue, system_of, IsSealed}
 use Rattle.num_system.specs.Successor.{IsSuccessorOf, IsNext}
-use Rattle.reg_steps.proofs.OneRegex.{same_truth}
+use Rattle.definitions.proofs.OneTexts.{one_holding}
 use Rattle.formula_build.specs.Libraries.{NamedSystem, system_named, AreSealed}
 use Rattle.formula_build.specs.OneBuilding.{Agree}
-use Rattle.session_cli.specs.Named.{Custom, IsSystemNamed}
+use Rattle.definitions.specs.Named.{Custom, IsSystemNamed}
 use Rattle.session_cli.specs.FormulaSteps.{AreMeant, library_of}
-use Rattle.session_cli.proofs.NameLemmas.{one_meaning}
-
--- one automaton
-pub one_holding : (way : Direction) (ss : List System) (holds : List ℕ → Type 0) (c d : Automaton) → IsCanonical c → IsCanonical d → HoldsOf way ss holds c → HoldsOf way ss holds d → c ≡ d
-one_holding way ss holds c d first second one other = canonical_forms c d first second (one.sizes ∙ sym other.sizes) same
-  where
-    same : (word : List ℕ) → IsWord (letters_of c) word → accepts_of c word ≡ accepts_of d word
-    same word over =
-        let inside : IsWord (letters_in ss) word = subst (λ (s : List ℕ). IsWord (product s) word) one.sizes over in
-        same_truth (accepts_of c word) (accepts_of d word) ((ns : List ℕ) × Spells ss (in_order way word) ns × holds ns) (one.accepts word inside) (other.accepts word inside)
+use Rattle.definitions.proofs.NameLemmas.{one_meaning}
 
 one_language : (way : Direction) (s : System) (c d : Automaton) → IsCanonical c → IsCanonical d → IsLanguageOf way s c → IsLanguageOf way s d → c ≡ d
 one_language way s c d first second one other = canonical_forms c d first second (one.sizes ∙ sym other.sizes) (λ word over. one.accepts word ∙ sym (other.accepts word))

@@ -1,19 +1,15 @@
 -- An entry has one text, and so it is stored in one way.
 use Rattle.std.proofs.Common.{◌≡◌, ℕ, ◌<◌, ◌≤◌, ◌⊎◌, List, length, Ok, Err, sym, ap, ◌∙◌, inl, inr, arith}
 use Rattle.session_cli.specs.declared.fault.Fault.TheVariants as faults
-use Rattle.session_cli.specs.Trees.{File, Regex, Formula, Entry, Bytes, Defined}
-use Rattle.session_cli.specs.Texts.{HasText}
+use Rattle.definitions.specs.Trees.{Entry}
+use Rattle.session_cli.specs.Texts.{no_custom, HasText}
 use Rattle.session_cli.specs.Accepting.{Success, Answer, StoredAnswers, stored}
 use Rattle.session_cli.proofs.CheckSteps.{IsSingle}
-use Rattle.session_cli.proofs.TrackWidths.{one_track_text}
-use Rattle.session_cli.proofs.OneFormulaTexts.{one_formula_text}
+use Rattle.definitions.proofs.OneTexts.{one_text_of}
 
 -- an entry has one text
 pub one_text : (entry : Entry) (text other : List ℕ) → HasText entry text → HasText entry other → text ≡ other
-one_text (Bytes bytes) text other a b = a ∙ sym b
-one_text (Defined (File bytes)) text other a b = a ∙ sym b
-one_text (Defined (Regex tracks e)) text other a b = one_track_text tracks e text other a b
-one_text (Defined (Formula variables formula)) text other a b = one_formula_text variables formula text other a b
+one_text entry text other a b = one_text_of no_custom entry text other a b
 
 -- what is stored
 abbrev IsStored : Success → List ℕ → Answer → Type 0
@@ -29,6 +25,7 @@ stored_is made text has (Err (faults.Number grammar at)) a = absurd a
 stored_is made text has (Err (faults.NotLinear byte)) a = absurd a
 stored_is made text has (Err (faults.Depth grammar at)) a = absurd a
 stored_is made text has (Err (faults.Unknown folder name)) a = absurd a
+stored_is made text has (Err (faults.File folder name flaw)) a = absurd a
 stored_is made text has (Err (faults.Arity name tracks given)) a = absurd a
 stored_is made text has (Err (faults.SystemUnknown name)) a = absurd a
 stored_is made text has (Err (faults.Clash name first other)) a = absurd a
@@ -50,6 +47,7 @@ some_text made (Err (faults.Number grammar at)) a = absurd a
 some_text made (Err (faults.NotLinear byte)) a = absurd a
 some_text made (Err (faults.Depth grammar at)) a = absurd a
 some_text made (Err (faults.Unknown folder name)) a = absurd a
+some_text made (Err (faults.File folder name flaw)) a = absurd a
 some_text made (Err (faults.Arity name tracks given)) a = absurd a
 some_text made (Err (faults.SystemUnknown name)) a = absurd a
 some_text made (Err (faults.Clash name first other)) a = absurd a

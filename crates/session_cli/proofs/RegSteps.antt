@@ -14,9 +14,10 @@ use Rattle.session_cli.specs.declared.fault.Fault.TheVariants as faults
 use Rattle.session_cli.specs.declared.plan.Made.{Made}
 use Rattle.session_cli.specs.declared.plan.Plan.{Plan}
 use Rattle.session_cli.specs.Checks.{Pure, Fails}
-use Rattle.session_cli.specs.Trees.{Ledger}
-use Rattle.session_cli.specs.Tracks.{Tracks}
-use Rattle.session_cli.specs.Named.{Custom, AreTracksOf}
+use Rattle.definitions.specs.Trees.{Ledger}
+use Rattle.definitions.specs.Tracks.{Tracks}
+use Rattle.definitions.specs.Named.{Custom}
+use Rattle.session_cli.specs.HeadTracks.{AreTracksOf}
 use Rattle.session_cli.specs.Accepting.{Success}
 use Rattle.session_cli.specs.HeadAnswers.{HeadAnswers}
 use Rattle.session_cli.specs.RegOutcomes.{TracksAnswers, after_tracks, after_head, reg_checks}

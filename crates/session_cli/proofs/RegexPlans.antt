@@ -1,5 +1,5 @@
 -- What is made of an expression that was parsed.
-use Rattle.std.proofs.Common.{◌≡◌, ℕ, Bool, List, [], ◌∷◌, ℤ, None, Result, Ok, Err, inl, inr, refl, sym, ap, ◌∙◌, subst, append-nil}
+use Rattle.std.proofs.Common.{◌≡◌, ℕ, ◌<◌, length, Bool, List, [], ◌∷◌, ℤ, None, Result, Ok, Err, inl, inr, refl, sym, ap, ◌∙◌, subst, append-nil}
 use Rattle.digit_tuple.proofs.SystemLemmas.{length-digit_set}
 use Rattle.digit_tuple.specs.Deterministic.{Automaton}
 use Rattle.digit_tuple.specs.Sets.{sizes_of}
@@ -32,20 +32,21 @@ use Rattle.reg_steps.proofs.RelationLemmas.{relation_made}
 use Rattle.session_cli.specs.declared.fault.Fault.{Fault}
 use Rattle.session_cli.specs.declared.fault.Fault.TheVariants as faults
 use Rattle.session_cli.specs.Checks.{Pure, Fails}
-use Rattle.session_cli.specs.Named.{Custom, built_in_system, IsSystemNamed, AreNamed}
+use Rattle.definitions.specs.Named.{Custom, built_in_system, IsSystemNamed, AreNamed}
 use Rattle.session_cli.specs.TrackSystems.{fault_of}
 use Rattle.session_cli.specs.Lines.{shown_steps}
-use Rattle.session_cli.specs.Tracks.{NamedSystem, systems_of, Tracks, OverSets, OverSystems, letter_sets, header_of}
+use Rattle.definitions.specs.Tracks.{NamedSystem, systems_of, Tracks, OverSets, OverSystems, letter_sets, header_of}
 use Rattle.session_cli.specs.declared.plan.Made.{Made}
-use Rattle.session_cli.specs.Trees.{Regex, Defined}
-use Rattle.session_cli.specs.Texts.{IsTrackText}
+use Rattle.definitions.specs.Trees.{Regex, Defined}
+use Rattle.definitions.specs.Texts.{IsTrackText}
+use Rattle.session_cli.specs.Texts.{no_custom}
 use Rattle.session_cli.specs.TrackSteps.{AreSteps}
 use Rattle.session_cli.specs.Accepting.{Success, stored}
 use Rattle.session_cli.specs.FormulaSteps.{no_steps}
 use Rattle.session_cli.specs.RegOutcomes.{ParsedAnswers, StepsAnswers, after_expression, after_tracks}
 use Rattle.session_cli.specs.Plans.{Prints, Makes}
 use Rattle.session_cli.proofs.CheckSteps.{fails_first, fails_after, makes_after}
-use Rattle.session_cli.proofs.RegexTexts.{regex_text}
+use Rattle.definitions.proofs.RegexTexts.{regex_text}
 
 -- no steps yet
 
@@ -68,7 +69,7 @@ named_are_systems custom way (s ∷ named) are = (named_is_system custom s.name 
 
 -- what is made of an expression by its steps, by whether the text fits
 made_by_steps : (limit : ℕ) (name : List ℕ) (tracks : Tracks) (body : List ℕ) (shown : Bool) (pattern : Pattern) (lines printed_lines : List StepLine) (automaton : Automaton) (result : Result Made Fault)
-    → Parses (letter_sets tracks) body (Ok pattern) → AreSteps limit tracks pattern.tree lines → IsTrackText tracks pattern.tree (relation_text (header_of tracks) automaton) → printed_lines ≡ lines
+    → Parses (letter_sets tracks) body (Ok pattern) → AreSteps limit tracks pattern.tree lines → IsTrackText no_custom tracks pattern.tree (relation_text (header_of tracks) automaton) → printed_lines ≡ lines
     → Prints (header_of tracks) automaton shown printed_lines result → Makes (after_tracks limit name body tracks) shown result
 made_by_steps limit name tracks body shown pattern lines printed_lines automaton result parses steps has same prints =
     makes_after (Pure (ParsedAnswers (letter_sets tracks) body)) (λ (p : Pattern). after_expression limit name tracks p.tree) pattern shown result parses
@@ -80,8 +81,8 @@ made_by_steps limit name tracks body shown pattern lines printed_lines automaton
     by_text : (r : Result Made Fault) → Prints (header_of tracks) automaton shown printed_lines r → Makes (stored (made lines)) shown r
     by_text (Ok m) p = record {
       success = made lines;
-      answers = (refl, (m.stored.items, subst (IsTrackText tracks pattern.tree) (sym p.text_is) has, p.fits));
-      has_text = subst (IsTrackText tracks pattern.tree) (sym p.text_is) has;
+      answers = (refl, (m.stored.items, subst (IsTrackText no_custom tracks pattern.tree) (sym p.text_is) has, p.fits));
+      has_text = subst (IsTrackText no_custom tracks pattern.tree) (sym p.text_is) has;
       printed_is = p.printed_is ∙ (ap (λ (ls : List StepLine). shown_steps shown ls) same ∙ sym (append-nil (shown_steps shown lines)));
     }
     by_text (Err (faults.Long bytes)) (is, long) = (is, (relation_text (header_of tracks) automaton, has, long))
@@ -99,6 +100,7 @@ made_by_steps limit name tracks body shown pattern lines printed_lines automaton
     by_text (Err (faults.MixedChain byte)) refused = absurd refused
     by_text (Err (faults.NotLinear byte)) refused = absurd refused
     by_text (Err (faults.Unknown of file)) refused = absurd refused
+    by_text (Err (faults.File of file flaw)) refused = absurd refused
     by_text (Err (faults.Arity of tracks given)) refused = absurd refused
     by_text (Err (faults.Clash of one two)) refused = absurd refused
     by_text (Err (faults.Plain of)) refused = absurd refused
@@ -113,17 +115,17 @@ made_over_sets limit name sets body shown pattern automaton steps tracks parses 
     (regex_text sets pattern.tree automaton (relation_text (header_of (OverSets sets)) automaton) tracks step.of_regex refl) (ap (λ (log : StepLog). log.lines) done.new_is) prints
 
 -- the steps over systems were made
-pub made_over_systems : (custom : Custom) (limit : ℕ) (name : List ℕ) (way : Direction) (named : List NamedSystem) (languages : List Automaton) (body : List ℕ) (shown : Bool) (pattern : Pattern) (automaton : Automaton) (steps : StepLog) → AreNamed custom way named
+pub made_over_systems : (custom : Custom) (limit : ℕ) (name : List ℕ) (way : Direction) (named : List NamedSystem) (languages : List Automaton) (body : List ℕ) (shown : Bool) (pattern : Pattern) (automaton : Automaton) (steps : StepLog) → 0 < length named → AreNamed custom way named
     → AreSystemLanguages way (systems_of named) languages → Parses (letter_sets (OverSystems way named)) body (Ok pattern)
     → AreDone (no_steps limit) way languages pattern.sets pattern.tree automaton steps → (result : Result Made Fault) → Prints (header_of (OverSystems way named)) automaton shown steps.lines result
     → Makes (after_tracks limit name body (OverSystems way named)) shown result
-made_over_systems custom limit name way named languages body shown pattern automaton steps are_named are parses made result prints =
+made_over_systems custom limit name way named languages body shown pattern automaton steps some are_named are parses made result prints =
     let P : List (List ℤ) → Type 0 = λ over. AreDone (no_steps limit) way languages over pattern.tree automaton steps in
     let done : AreDone (no_steps limit) way languages (letter_sets (OverSystems way named)) pattern.tree automaton steps = subst P parses.sets_are made in
     let relation : IsRelation way (systems_of named) (letter_sets (OverSystems way named)) pattern.tree automaton =
     relation_made limit way (systems_of named) languages (letter_sets (OverSystems way named)) pattern.tree automaton done.valid (named_are_systems custom way named are_named) are (system_sizes way named) done.steps in
     made_by_steps limit name (OverSystems way named) body shown pattern (done.steps.before.regex ∷ done.steps.before.pad ∷ done.valid ∷ []) steps.lines automaton result parses
-    (record { languages = languages; languages_are = are; automaton = automaton; valid = done.valid; steps = done.steps; lines_are = refl }) (record { automaton = automaton; of_relation = relation; text_is = refl })
+    (record { languages = languages; languages_are = are; automaton = automaton; valid = done.valid; steps = done.steps; lines_are = refl }) (record { some = some; are = are_named; automaton = automaton; of_relation = relation; text_is = refl })
     (ap (λ (log : StepLog). log.lines) done.new_is) prints
 
 -- the expression was refused

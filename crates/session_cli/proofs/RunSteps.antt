@@ -3,7 +3,7 @@ use Rattle.std.proofs.Common.{◌≡◌, ℕ, Bool, true, false, ◌||◌, if◌
 use Rattle.std.specs.Option.{option_map}
 use Rattle.wal_outside.specs.Files.{Files, same_file}
 use Rattle.script_cut.specs.Cuts.{Item, Rest, Next, CutsTo}
-use Rattle.session_cli.specs.Trees.{Entry, Bytes, Ledger}
+use Rattle.definitions.specs.Trees.{Entry, Bytes, Ledger}
 use Rattle.session_cli.specs.Texts.{HasText, HasTextAt}
 use Rattle.session_cli.specs.Accepting.{Answer, after}
 use Rattle.wal_outside.specs.Views.{StoreView}

@@ -20,13 +20,13 @@ use Rattle.session_cli.specs.declared.known_system.KnownSystem.TheVariants.{Base
 use Rattle.session_cli.specs.KnownSystems.{system_of, way_of, name_of}
 use Rattle.session_cli.specs.declared.fault.Fault.{Fault}
 use Rattle.session_cli.specs.declared.fault.Fault.TheVariants as faults
-use Rattle.session_cli.specs.Named.{Custom, IsSystemNamed, AreKnown, IsFirstWithout}
+use Rattle.definitions.specs.Named.{Custom, IsSystemNamed, AreKnown, IsFirstWithout}
 use Rattle.session_cli.specs.FormulaPlans.{SealsSystems}
 use Rattle.session_cli.specs.TrackSystems.{IsUnknown}
 use Rattle.session_cli.specs.FormulaSteps.{AreMeant}
 use Rattle.session_cli.specs.SealedSystems.{HasSystemIn, IsWantOfMemory}
 use Rattle.session_cli.proofs.KnownSteps.{its_name_means}
-use Rattle.session_cli.proofs.NameLemmas.{known_of, first_at}
+use Rattle.definitions.proofs.NameLemmas.{known_of, first_at}
 
 -- three tracks over a built-in system have an alphabet
 cubes : (k : ℕ) → k ≤ 40 → k * (k * (k * 1)) ≤ 65536
@@ -98,6 +98,7 @@ unknown_after systems names i name (faults.NotLinear at) within is meant before 
 unknown_after systems names i name (faults.Depth grammar at) within is meant before refused = absurd refused
 unknown_after systems names i name (faults.Long bytes) within is meant before refused = absurd refused
 unknown_after systems names i name (faults.Unknown folder of) within is meant before refused = absurd refused
+unknown_after systems names i name (faults.File folder of flaw) within is meant before refused = absurd refused
 unknown_after systems names i name (faults.Arity of tracks given) within is meant before refused = absurd refused
 unknown_after systems names i name (faults.Clash of one two) within is meant before refused = absurd refused
 unknown_after systems names i name (faults.Direction one other) within is meant before refused = absurd refused
@@ -124,6 +125,7 @@ only_memory (faults.NotLinear at) refused = absurd refused
 only_memory (faults.Depth grammar at) refused = absurd refused
 only_memory (faults.Long bytes) refused = absurd refused
 only_memory (faults.Unknown folder of) refused = absurd refused
+only_memory (faults.File folder of flaw) refused = absurd refused
 only_memory (faults.Arity of tracks given) refused = absurd refused
 only_memory (faults.Clash of one two) refused = absurd refused
 only_memory (faults.Direction one other) refused = absurd refused

@@ -9,7 +9,7 @@ use Rattle.session_cli.specs.declared.fault.Fault.{Fault}
 use Rattle.session_cli.specs.declared.fault.Fault.TheVariants as faults
 use Rattle.session_cli.specs.declared.tally.Tally.{Tally}
 use Rattle.session_cli.specs.declared.status.Status.{Status}
-use Rattle.session_cli.specs.Trees.{Ledger}
+use Rattle.definitions.specs.Trees.{Ledger}
 use Rattle.session_cli.specs.Lines.{fault_line}
 use Rattle.session_cli.specs.Accepting.{Success, Answer, after}
 use Rattle.wal_outside.specs.Views.{SourceView, StoreView, SinkView}

@@ -1,27 +1,15 @@
--- An expression over tracks has one text, the lines of its steps are one list, and at most one step is the first to pass a limit.
+-- The lines of the steps of an expression are one list, and at most one step is the first to pass a limit.
 use Rattle.std.proofs.Common.{◌≡◌, ℕ, List, [], ◌∷◌, ℤ, inl, inr, sym, ap, ◌∙◌, subst}
 use Rattle.digit_tuple.specs.Deterministic.{Automaton}
 use Rattle.digit_tuple.specs.declared.direction.Direction.{Direction}
 use Rattle.digit_tuple.specs.declared.steps.StepLine.{StepLine}
-use Rattle.dfa_text.specs.RelationText.{relation_text}
 use Rattle.regex_build.specs.Expression.{Expression}
 use Rattle.reg_steps.specs.RelationSteps.{AreRelationSteps, ThirdExceeds}
 use Rattle.reg_steps.proofs.OneRegex.{one_line, within_or_above}
 use Rattle.reg_steps.proofs.OneRelation.{one_regex_line, one_closed_line, one_last_line, closed_not_first, closed_not_second, second_not_first, done_not_third}
 use Rattle.reg_steps.proofs.OneLanguages.{one_list_of_languages}
-use Rattle.reg_steps.proofs.RelationLemmas.{relation_is_one}
-use Rattle.session_cli.specs.Tracks.{NamedSystem, systems_of, Tracks, OverSets, OverSystems, letter_sets, header_of}
-use Rattle.session_cli.specs.Texts.{IsTrackText}
+use Rattle.definitions.specs.Tracks.{NamedSystem, systems_of, Tracks, OverSets, OverSystems, letter_sets, header_of}
 use Rattle.session_cli.specs.TrackSteps.{AreSteps, AreSystemSteps, ExceedsLetters, ExceedsStates, ValidExceedsOver}
-use Rattle.session_cli.proofs.RegexTexts.{one_regex_text}
-
--- one text
-pub one_track_text : (tracks : Tracks) (e : Expression (List ℤ)) (text other : List ℕ) → IsTrackText tracks e text → IsTrackText tracks e other → text ≡ other
-one_track_text (OverSets sets) e text other a b = one_regex_text sets e text other a b
-one_track_text (OverSystems way named) e text other a b =
-    a.text_is
-    ∙ ap (λ (d : Automaton). relation_text (header_of (OverSystems way named)) d) (relation_is_one way (systems_of named) (letter_sets (OverSystems way named)) e a.automaton b.automaton a.of_relation b.of_relation)
-    ∙ sym b.text_is
 
 module _ (limit : ℕ) (way : Direction) (named : List NamedSystem) (e : Expression (List ℤ)) where
   abbrev digits : List (List ℤ)

@@ -7,7 +7,7 @@ use Rattle.wal_outside.specs.declared.sink.WriteFault.TheVariants as writes
 use Rattle.script_cut.specs.Cuts.{Item}
 use Rattle.session_cli.specs.declared.status.Status.{Status}
 use Rattle.session_cli.specs.declared.status.Status.TheVariants as status
-use Rattle.session_cli.specs.Trees.{Ledger}
+use Rattle.definitions.specs.Trees.{Ledger}
 use Rattle.session_cli.specs.Accepting.{Answer, after}
 use Rattle.wal_outside.specs.Views.{SourceView, StoreView, SinkView}
 use Rattle.session_cli.specs.Runs.{Run, of_fault, is_store_fault, some_of, status_by}

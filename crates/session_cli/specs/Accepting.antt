@@ -5,7 +5,7 @@ use Rattle.wal_outside.specs.declared.folder.Folder.{Folder}
 use Rattle.session_cli.specs.declared.fault.Fault.{Fault}
 use Rattle.session_cli.specs.declared.fault.Fault.TheVariants as faults
 use Rattle.session_cli.specs.Checks.{Check, Pure}
-use Rattle.session_cli.specs.Trees.{Entry, Ledger, entered}
+use Rattle.definitions.specs.Trees.{Entry, Ledger, entered}
 use Rattle.session_cli.specs.Texts.{HasText}
 
 -- an accepted command: the entry that it makes, where; the lines of its steps; and the verdict, where it is about a sentence

@@ -1,4 +1,6 @@
--- The faults of formulas, as a command's.
+-- The faults of formulas and of the files that they name, as a command's.
+use Rattle.dfa_loading.specs.declared.fault.LoadFault.{LoadFault}
+use Rattle.dfa_loading.specs.declared.fault.LoadFault.TheVariants as loads
 use Rattle.formula_parse.specs.declared.fault.ParseFault.{ParseFault}
 use Rattle.formula_parse.specs.declared.fault.ParseFault.TheVariants as parses
 use Rattle.formula_resolve.specs.declared.fault.ResolveFault.{ResolveFault}
@@ -21,3 +23,9 @@ fault_of_resolution (resolves.Arity name tracks given) = faults.Arity name track
 fault_of_resolution (resolves.Clash name first other) = faults.Clash name first other
 fault_of_resolution (resolves.Direction first other) = faults.Direction first other
 fault_of_resolution resolves.Memory = faults.Memory
+
+abbrev pub fault_of_loading : LoadFault → Fault
+fault_of_loading (loads.Unknown folder name) = faults.Unknown folder name
+fault_of_loading (loads.File folder name flaw) = faults.File folder name flaw
+fault_of_loading (loads.Store folder name) = faults.Store folder name
+fault_of_loading loads.Memory = faults.Memory

@@ -1,9 +1,14 @@
--- What an `eval` or a `def` does, by its checks in their order: the shape of its head, its formula, the automata and words that this names,
--- its systems, its resolution, its steps, and the length of the text that it is to store. Its variables and its verdict refuse nothing.
+-- What an `eval` or a `def` does, by its checks in their order: the shape of its head, its formula, the files of the automata and words that
+-- this names, its systems, its resolution, its steps, and the length of the text that it is to store. Its variables and its verdict refuse nothing.
 use Rattle.std.specs.Prelude.{◌≡◌, ℕ, Bool, List, [], ◌∷◌, Option, None, Some, Result, Ok, Err, ⊤}
 use Rattle.wal_outside.specs.Places.{Place}
 use Rattle.wal_outside.specs.declared.folder.Folder.{Folder}
-use Rattle.wal_outside.specs.declared.folder.Folder.TheVariants.{Automata, Words, Bases}
+use Rattle.wal_outside.specs.declared.folder.Folder.TheVariants.{Bases}
+use Rattle.wal_outside.specs.Files.{Files}
+use Rattle.dfa_loading.specs.Headers.{headers_of}
+use Rattle.dfa_loading.specs.Loading.{AreListedBy, FirstRefuses, ReadsAt}
+use Rattle.dfa_loading.specs.declared.fault.LoadFault.TheVariants as loads
+use Rattle.dfa_loading.specs.declared.loaded.Loaded.{Loaded}
 use Rattle.digit_tuple.specs.declared.step_fault.StepFault.TheVariants as steps
 use Rattle.digit_tuple.specs.declared.steps.StepLine.{StepLine}
 use Rattle.command_head.specs.Heads.{NamedHead}
@@ -15,23 +20,21 @@ use Rattle.formula_parse.specs.Spots.{spots, tokens}
 use Rattle.formula_parse.specs.Trees as trees
 use Rattle.formula_resolve.specs.FirstMentions.{first_files, first_systems}
 use Rattle.formula_resolve.specs.FreeVariables.{free_variables}
-use Rattle.formula_resolve.specs.Headers.{no_headers}
 use Rattle.formula_resolve.specs.Mentions.{mentions}
 use Rattle.formula_resolve.specs.Occurrences.{all_occurrences}
 use Rattle.formula_resolve.specs.Resolving.{fault_of}
 use Rattle.formula_resolve.specs.declared.fault.ResolveFault.TheVariants as resolves
-use Rattle.formula_resolve.specs.declared.file.File.{File}
-use Rattle.formula_resolve.specs.declared.file.File.TheVariants as files
 use Rattle.formula_resolve.specs.declared.variable.Variable as resolved
 use Rattle.number_relations.specs.Relations.{RelationValue}
 use Rattle.session_cli.specs.declared.fault.Grammar.TheVariants as grammars
 use Rattle.session_cli.specs.declared.fault.Fault.{Fault}
 use Rattle.session_cli.specs.declared.fault.Fault.TheVariants as faults
 use Rattle.session_cli.specs.Checks.{Check, Pure, Then}
-use Rattle.session_cli.specs.Trees.{Variable, Formula, Defined, Ledger}
-use Rattle.session_cli.specs.Named.{Custom, IsSystemNamed, IsKnown, AreKnown, IsFirstWithout}
-use Rattle.session_cli.specs.FormulaTexts.{HasVerdict}
-use Rattle.session_cli.specs.FormulaSteps.{AreFormulaSteps}
+use Rattle.definitions.specs.Trees.{Variable, Formula, Bindings, Defined, Ledger, bindings_of}
+use Rattle.definitions.specs.Named.{Custom, IsSystemNamed, IsKnown, AreKnown, IsFirstWithout}
+use Rattle.definitions.specs.FormulaTexts.{HasVerdict}
+use Rattle.session_cli.specs.FormulaSteps.{AreFormulaSteps, AreStepsRefused}
+use Rattle.session_cli.specs.Texts.{no_custom, Stores}
 use Rattle.session_cli.specs.HeadAnswers.{HeadAnswers}
 use Rattle.session_cli.specs.Accepting.{Success, stored}
 
@@ -45,43 +48,41 @@ FormulaAnswers body (Err (faults.MixedChain at)) = IsFlawed (tokens (spots body)
 FormulaAnswers body (Err (faults.NotLinear at)) = IsFlawed (tokens (spots body)) (not_linear at)
 FormulaAnswers body (Err fault) = ⊥
 
--- a file that a formula names stands under this name in this folder
-abbrev pub IsFileAt : File → Folder → List ℕ → Type 0
-IsFileAt (files.Automaton name) folder at = (folder ≡ Automata) × (at ≡ name)
-IsFileAt (files.Word name) folder at = (folder ≡ Words) × (at ≡ name)
+-- the tables of the files that the formula names, by the texts of the ledger; or the first that is none
+abbrev pub LoadedAnswers : Ledger → trees.Formula → Result (List Loaded) Fault → Type 0
+LoadedAnswers ledger formula (Ok tables) = (files : Files) × Stores ledger files × AreListedBy files (first_files (mentions formula)) tables
+LoadedAnswers ledger formula (Err (faults.Unknown folder name)) = (files : Files) × Stores ledger files × FirstRefuses files (first_files (mentions formula)) (loads.Unknown folder name)
+LoadedAnswers ledger formula (Err (faults.File folder name flaw)) = (files : Files) × Stores ledger files × FirstRefuses files (first_files (mentions formula)) (loads.File folder name flaw)
+LoadedAnswers ledger formula (Err fault) = ⊥
 
--- the first of the files stands there
-abbrev pub IsFirstFile : List File → Folder → List ℕ → Type 0
-IsFirstFile [] folder at = ⊥
-IsFirstFile (file ∷ others) folder at = IsFileAt file folder at
+-- one of the files is read at this place, and those before it list tables
+abbrev pub LoadsAt : Ledger → trees.Formula → Place → Type 0
+LoadsAt ledger formula place = (files : Files) × Stores ledger files × ReadsAt files (first_files (mentions formula)) place.0 place.1
 
--- the formula names no automaton and no word; the first one that it names stands for nothing yet
-abbrev pub FilesAnswers : trees.Formula → Result (Unit {0}) Fault → Type 0
-FilesAnswers formula (Ok none) = first_files (mentions formula) ≡ []
-FilesAnswers formula (Err (faults.Unknown folder name)) = IsFirstFile (first_files (mentions formula)) folder name
-FilesAnswers formula (Err fault) = ⊥
+abbrev pub loaded : Ledger → trees.Formula → Check (List Loaded)
+loaded ledger formula = record { answers = LoadedAnswers ledger formula; reads = LoadsAt ledger formula }
 
 -- all systems that the formula mentions are known, or this is the first that is not
-abbrev pub SystemsAnswers : Custom → trees.Formula → Result (Unit {0}) Fault → Type 0
-SystemsAnswers custom formula (Ok known) = AreKnown custom (first_systems no_headers (mentions formula))
-SystemsAnswers custom formula (Err (faults.SystemUnknown name)) = IsFirstWithout (IsKnown custom) (first_systems no_headers (mentions formula)) name
-SystemsAnswers custom formula (Err fault) = ⊥
+abbrev pub SystemsAnswers : Custom → List Loaded → trees.Formula → Result (Unit {0}) Fault → Type 0
+SystemsAnswers custom tables formula (Ok known) = AreKnown custom (first_systems (headers_of tables) (mentions formula))
+SystemsAnswers custom tables formula (Err (faults.SystemUnknown name)) = IsFirstWithout (IsKnown custom) (first_systems (headers_of tables) (mentions formula)) name
+SystemsAnswers custom tables formula (Err fault) = ⊥
 
 -- the formula has a resolution, or this is why it has none
-abbrev pub ResolvedAnswers : trees.Formula → Result (Unit {0}) Fault → Type 0
-ResolvedAnswers formula (Ok resolved) = fault_of no_headers formula ≡ None
-ResolvedAnswers formula (Err (faults.Plain name)) = fault_of no_headers formula ≡ Some (resolves.Plain name)
-ResolvedAnswers formula (Err (faults.Arity name tracks given)) = fault_of no_headers formula ≡ Some (resolves.Arity name tracks given)
-ResolvedAnswers formula (Err (faults.Clash name first other)) = fault_of no_headers formula ≡ Some (resolves.Clash name first other)
-ResolvedAnswers formula (Err (faults.Direction first other)) = fault_of no_headers formula ≡ Some (resolves.Direction first other)
-ResolvedAnswers formula (Err fault) = ⊥
+abbrev pub ResolvedAnswers : List Loaded → trees.Formula → Result (Unit {0}) Fault → Type 0
+ResolvedAnswers tables formula (Ok resolved) = fault_of (headers_of tables) formula ≡ None
+ResolvedAnswers tables formula (Err (faults.Plain name)) = fault_of (headers_of tables) formula ≡ Some (resolves.Plain name)
+ResolvedAnswers tables formula (Err (faults.Arity name tracks given)) = fault_of (headers_of tables) formula ≡ Some (resolves.Arity name tracks given)
+ResolvedAnswers tables formula (Err (faults.Clash name first other)) = fault_of (headers_of tables) formula ≡ Some (resolves.Clash name first other)
+ResolvedAnswers tables formula (Err (faults.Direction first other)) = fault_of (headers_of tables) formula ≡ Some (resolves.Direction first other)
+ResolvedAnswers tables formula (Err fault) = ⊥
 
 -- the lines of the steps, or the number of the first one that passes a limit
-abbrev pub BuiltAnswers : ℕ → Custom → trees.Formula → Result (List StepLine) Fault → Type 0
-BuiltAnswers limit custom formula (Ok lines) = (relation : RelationValue) × AreFormulaSteps limit custom formula (Ok relation) lines
-BuiltAnswers limit custom formula (Err (faults.Letters step)) = (lines : List StepLine) × AreFormulaSteps limit custom formula (Err (steps.Letters step)) lines
-BuiltAnswers limit custom formula (Err (faults.States step)) = (lines : List StepLine) × AreFormulaSteps limit custom formula (Err (steps.States step)) lines
-BuiltAnswers limit custom formula (Err fault) = ⊥
+abbrev pub BuiltAnswers : ℕ → Custom → List Loaded → trees.Formula → Result (List StepLine) Fault → Type 0
+BuiltAnswers limit custom tables formula (Ok lines) = (relation : RelationValue) × AreFormulaSteps limit custom tables formula (Ok relation) lines
+BuiltAnswers limit custom tables formula (Err (faults.Letters step)) = AreStepsRefused limit custom tables formula (steps.Letters step)
+BuiltAnswers limit custom tables formula (Err (faults.States step)) = AreStepsRefused limit custom tables formula (steps.States step)
+BuiltAnswers limit custom tables formula (Err fault) = ⊥
 
 -- a variable over the system that the name of its system means
 pub record IsVariable (custom : Custom) (found : resolved.Variable) (v : Variable) : Type 0 where
@@ -96,48 +97,52 @@ AreVariables custom (x ∷ found) [] = ⊥
 AreVariables custom (x ∷ found) (v ∷ variables) = IsVariable custom x v × AreVariables custom found variables
 
 -- the free variables in byte order, each over its system
-abbrev pub VariablesAnswers : Custom → trees.Formula → Result (List Variable) Fault → Type 0
-VariablesAnswers custom formula (Ok variables) = AreVariables custom (free_variables (all_occurrences no_headers formula)) variables
-VariablesAnswers custom formula (Err fault) = ⊥
+abbrev pub VariablesAnswers : Custom → List Loaded → trees.Formula → Result (List Variable) Fault → Type 0
+VariablesAnswers custom tables formula (Ok variables) = AreVariables custom (free_variables (all_occurrences (headers_of tables) formula)) variables
+VariablesAnswers custom tables formula (Err fault) = ⊥
 
 -- the verdict
-abbrev pub VerdictAnswers : List Variable → trees.Formula → Result (Option Bool) Fault → Type 0
-VerdictAnswers variables formula (Ok verdict) = HasVerdict variables formula verdict
-VerdictAnswers variables formula (Err fault) = ⊥
+abbrev pub VerdictAnswers : Bindings → List Variable → trees.Formula → Result (Option Bool) Fault → Type 0
+VerdictAnswers bindings variables formula (Ok verdict) = HasVerdict no_custom bindings variables formula verdict
+VerdictAnswers bindings variables formula (Err fault) = ⊥
+
+-- the definitions that the names of the formula stand for
+abbrev pub bindings_now : Ledger → trees.Formula → Bindings
+bindings_now ledger formula = bindings_of ledger (first_files (mentions formula))
 
 -- what is stored and printed of a formula
-abbrev pub formula_success : Place → List Variable → trees.Formula → List StepLine → Option Bool → Success
-formula_success place variables formula lines verdict = record {
+abbrev pub formula_success : Place → Bindings → List Variable → trees.Formula → List StepLine → Option Bool → Success
+formula_success place bindings variables formula lines verdict = record {
   folder = place.0;
   name = place.1;
-  entry = Defined (Formula variables formula);
+  entry = Defined (Formula variables formula bindings);
   lines = lines;
   verdict = verdict;
 }
 
--- the checks after the variables are there, after the steps, after the resolution, after the systems, after the files, after the formula, and
+-- the checks after the variables are there, after the steps, after the resolution, after the systems, after the tables, after the formula, and
 -- after the head
-abbrev pub after_variables : Place → trees.Formula → List StepLine → List Variable → Check Success
-after_variables place formula lines variables = Then (Pure (VerdictAnswers variables formula)) (λ verdict. stored (formula_success place variables formula lines verdict))
+abbrev pub after_variables : Place → Bindings → trees.Formula → List StepLine → List Variable → Check Success
+after_variables place bindings formula lines variables = Then (Pure (VerdictAnswers bindings variables formula)) (λ verdict. stored (formula_success place bindings variables formula lines verdict))
 
-abbrev pub after_steps : Custom → Place → trees.Formula → List StepLine → Check Success
-after_steps custom place formula lines = Then (Pure (VariablesAnswers custom formula)) (λ variables. after_variables place formula lines variables)
+abbrev pub after_steps : Ledger → Place → List Loaded → trees.Formula → List StepLine → Check Success
+after_steps ledger place tables formula lines = Then (Pure (VariablesAnswers (ledger Bases) tables formula)) (λ variables. after_variables place (bindings_now ledger formula) formula lines variables)
 
-abbrev pub after_resolution : ℕ → Custom → Place → trees.Formula → Check Success
-after_resolution limit custom place formula = Then (Pure (BuiltAnswers limit custom formula)) (λ lines. after_steps custom place formula lines)
+abbrev pub after_resolution : ℕ → Ledger → Place → List Loaded → trees.Formula → Check Success
+after_resolution limit ledger place tables formula = Then (Pure (BuiltAnswers limit (ledger Bases) tables formula)) (λ lines. after_steps ledger place tables formula lines)
 
-abbrev pub after_systems : ℕ → Custom → Place → trees.Formula → Check Success
-after_systems limit custom place formula = Then (Pure (ResolvedAnswers formula)) (λ resolved. after_resolution limit custom place formula)
+abbrev pub after_systems : ℕ → Ledger → Place → List Loaded → trees.Formula → Check Success
+after_systems limit ledger place tables formula = Then (Pure (ResolvedAnswers tables formula)) (λ resolved. after_resolution limit ledger place tables formula)
 
-abbrev pub after_files : ℕ → Custom → Place → trees.Formula → Check Success
-after_files limit custom place formula = Then (Pure (SystemsAnswers custom formula)) (λ known. after_systems limit custom place formula)
+abbrev pub after_tables : ℕ → Ledger → Place → trees.Formula → List Loaded → Check Success
+after_tables limit ledger place formula tables = Then (Pure (SystemsAnswers (ledger Bases) tables formula)) (λ known. after_systems limit ledger place tables formula)
 
-abbrev pub after_formula : ℕ → Custom → Place → trees.Formula → Check Success
-after_formula limit custom place formula = Then (Pure (FilesAnswers formula)) (λ none. after_files limit custom place formula)
+abbrev pub after_formula : ℕ → Ledger → Place → trees.Formula → Check Success
+after_formula limit ledger place formula = Then (loaded ledger formula) (λ tables. after_tables limit ledger place formula tables)
 
-abbrev pub after_named_head : ℕ → Custom → Folder → NamedHead → Check Success
-after_named_head limit custom folder head = Then (Pure (FormulaAnswers head.body)) (λ formula. after_formula limit custom (folder, head.name) formula)
+abbrev pub after_named_head : ℕ → Ledger → Folder → NamedHead → Check Success
+after_named_head limit ledger folder head = Then (Pure (FormulaAnswers head.body)) (λ formula. after_formula limit ledger (folder, head.name) formula)
 
 -- all checks of a command of this word, whose texts stand in this folder
 abbrev pub formula_checks : List ℕ → Folder → ℕ → Ledger → List ℕ → Check Success
-formula_checks word folder limit ledger text = Then (Pure (HeadAnswers (SpellsNamed word) text)) (λ head. after_named_head limit (ledger Bases) folder head)
+formula_checks word folder limit ledger text = Then (Pure (HeadAnswers (SpellsNamed word) text)) (λ head. after_named_head limit ledger folder head)

@@ -1,6 +1,12 @@
 -- What the code does for a formula, part by part.
-use Rattle.std.specs.Prelude.{◌≡◌, ◌≢◌, ◌↔◌, ◌⊎◌, ℕ, ◌<◌, ◌≤◌, List, [], ◌∷◌, length, Bool, IsTrue, Result, Ok, Err, ⊤}
+use Rattle.std.specs.Prelude.{◌≡◌, ◌≢◌, ◌↔◌, ◌⊎◌, ℕ, ◌<◌, ◌≤◌, List, [], ◌∷◌, length, Bool, IsTrue, Result, Ok, Err, MatchResult, ⊤}
 use Rattle.std.specs.List.{AllByRecursion}
+use Rattle.std.specs.declared.alloc.Global.{Global}
+use Rattle.std.specs.declared.vec.Vec.{Vec}
+use Rattle.wal_outside.specs.Files.{Files}
+use Rattle.dfa_loading.specs.Loading.{AreListedBy, FirstRefuses, ReadsAt}
+use Rattle.dfa_loading.specs.declared.fault.LoadFault.TheVariants as loads
+use Rattle.dfa_loading.specs.declared.loaded.Loaded.{Loaded}
 use Rattle.digit_tuple.specs.Systems.{IsDigitCount}
 use Rattle.digit_tuple.specs.declared.header.Header.TheVariants as headers
 use Rattle.digit_tuple.specs.declared.systems.SystemTrack.{SystemTrack}
@@ -14,17 +20,21 @@ use Rattle.number_relations.specs.Relations.{RelationValue, RelationHolds}
 use Rattle.system_names.specs.Names.{IsBuiltInName}
 use Rattle.session_cli.specs.declared.fault.Fault.{Fault}
 use Rattle.session_cli.specs.declared.fault.Fault.TheVariants as faults
-use Rattle.session_cli.specs.FormulaOutcomes.{IsFirstFile}
-use Rattle.session_cli.specs.FormulaTexts.{truth_text}
+use Rattle.definitions.specs.FormulaTexts.{truth_text}
 use Rattle.session_cli.specs.SealedSystems.{HasSystemIn}
 use Rattle.session_cli.specs.TrackSystems.{IsUnknown}
 
--- there is no file, or the fault names the first
-abbrev pub ChecksFiles : List File → Result (Unit {0}) Fault → Type 0
-ChecksFiles files (Ok none) = files ≡ []
-ChecksFiles files (Err (faults.Unknown folder name)) = IsFirstFile files folder name
-ChecksFiles files (Err faults.Memory) = ⊤
-ChecksFiles files (Err fault) = ⊥
+-- why the tables of some files are not there
+abbrev pub AreUnloaded : Files → List File → Fault → Type 0
+AreUnloaded files named (faults.Unknown folder name) = FirstRefuses files named (loads.Unknown folder name)
+AreUnloaded files named (faults.File folder name flaw) = FirstRefuses files named (loads.File folder name flaw)
+AreUnloaded files named (faults.Store folder name) = ReadsAt files named folder name
+AreUnloaded files named faults.Memory = ⊤
+AreUnloaded files named fault = ⊥
+
+-- the tables of the files, or why they are not there
+abbrev pub LoadsTables : List File → Files → Result (Vec Loaded Global) Fault → Type 0
+LoadsTables named files result = MatchResult result (λ tables. AreListedBy files named tables.items) (AreUnloaded files named)
 
 -- each of these names is that of a built-in system, and each of them and the default stands for a system
 pub record HasSystems (names : List (List ℕ)) (systems : List NamedSystem) : Type 0 where

@@ -1,20 +1,16 @@
 -- What holds of all runs.
 use Rattle.std.specs.Prelude.{◌≡◌, ◌⊎◌, ℕ, ◌+◌, ◌-◌, ◌^◌, ◌≤◌, min, if◌then◌else◌, List, [], ◌∷◌, Some}
+use Rattle.wal_outside.specs.Files.{Files}
 use Rattle.wal_outside.specs.Sending.{HasSent}
 use Rattle.script_cut.specs.Cuts.{Item}
 use Rattle.session_cli.specs.declared.status.Status.{Status}
 use Rattle.session_cli.specs.declared.status.Status.TheVariants as status
-use Rattle.session_cli.specs.Trees.{Entry, Ledger}
-use Rattle.session_cli.specs.Texts.{HasText}
+use Rattle.definitions.specs.Trees.{Ledger}
 use Rattle.session_cli.specs.Accepting.{Answer}
 use Rattle.session_cli.specs.Outcomes.{Outcome}
 use Rattle.wal_outside.specs.Views.{SourceView, SinkView, StoreView}
 use Rattle.session_cli.specs.Runs.{Run, of_fault, is_store_fault}
 use Rattle.session_cli.specs.Whole.{HasCalled}
-
--- an entry has at most one text
-abbrev pub OneText : Type 0
-OneText = (entry : Entry) (text other : List ℕ) → HasText entry text → HasText entry other → text ≡ other
 
 -- a command has at most one proper outcome
 abbrev pub OneOutcome : Type 0
@@ -32,12 +28,12 @@ pub record EndAlike (new new' : StoreView) (held now held' now' : SinkView) (sta
   pub printed : HasSent held text now
   pub printed' : HasSent held' text now'
 
--- Where the status is Done or Refused, what was printed, the files and the status are a function of the words, of the script and of the
--- files at the beginning: how the bytes of the script came does not change them.
+-- Where the store tells its files and the status is Done or Refused, what was printed, the files and the status are a function of the words,
+-- of the script and of the files at the beginning: how the bytes of the script came does not change them.
 abbrev pub OneRun : Type 0
-OneRun = (words : List (List ℕ)) (script : List ℕ) (from to from' to' : SourceView) (old new old' new' : StoreView) (held now held' now' : SinkView) (state state' : Status)
+OneRun = (words : List (List ℕ)) (script : List ℕ) (files : Files) (from to from' to' : SourceView) (old new old' new' : StoreView) (held now held' now' : SinkView) (state state' : Status)
     → HasCalled words from to old new held now state → HasCalled words from' to' old' new' held' now' state'
-    → from.left ≡ Some script → from'.left ≡ Some script → old.files ≡ old'.files → IsClean state → IsClean state'
+    → from.left ≡ Some script → from'.left ≡ Some script → old.files ≡ Some files → old'.files ≡ Some files → IsClean state → IsClean state'
     → EndAlike new new' held now held' now' state state'
 
 -- how many of the answers are store faults

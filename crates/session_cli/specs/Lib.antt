@@ -2,11 +2,8 @@
 pub mod Codes
 pub mod Words
 pub mod Checks
-pub mod Tracks
-pub mod Trees
-pub mod Named
-pub mod FormulaTexts
 pub mod Texts
+pub mod HeadTracks
 pub mod TrackSteps
 pub mod Accepting
 pub mod FormulaSteps
@@ -27,6 +24,8 @@ pub mod TrackSystems
 pub mod SealedSystems
 pub mod VariablesOver
 pub mod FormulaPlans
+pub mod TableReading
+pub mod StoreReads
 pub mod Commands
 pub mod Tallies
 pub mod Handing

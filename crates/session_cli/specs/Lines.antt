@@ -3,6 +3,8 @@ use Rattle.std.specs.Prelude.{ℕ, suc, Bool, true, false, List, [], ◌∷◌, 
 use Rattle.digit_tuple.specs.Kinds.{kind_name}
 use Rattle.digit_tuple.specs.declared.steps.StepLine.{StepLine}
 use Rattle.wal_outside.specs.Folders.{folder_text}
+use Rattle.dfa_loading.specs.declared.fault.FileFlaw.{FileFlaw}
+use Rattle.dfa_loading.specs.declared.fault.FileFlaw.TheVariants as flaws
 use Rattle.session_cli.specs.declared.fault.Grammar.{Grammar}
 use Rattle.session_cli.specs.declared.fault.Grammar.TheVariants as grammars
 use Rattle.session_cli.specs.declared.fault.Fault.{Fault}
@@ -38,6 +40,11 @@ grammar_name grammars.Command = codes "command"
 grammar_name grammars.Regex = codes "regex"
 grammar_name grammars.Formula = codes "formula"
 
+-- what is wrong with a file: a line of it, or that it is too long
+abbrev pub flaw_text : FileFlaw → List ℕ
+flaw_text (flaws.Line at) = codes " line " ++ decimal at
+flaw_text flaws.TooLong = codes " too long"
+
 -- the number, name and kept values of a fault
 abbrev pub detail : Fault → List ℕ
 detail faults.Command = codes ": F01 Command"
@@ -48,6 +55,7 @@ detail (faults.NotLinear at) = codes ": F05 NotLinear at " ++ decimal at
 detail (faults.Depth grammar at) = (codes ": F06 Depth in " ++ grammar_name grammar) ++ (codes " at " ++ decimal at)
 detail (faults.Long bytes) = codes ": F07 Long " ++ decimal bytes
 detail (faults.Unknown folder name) = (codes ": F11 Unknown " ++ folder_text folder) ++ (codes "/" ++ name)
+detail (faults.File folder name flaw) = ((codes ": F12 File " ++ folder_text folder) ++ (codes "/" ++ name)) ++ flaw_text flaw
 detail (faults.Arity name tracks given) = ((codes ": F13 Arity " ++ name) ++ (codes " " ++ decimal tracks)) ++ (codes " " ++ decimal given)
 detail (faults.SystemUnknown name) = codes ": F14 SystemUnknown " ++ name
 detail (faults.Clash name first other) = ((codes ": F16 Clash " ++ name) ++ (codes " " ++ first)) ++ (codes " " ++ other)

@@ -8,7 +8,7 @@ use Rattle.session_cli.specs.declared.fault.Fault.TheVariants as faults
 use Rattle.session_cli.specs.declared.command_word.CommandWord.{CommandWord}
 use Rattle.session_cli.specs.declared.command_word.CommandWord.TheVariants as words
 use Rattle.session_cli.specs.Checks.{Check, Pure, Then}
-use Rattle.session_cli.specs.Trees.{Ledger}
+use Rattle.definitions.specs.Trees.{Ledger}
 use Rattle.session_cli.specs.Accepting.{Success, Answer}
 use Rattle.session_cli.specs.RegOutcomes.{reg_checks}
 use Rattle.session_cli.specs.FormulaOutcomes.{formula_checks}

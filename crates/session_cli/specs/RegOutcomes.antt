@@ -14,9 +14,10 @@ use Rattle.session_cli.specs.declared.fault.Grammar.TheVariants as grammars
 use Rattle.session_cli.specs.declared.fault.Fault.{Fault}
 use Rattle.session_cli.specs.declared.fault.Fault.TheVariants as faults
 use Rattle.session_cli.specs.Checks.{Check, Pure, Then}
-use Rattle.session_cli.specs.Trees.{Regex, Defined, Ledger}
-use Rattle.session_cli.specs.Tracks.{Tracks, letter_sets}
-use Rattle.session_cli.specs.Named.{Custom, IsKnown, IsFirstWithout, PartInDirection, AreTracksOf}
+use Rattle.definitions.specs.Trees.{Regex, Defined, Ledger}
+use Rattle.definitions.specs.Tracks.{Tracks, letter_sets}
+use Rattle.definitions.specs.Named.{Custom, IsKnown, IsFirstWithout}
+use Rattle.session_cli.specs.HeadTracks.{PartInDirection, AreTracksOf}
 use Rattle.session_cli.specs.TrackSteps.{AreSteps, ExceedsLetters, ExceedsStates}
 use Rattle.session_cli.specs.HeadAnswers.{HeadAnswers}
 use Rattle.session_cli.specs.Accepting.{Success, stored}

@@ -9,7 +9,7 @@ use Rattle.session_cli.specs.declared.fault.Fault.{Fault}
 use Rattle.session_cli.specs.declared.fault.Fault.TheVariants as faults
 use Rattle.session_cli.specs.declared.status.Status.{Status}
 use Rattle.session_cli.specs.declared.status.Status.TheVariants as status
-use Rattle.session_cli.specs.Trees.{Ledger, ledger_of}
+use Rattle.definitions.specs.Trees.{Ledger, ledger_of}
 use Rattle.session_cli.specs.Texts.{HasText, Stores}
 use Rattle.session_cli.specs.Checks.{Check, Fails}
 use Rattle.session_cli.specs.Accepting.{Success, Answer, after}

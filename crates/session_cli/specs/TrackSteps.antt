@@ -8,7 +8,7 @@ use Rattle.reg_steps.specs.RegexSteps as regex_steps
 use Rattle.reg_steps.specs.RegexSteps.{IsRegexStep}
 use Rattle.reg_steps.specs.RelationSteps.{AreRelationSteps, SecondExceeds, ThirdExceeds}
 use Rattle.reg_steps.specs.Relations.{AreSystemLanguages}
-use Rattle.session_cli.specs.Tracks.{NamedSystem, systems_of, Tracks, OverSets, OverSystems, letter_sets}
+use Rattle.definitions.specs.Tracks.{NamedSystem, systems_of, Tracks, OverSets, OverSystems, letter_sets}
 
 -- the step over sets makes this automaton, with this line
 pub record AreSetSteps (limit : ℕ) (sets : List (List ℤ)) (expression : Expression (List ℤ)) (lines : List StepLine) : Type 0 where

@@ -11,8 +11,8 @@ use Rattle.digit_tuple.specs.declared.step_fault.StepFault.TheVariants as steps
 use Rattle.session_cli.specs.declared.known_system.KnownSystem.{KnownSystem}
 use Rattle.session_cli.specs.declared.track_systems.TrackSystems.{TrackSystems}
 use Rattle.session_cli.specs.Checks.{Pure, Fails}
-use Rattle.session_cli.specs.Tracks.{NamedSystem, names_of}
-use Rattle.session_cli.specs.Named.{Custom, IsFirstWithout, AreNamed}
+use Rattle.definitions.specs.Tracks.{NamedSystem, names_of}
+use Rattle.definitions.specs.Named.{Custom, IsFirstWithout, AreNamed}
 use Rattle.session_cli.specs.RegOutcomes.{TracksAnswers}
 use Rattle.session_cli.specs.KnownSystems.{system_of, way_of, name_of}
 

@@ -2,7 +2,7 @@
 use Rattle.std.specs.Prelude.{List, [], ◌∷◌}
 use Rattle.formula_resolve.specs.declared.variable.Variable as resolved
 use Rattle.num_system.specs.Sealed.{SystemValue, system_of}
-use Rattle.session_cli.specs.Trees.{Variable}
+use Rattle.definitions.specs.Trees.{Variable}
 
 abbrev pub variable_over : resolved.Variable → SystemValue → Variable
 variable_over v s = record { name = v.name; way = s.way; system = record { name = v.system; system = system_of s } }

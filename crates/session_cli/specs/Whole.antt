@@ -10,7 +10,7 @@ use Rattle.script_cut.specs.Cuts.{Item, Rest, start, CutsTo, IsAtEnd, HasNoComma
 use Rattle.session_cli.specs.declared.status.Status.{Status}
 use Rattle.session_cli.specs.declared.status.Status.TheVariants as status
 use Rattle.session_cli.specs.Words.{GivesLimit, GivesNone}
-use Rattle.session_cli.specs.Trees.{Ledger}
+use Rattle.definitions.specs.Trees.{Ledger}
 use Rattle.session_cli.specs.Accepting.{Answer}
 use Rattle.session_cli.specs.Views.{IsTold}
 use Rattle.session_cli.specs.Runs.{Run, first_ledger, StoresTold, line_of, printed, status_of}

@@ -2,7 +2,7 @@ ghost use Rattle.std.specs.Prelude.{◌≡◌};
 ghost use Rattle.wal_outside.specs.Sending.{Sends};
 ghost use Rattle.session_cli.specs.Tallies.{AddsFault, AddsResult};
 ghost use Rattle.session_cli.specs.Lines.{fault_line};
-ghost use Rattle.session_cli.specs.Trees.{Ledger};
+ghost use Rattle.definitions.specs.Trees.{Ledger};
 ghost use Rattle.session_cli.specs.Runs.{StoresTold};
 ghost use Rattle.session_cli.specs.Commands.{Commands};
 ghost use Rattle.session_cli.specs.Handing.{result_text};

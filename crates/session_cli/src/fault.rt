@@ -1,8 +1,9 @@
 ghost use Rattle.std.specs.Prelude.{◌≡◌};
 ghost use Rattle.session_cli.specs.declared.fault.Fault.TheVariants.{Memory};
 ghost use Rattle.session_cli.specs.TrackSystems.{fault_of};
-ghost use Rattle.session_cli.specs.FormulaFaults.{fault_of_resolution, fault_of_formula};
+ghost use Rattle.session_cli.specs.FormulaFaults.{fault_of_loading, fault_of_resolution, fault_of_formula};
 
+use dfa_loading::{FileFlaw, LoadFault};
 use digit_tuple::faults::OutOfMemory;
 use digit_tuple::name::Name;
 use digit_tuple::step_fault::StepFault;
@@ -41,6 +42,9 @@ pub enum Fault {
     Long(usize),
     /// F11: nothing stands under this name in this folder.
     Unknown(Folder, Name),
+    /// F12: the text that stands under this name in this folder is not an automaton's: a line breaks the format, or it is too
+    /// long.
+    File(Folder, Name, FileFlaw),
     /// F13: the automaton or word of this name has so many tracks, and so many terms are given.
     Arity(Name, u32, u32),
     /// F14: there is no system of this name.
@@ -79,6 +83,19 @@ impl From<StepFault> for Fault {
             StepFault::Letters(step) => Fault::Letters(step),
             StepFault::States(step) => Fault::States(step),
             StepFault::Memory => Fault::Memory,
+        }
+    }
+}
+
+impl From<LoadFault> for Fault {
+    ghost from_gives = { λ f e. e ≡ fault_of_loading f };
+
+    fn from(fault: LoadFault) -> Fault {
+        match fault {
+            LoadFault::Unknown(folder, name) => Fault::Unknown(folder, name),
+            LoadFault::File(folder, name, flaw) => Fault::File(folder, name, flaw),
+            LoadFault::Store(folder, name) => Fault::Store(folder, name),
+            LoadFault::Memory => Fault::Memory,
         }
     }
 }

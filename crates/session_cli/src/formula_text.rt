@@ -2,7 +2,7 @@
 
 ghost use Rattle.std.specs.Prelude.{◌≡◌, map, IfOk, MatchResult};
 ghost use Rattle.std.specs.Rc.{rc_value};
-ghost use Rattle.session_cli.specs.FormulaTexts.{truth_text as text_of_truth};
+ghost use Rattle.definitions.specs.FormulaTexts.{truth_text as text_of_truth};
 ghost use Rattle.session_cli.specs.FormulaPlans.{HaveTracks, IsTextOf, HasNoTextOf, tracks_over};
 
 use crate::fault::Fault;

@@ -1,13 +1,12 @@
 //! Laws of the definitions, each a call that does nothing.
-ghost use Rattle.session_cli.specs.Laws.{OneText, OneOutcome, OneRun, StoreFaultsCounted};
+ghost use Rattle.session_cli.specs.Laws.{OneOutcome, OneRun, StoreFaultsCounted};
 
-/// An entry of the ledger has at most one text, and a command at most one proper outcome.
+/// A command has at most one proper outcome.
 pub fn one_outcome()
-    ensures text { OneText }
-    ensures outcome { OneOutcome }
+    ensures { OneOutcome }
 {}
 
-/// Where a run ends with `Done` or `Refused`, what it printed, the store's files and the status are a function of the
+/// Where the store tells its files and a run ends with `Done` or `Refused`, what it printed, the store's files and the status are a function of the
 /// script and of the files at the beginning.
 pub fn one_run()
     ensures { OneRun }

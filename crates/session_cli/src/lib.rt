@@ -23,6 +23,8 @@ mod sealed_systems;
 mod step_options;
 // the command `reg`
 mod reg;
+// the relations of loaded tables
+mod table_reading;
 // the text of what a formula makes
 mod formula_text;
 // the commands `eval` and `def`
@@ -44,6 +46,7 @@ mod whole;
 // what holds of all runs
 mod laws;
 
+pub use dfa_loading::FileFlaw;
 pub use fault::{Fault, Grammar};
 pub use laws::{one_outcome, one_run, store_faults_counted};
 pub use printed::Printed;

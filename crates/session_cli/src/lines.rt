@@ -1,9 +1,10 @@
 ghost use Rattle.std.specs.Prelude.{◌≡◌, ◌++◌, codes, decimal};
 ghost use Rattle.wal_outside.specs.Folders.{folder_text};
 ghost use Rattle.wal_outside.specs.Sending.{Sends};
-ghost use Rattle.session_cli.specs.Lines.{grammar_name as grammar_text, detail, fault_line};
+ghost use Rattle.session_cli.specs.Lines.{grammar_name as grammar_text, flaw_text, detail, fault_line};
 
 use crate::fault::{Fault, Grammar};
+use dfa_loading::FileFlaw;
 use digit_tuple::name::Name;
 use itoa::Buffer;
 use wal_outside::{Folder, Sink, WriteFault, send, send_four, send_two};
@@ -47,6 +48,7 @@ fn send_detail<K: Sink>(out: &mut K, fault: &Fault) -> Result<(), WriteFault>
         Fault::Depth(grammar, at) => send_place(out, b": F06 Depth in ", *grammar, *at),
         Fault::Long(bytes) => send_number(out, b": F07 Long ", *bytes as u64),
         Fault::Unknown(folder, name) => send_file(out, b": F11 Unknown ", *folder, name),
+        Fault::File(folder, name, flaw) => send_flawed(out, *folder, name, *flaw),
         Fault::Arity(name, tracks, given) => send_arity(out, name, *tracks, *given),
         Fault::SystemUnknown(name) => send_two(out, b": F14 SystemUnknown ", name.as_bytes()),
         Fault::Clash(name, first, other) => send_clash(out, name, first, other),
@@ -103,6 +105,29 @@ fn send_file<K: Sink>(
     ensures { Sends (K.view out.old) ((fault.now ++ folder_text folder) ++ (codes "/" ++ name.now)) result (K.view out.new) }
 {
     send_four(out, fault, folder.name().as_bytes(), b"/", name.as_bytes())
+}
+
+/// Hands over the fault of a file, and what is wrong with it.
+fn send_flawed<K: Sink>(
+    out: &mut K,
+    folder: Folder,
+    name: &Name,
+    flaw: FileFlaw,
+) -> Result<(), WriteFault>
+    ensures { Sends (K.view out.old) (((codes ": F12 File " ++ folder_text folder) ++ (codes "/" ++ name.now)) ++ flaw_text flaw) result (K.view out.new) }
+{
+    send_file(out, b": F12 File ", folder, name)?;
+    send_flaw(out, flaw)
+}
+
+/// Hands over what is wrong with a file.
+fn send_flaw<K: Sink>(out: &mut K, flaw: FileFlaw) -> Result<(), WriteFault>
+    ensures { Sends (K.view out.old) (flaw_text flaw) result (K.view out.new) }
+{
+    match flaw {
+        FileFlaw::Line(line) => send_number(out, b" line ", line),
+        FileFlaw::TooLong => send(out, b" too long"),
+    }
 }
 
 /// Hands over the fault of a name that has so many tracks and is given so many terms.

@@ -1,7 +1,11 @@
 //! What a command stores and prints, from its text.
-ghost use Rattle.session_cli.specs.Trees.{Ledger};
+ghost use Rattle.std.specs.Prelude.{◌≡◌, codes};
+ghost use Rattle.wal_outside.specs.declared.folder.Folder.TheVariants.{Automata, Results};
+ghost use Rattle.definitions.specs.Trees.{Ledger};
 ghost use Rattle.session_cli.specs.Outcomes.{checks_of};
 ghost use Rattle.session_cli.specs.Plans.{Plans};
+ghost use Rattle.session_cli.specs.StoreReads.{FromFiles};
+ghost use Rattle.session_cli.specs.Texts.{Stores};
 
 use crate::command_word::{CommandWord, command_word};
 use crate::fault::Fault;
@@ -11,40 +15,55 @@ use crate::reg::plan_reg;
 use crate::sealed_systems::SealedSystems;
 use crate::step_options::StepOptions;
 use std::alloc::Global;
-use wal_outside::Folder;
+use wal_outside::{Folder, Store};
 
 /// The most bytes that a command may have.
 pub(crate) const COMMAND_LIMIT: usize = 65_536;
 
 /// `eval` keeps what a formula says among the results.
-const EVAL: FormulaCommand<'static> = FormulaCommand {
-    word: b"eval",
-    folder: Folder::Results,
-};
+fn eval(options: StepOptions) -> FormulaCommand<'static>
+    ensures word { result.word.now ≡ codes "eval" }
+    ensures folder { result.folder ≡ Results }
+    ensures options { result.options ≡ options }
+{
+    FormulaCommand {
+        word: b"eval",
+        folder: Folder::Results,
+        options,
+    }
+}
 
 /// `def` keeps it where later commands find it.
-const DEF: FormulaCommand<'static> = FormulaCommand {
-    word: b"def",
-    folder: Folder::Automata,
-};
+fn def(options: StepOptions) -> FormulaCommand<'static>
+    ensures word { result.word.now ≡ codes "def" }
+    ensures folder { result.folder ≡ Automata }
+    ensures options { result.options ≡ options }
+{
+    FormulaCommand {
+        word: b"def",
+        folder: Folder::Automata,
+        options,
+    }
+}
 
 /// What a command stores and prints, or why it is refused: by its length, by its first word, or by the checks of the command of
-/// that word. Systems that formulas name are sealed once and kept.
-pub(crate) fn plan_of(
+/// that word. Files that it names are read from the store. Systems that formulas name are sealed once and kept.
+pub(crate) fn plan_of<T: Store>(
     alloc: Global,
     options: StepOptions,
     text: &[u8],
     systems: &mut SealedSystems,
+    store: &mut T,
 ) -> Result<Plan, Fault>
-    ensures { (ledger : Ledger) → Plans (checks_of options.limit ledger text.now) options.shown result }
+    ensures { FromFiles (λ found plan. (ledger : Ledger) → Stores ledger found → Plans (checks_of options.limit ledger text.now) options.shown plan) (T.view store.old) result (T.view store.new) }
 {
     if text.len() > COMMAND_LIMIT {
         return Err(Fault::Long(COMMAND_LIMIT));
     }
     match command_word(text) {
         Some(CommandWord::Reg) => plan_reg(alloc, options.limit, text, options.shown),
-        Some(CommandWord::Eval) => plan_formula(alloc, options, EVAL, text, systems),
-        Some(CommandWord::Def) => plan_formula(alloc, options, DEF, text, systems),
+        Some(CommandWord::Eval) => plan_formula(alloc, eval(options), text, systems, store),
+        Some(CommandWord::Def) => plan_formula(alloc, def(options), text, systems, store),
         None => Err(Fault::Command),
     }
 }

@@ -1,6 +1,6 @@
 //! One command after another.
 ghost use Rattle.std.specs.Prelude.{◌≡◌};
-ghost use Rattle.session_cli.specs.Trees.{Ledger};
+ghost use Rattle.definitions.specs.Trees.{Ledger};
 ghost use Rattle.session_cli.specs.Runs.{StoresTold};
 ghost use Rattle.session_cli.specs.Views.{SessionView};
 ghost use Rattle.session_cli.specs.Commands.{Commands, WritesPlan};
@@ -62,7 +62,7 @@ impl Session {
             limit: self.limit,
             shown,
         };
-        let plan = plan_of(alloc, options, text, &mut self.systems)?;
+        let plan = plan_of(alloc, options, text, &mut self.systems, store)?;
         let Plan { folder, name, made } = plan;
         write_text(folder, name, &made.stored, store)?;
         *printed = made.printed;

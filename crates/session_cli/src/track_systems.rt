@@ -4,7 +4,7 @@ ghost use Rattle.std.specs.List.{All};
 ghost use Rattle.std.specs.Rc.{rc_value};
 ghost use Rattle.reg_steps.specs.Relations.{AreSystemLanguages};
 ghost use Rattle.system_names.specs.Names.{IsBuiltInName};
-ghost use Rattle.session_cli.specs.Tracks.{header_tracks, systems_of};
+ghost use Rattle.definitions.specs.Tracks.{header_tracks, systems_of};
 ghost use Rattle.session_cli.specs.KnownSystems.{name_of};
 ghost use Rattle.session_cli.specs.TrackSystems.{AreNames, IsUnknown, AreTrackSystems, AreTrackSystemsOf, AreRefusedNames, IsFirstApart, IsIn, named_in};
 

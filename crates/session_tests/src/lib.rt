@@ -46,6 +46,10 @@ mod formula_places;
 #[cfg(test)]
 mod formula_limits;
 
+// calls of automata, and the files that they read
+#[cfg(test)]
+mod call_rows;
+
 // words of the command line
 #[cfg(test)]
 mod words;

@@ -55,6 +55,18 @@ pub fn run_words(
     script: &[u8],
     outside: &Outside,
 ) -> Result<Left, AllocError> {
+    let store = MemStore::new(alloc, Vec::from_slice(alloc, outside.failing_store)?);
+    run_over(alloc, texts, script, outside, store)
+}
+
+/// Runs a script over a store, with these words of the command line.
+pub fn run_over(
+    alloc: Global,
+    texts: &[&str],
+    script: &[u8],
+    outside: &Outside,
+    mut store: MemStore,
+) -> Result<Left, AllocError> {
     let bytes = Vec::from_slice(alloc, script)?;
     let mut source = MemSource::new(
         bytes,
@@ -66,7 +78,6 @@ pub fn run_words(
         Vec::from_slice(alloc, outside.writes)?,
         Vec::from_slice(alloc, outside.failing_writes)?,
     );
-    let mut store = MemStore::new(alloc, Vec::from_slice(alloc, outside.failing_store)?);
     let mut words = Vec::new(alloc);
     for text in texts {
         words.push(String::from_str(alloc, text)?)?;

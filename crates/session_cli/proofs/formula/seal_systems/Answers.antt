@@ -1,13 +1,19 @@
-use Rattle.std.proofs.Common.{◌≡◌, ap, ◌∙◌, subst}
+use Rattle.std.proofs.Common.{◌≡◌, sym, ap, ◌∙◌, subst}
 use Rattle.std.specs.List.{AllByRecursion}
 use Rattle.formula_resolve.specs.FirstMentions.{first_systems}
-use Rattle.formula_resolve.specs.Headers.{no_headers}
-use Rattle.session_cli.specs.SealedSystems.{HasSystemIn}
+use Rattle.formula_resolve.specs.Mentions.{mentions}
+use Rattle.formula_parse.specs.Views.{formula_view}
+use Rattle.dfa_loading.specs.Headers.{headers_of}
+use Rattle.session_cli.specs.SealedSystems.{SealedView, HasSystemIn}
 use Rattle.session_cli.proofs.SealedLemmas.{systems_sealed}
 use Rattle.session_cli.proofs.formula.seal_systems.Goals as goal
 
-pub returns : goal.returns
-returns c =
-    let names : c.in_ok-names.names.items ≡ first_systems no_headers c.args.mentioned.now = c.in_ok-names.ensures ∙ ap (λ h. first_systems h c.args.mentioned.now) c.names.ensures.headers in
-    let mentioned = subst (AllByRecursion (HasSystemIn c.add_all.new.self)) (c.deref.ensures.value ∙ names) c.in_ok-add_all.ensures in
-    systems_sealed (first_systems no_headers c.args.mentioned.now) c.add_all.new.self c.add_default.new.self c.add_default.result c.are_meant.ensures mentioned c.add_default.ensures.kept c.add_default.ensures.sealed
+pub returns-clause-sealed : goal.returns-clause-sealed
+returns-clause-sealed c =
+    let tables = c.args.tables.now in
+    let f = formula_view c.args.formula.now in
+    let headers = c.names.ensures.headers ∙ ap (λ (v : SealedView). v.headers) c.set_headers.ensures ∙ c.in_ok-headers_of.ensures in
+    let mentioned = c.deref.ensures.value ∙ c.in_ok-mentioned.ensures in
+    let names : c.in_ok-names.names.items ≡ first_systems (headers_of tables) (mentions f) = c.in_ok-names.ensures ∙ (λ i. first_systems (headers i) (mentioned i)) in
+    let all = subst (AllByRecursion (HasSystemIn c.add_all.new.self.systems)) (c.deref-2.ensures.value ∙ names) c.in_ok-add_all.ensures.sealed in
+    systems_sealed (first_systems (headers_of tables) (mentions f)) c.add_all.new.self.systems c.add_default.new.self.systems c.add_default.result c.are_meant.ensures all c.add_default.ensures.kept c.add_default.ensures.sealed

@@ -32,3 +32,15 @@ returns-in-Plain g c = rw c.in-Plain.is (rw c.as_bytes-in-Plain.ensures at c.sen
 
 pub returns-in-Store : goal.returns-in-Store
 returns-in-Store g c = rw c.in-Store.is c.send_file-in-Store.ensures
+
+pub returns-in-Command : goal.returns-in-Command
+returns-in-Command g c = rw c.in-Command.is c.send.ensures.sent
+
+pub returns-in-MixedChain : goal.returns-in-MixedChain
+returns-in-MixedChain g c = rw c.in-MixedChain.is c.send_number.ensures
+
+pub returns-in-NotLinear : goal.returns-in-NotLinear
+returns-in-NotLinear g c = rw c.in-NotLinear.is c.send_number-in-NotLinear.ensures
+
+pub returns-in-File : goal.returns-in-File
+returns-in-File g c = rw c.in-File.is c.send_flawed.ensures

@@ -1,15 +1,37 @@
+use Rattle.std.proofs.Common.{None, refl, sym, subst}
+use Rattle.wal_outside.specs.Files.{Files}
+use Rattle.definitions.specs.Trees.{Ledger}
+use Rattle.wal_outside.specs.declared.folder.Folder.TheVariants.{Automata, Results}
+use Rattle.session_cli.specs.Outcomes.{word_text}
+use Rattle.session_cli.specs.RegOutcomes.{reg_checks}
 use Rattle.session_cli.specs.declared.command_word.CommandWord.TheVariants as words
-use Rattle.session_cli.proofs.WordSteps.{planned_by_word}
+use Rattle.session_cli.proofs.StoreReads.{own_plan, from_none, from_part}
+use Rattle.session_cli.proofs.ReadingChecks.{no_reg_read}
+use Rattle.session_cli.proofs.WordSteps.{planned_by_word, planned_formula, too_long, no_word}
 use Rattle.session_cli.proofs.planning.plan_of.Goals as goal
 
+no_ledger : Ledger
+no_ledger = λ folder name. None
+
 pub returns-in-Some-Reg : goal.returns-in-Some-Reg
-returns-in-Some-Reg c =
-    λ ledger. planned_by_word words.Reg c.args.options.limit ledger c.args.text.now c.args.options.shown c.plan_reg.result c.if-text-gt-COMMAND_LIMIT.false (rw c.in-Some-Reg.field-0-is at c.in-Some-Reg.ensures) (c.plan_reg.ensures ledger)
+returns-in-Some-Reg g c =
+    from_none _ _ c.plan_reg.result (own_plan (reg_checks c.args.options.limit no_ledger c.args.text.now) (no_reg_read c.args.options.limit no_ledger c.args.text.now) c.args.options.shown c.plan_reg.result (c.plan_reg.ensures no_ledger))
+    (λ found ledger stores. planned_by_word words.Reg c.args.options.limit ledger c.args.text.now c.args.options.shown c.plan_reg.result c.if-text-gt-COMMAND_LIMIT.false (rw c.in-Some-Reg.field-0-is at c.in-Some-Reg.ensures) (c.plan_reg.ensures ledger))
 
 pub returns-in-Some-Eval : goal.returns-in-Some-Eval
-returns-in-Some-Eval c =
-    λ ledger. planned_by_word words.Eval c.args.options.limit ledger c.args.text.now c.args.options.shown c.plan_formula.result c.if-text-gt-COMMAND_LIMIT.false (rw c.in-Some-Eval.field-0-is at c.in-Some-Eval.ensures) (c.plan_formula.ensures ledger)
+returns-in-Some-Eval g c =
+    from_part _ _ _ _ c.plan_formula.result c.plan_formula.ensures
+    (λ found plans ledger stores. planned_by_word words.Eval c.args.options.limit ledger c.args.text.now c.args.options.shown c.plan_formula.result c.if-text-gt-COMMAND_LIMIT.false (rw c.in-Some-Eval.field-0-is at c.in-Some-Eval.ensures)
+    (planned_formula c.eval.result.word.now (word_text words.Eval) c.eval.result.folder Results c.eval.result.options c.args.options ledger c.args.text.now c.plan_formula.result c.eval.ensures.word c.eval.ensures.folder c.eval.ensures.options (plans ledger stores)))
 
 pub returns-in-Some-Def : goal.returns-in-Some-Def
-returns-in-Some-Def c =
-    λ ledger. planned_by_word words.Def c.args.options.limit ledger c.args.text.now c.args.options.shown c.plan_formula-in-Some-Def.result c.if-text-gt-COMMAND_LIMIT.false (rw c.in-Some-Def.field-0-is at c.in-Some-Def.ensures) (c.plan_formula-in-Some-Def.ensures ledger)
+returns-in-Some-Def g c =
+    from_part _ _ _ _ c.plan_formula-in-Some-Def.result c.plan_formula-in-Some-Def.ensures
+    (λ found plans ledger stores. planned_by_word words.Def c.args.options.limit ledger c.args.text.now c.args.options.shown c.plan_formula-in-Some-Def.result c.if-text-gt-COMMAND_LIMIT.false (rw c.in-Some-Def.field-0-is at c.in-Some-Def.ensures)
+    (planned_formula c.def.result.word.now (word_text words.Def) c.def.result.folder Automata c.def.result.options c.args.options ledger c.args.text.now c.plan_formula-in-Some-Def.result c.def.ensures.word c.def.ensures.folder c.def.ensures.options (plans ledger stores)))
+
+pub returns-then-text-gt-COMMAND_LIMIT : goal.returns-then-text-gt-COMMAND_LIMIT
+returns-then-text-gt-COMMAND_LIMIT g c = from_none _ _ _ refl (λ found ledger stores. too_long c.args.options.limit ledger c.args.text.now c.if-text-gt-COMMAND_LIMIT.true)
+
+pub returns-in-None : goal.returns-in-None
+returns-in-None g c = from_none _ _ _ refl (λ found ledger stores. no_word c.args.options.limit ledger c.args.text.now c.if-text-gt-COMMAND_LIMIT.false c.in-None.ensures)

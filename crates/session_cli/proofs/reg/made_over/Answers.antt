@@ -3,8 +3,8 @@ use Rattle.std.proofs.lemmas.Result.{err_from_is_err_and}
 use Rattle.command_head.specs.Heads as heads
 use Rattle.command_head.specs.HeadViews.{alphabets_of}
 use Rattle.command_head.specs.declared.head.Alphabets.{Alphabets}
-use Rattle.session_cli.specs.Tracks.{OverSets, OverSystems}
-use Rattle.session_cli.specs.Named.{Custom}
+use Rattle.definitions.specs.Tracks.{OverSets, OverSystems}
+use Rattle.definitions.specs.Named.{Custom}
 use Rattle.session_cli.specs.TrackSystems.{named_in}
 use Rattle.session_cli.specs.RegOutcomes.{after_head}
 use Rattle.session_cli.specs.Plans.{Makes}

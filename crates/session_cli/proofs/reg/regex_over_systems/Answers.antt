@@ -5,6 +5,7 @@ use Rattle.digit_tuple.specs.Sets.{sizes_of}
 use Rattle.product_op.specs.Validity.{AreLanguages}
 use Rattle.session_cli.specs.TrackSystems.{named_in}
 use Rattle.session_cli.proofs.RegexPlans.{made_over_systems, refused_over_systems, languages_fit}
+use Rattle.session_cli.proofs.KnownSteps.{some_named}
 use Rattle.session_cli.proofs.reg.regex_over_systems.Goals as goal
 
 pub relation_steps-requires : goal.relation_steps-requires
@@ -24,5 +25,5 @@ returns-in_err-relation c =
 pub returns : goal.returns
 returns c =
     λ name. made_over_systems (λ _. None) c.args.limit name c.args.systems.now.direction (named_in c.args.systems.now.systems.items) (map rc_value c.in_ok-languages.languages.items) c.args.body.now c.args.shown c.in_ok-regex.regex c.in_ok-relation.relation.automaton
-    c.relation_steps.new.steps (c.requires.are (λ _. None)) c.in_ok-languages.ensures (rw c.in_ok-tracks.ensures at c.in_ok-regex.ensures) (rw (c.new-steps.ensures, c.deref.ensures.value) at c.in_ok-relation.ensures) c.made_of.result
+    c.relation_steps.new.steps (some_named c.args.systems.now c.requires) (c.requires.are (λ _. None)) c.in_ok-languages.ensures (rw c.in_ok-tracks.ensures at c.in_ok-regex.ensures) (rw (c.new-steps.ensures, c.deref.ensures.value) at c.in_ok-relation.ensures) c.made_of.result
     (rw (c.in_ok-tracks.ensures, c.dfa.ensures.value) at c.made_of.ensures)

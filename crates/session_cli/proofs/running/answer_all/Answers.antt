@@ -5,7 +5,7 @@ use Rattle.script_cut.specs.Cutting.{HasCut}
 use Rattle.script_cut.specs.declared.cut.Cut.TheVariants as cuts
 use Rattle.script_cut.specs.declared.cut.CutFault.TheVariants as cut_faults
 use Rattle.session_cli.specs.declared.fault.Fault.TheVariants as faults
-use Rattle.session_cli.specs.Trees.{Ledger}
+use Rattle.definitions.specs.Trees.{Ledger}
 use Rattle.session_cli.specs.Runs.{StoresTold}
 use Rattle.session_cli.proofs.Standing.{HasAnswered, goes_on, stops, long_step, refuses, refuses_stop}
 use Rattle.session_cli.proofs.Between.{begun_of, between_first, between_next, between_ends, between_end, between_finishes, between_limit, between_failed, between_memory, room_falls, room_falls_long}

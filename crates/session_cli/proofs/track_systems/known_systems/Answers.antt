@@ -1,8 +1,8 @@
 use Rattle.std.proofs.Common.{sym, subst}
 use Rattle.std.specs.List.{AllByRecursion}
 use Rattle.system_names.specs.Names.{IsBuiltInName}
-use Rattle.session_cli.specs.Named.{IsFirstWithout}
-use Rattle.session_cli.proofs.NameLemmas.{first_at}
+use Rattle.definitions.specs.Named.{IsFirstWithout}
+use Rattle.definitions.proofs.NameLemmas.{first_at}
 use Rattle.session_cli.proofs.KnownSteps.{built_in_names}
 use Rattle.session_cli.proofs.track_systems.known_systems.Goals as goal
 

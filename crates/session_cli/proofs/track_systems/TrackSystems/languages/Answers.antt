@@ -4,7 +4,7 @@ use Rattle.std.proofs.lemmas.List.{take_more, map-append}
 use Rattle.reg_steps.specs.Relations.{AreSystemLanguages}
 use Rattle.session_cli.specs.KnownSystems.{system_of}
 use Rattle.session_cli.specs.TrackSystems.{named_in, IsIn}
-use Rattle.session_cli.specs.Tracks.{systems_of}
+use Rattle.definitions.specs.Tracks.{systems_of}
 use Rattle.session_cli.proofs.KnownSteps.{languages_push, systems_push, known_language}
 use Rattle.session_cli.proofs.track_systems.TrackSystems.languages.Goals as goal
 

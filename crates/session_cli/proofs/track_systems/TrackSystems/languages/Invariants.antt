@@ -2,7 +2,7 @@ use Rattle.std.proofs.Common.{map, take}
 use Rattle.std.specs.Rc.{rc_value}
 use Rattle.reg_steps.specs.Relations.{AreSystemLanguages}
 use Rattle.session_cli.specs.TrackSystems.{named_in}
-use Rattle.session_cli.specs.Tracks.{systems_of}
+use Rattle.definitions.specs.Tracks.{systems_of}
 use Rattle.session_cli.proofs.track_systems.TrackSystems.languages.Given as goal
 
 abbrev pub invariant-loop-system : goal.invariant-loop-system

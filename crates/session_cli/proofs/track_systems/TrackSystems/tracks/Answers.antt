@@ -1,7 +1,7 @@
 use Rattle.std.proofs.Common.{◌≡◌, ◌∙◌, ◌+◌, ◌<◌, [], ◌∷◌, ◌++◌, length, take, get_or, ap, sym, arith}
 use Rattle.std.proofs.lemmas.List.{take_more}
 use Rattle.digit_tuple.specs.declared.systems.SystemTrack.{SystemTrack}
-use Rattle.session_cli.specs.Tracks.{header_tracks}
+use Rattle.definitions.specs.Tracks.{header_tracks}
 use Rattle.session_cli.specs.KnownSystems.{system_of, name_of}
 use Rattle.session_cli.specs.TrackSystems.{named_in}
 use Rattle.session_cli.proofs.KnownSteps.{tracks_push, name_at}

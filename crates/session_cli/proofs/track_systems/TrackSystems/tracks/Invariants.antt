@@ -1,5 +1,5 @@
 use Rattle.std.proofs.Common.{◌≡◌, take}
-use Rattle.session_cli.specs.Tracks.{header_tracks}
+use Rattle.definitions.specs.Tracks.{header_tracks}
 use Rattle.session_cli.specs.TrackSystems.{named_in}
 use Rattle.session_cli.proofs.track_systems.TrackSystems.tracks.Given as goal
 

@@ -1,0 +1,109 @@
+-- Systems that names mean are tracks that a file may have.
+use Rattle.std.proofs.Common.{◌≡◌, ℕ, ◌+◌, ◌<◌, ◌≤◌, ◌^◌, ◌%◌, Bool, true, ◌&&◌, List, [], ◌∷◌, ◌++◌, length, refl, sym, ap, ◌∙◌, subst, arith, tests, decimal}
+use Rattle.std.specs.List.{AllByRecursion, list_all}
+use Rattle.std.proofs.lemmas.Bool.{and_parts, le-leb}
+use Rattle.std.proofs.lemmas.Nat.{mod_below}
+use Rattle.std.proofs.lemmas.Fmt.{decimal_by_steps, length-decimal-le, decimal_nonempty}
+use Rattle.std.proofs.lemmas.List.Elements.{All-from_recursion}
+use Rattle.digit_tuple.specs.Systems.{IsDigitCount}
+use Rattle.digit_tuple.specs.declared.direction.Direction.{Direction}
+use Rattle.digit_tuple.specs.declared.direction.Direction.TheVariants.{Msd, Lsd}
+use Rattle.system_names.specs.declared.system_kind.SystemKind.{SystemKind}
+use Rattle.system_names.specs.declared.system_kind.SystemKind.TheVariants.{Base, Fibonacci}
+use Rattle.system_names.specs.Names.{IsSystemKind, digit_count, kind_part, system_name}
+use Rattle.numeration.specs.Systems.{System}
+use Rattle.dfa_reading.specs.Systems.{is_alphanumeric, is_system, directs_as}
+use Rattle.dfa_reading.proofs.SystemNames.{digit_limit-built}
+use Rattle.dfa_text.specs.Lists as lists
+use Rattle.dfa_text.specs.Lists.{IsSystemTrack, AreTrackSystems}
+use Rattle.definitions.specs.Tracks.{NamedSystem, names_of, track_of, header_tracks}
+use Rattle.definitions.specs.Named.{Custom, built_in_system, IsSystemNamed, AreNamed}
+
+-- a test of all bytes of a text that is put together
+all-append : (test : ℕ → Bool) (xs ys : List ℕ) → list_all test xs ≡ true → list_all test ys ≡ true → list_all test (xs ++ ys) ≡ true
+all-append test [] ys first other = other
+all-append test (x ∷ xs) ys first other =
+    let parts = and_parts (test x) (list_all test xs) first in
+    ap (λ (b : Bool). b && list_all test (xs ++ ys)) parts.0 ∙ all-append test xs ys parts.1 other
+
+-- numerals are alphanumeric
+digit_passes : (digit : ℕ) → digit < 10 → list_all is_alphanumeric ((48 + digit) ∷ []) ≡ true
+digit_passes digit low = grind (arith, tests)
+
+decimal_passes : (k : ℕ) → k < 2 ^ 64 → list_all is_alphanumeric (decimal k) ≡ true
+decimal_passes k small =
+    decimal_by_steps (λ (n : ℕ) (ds : List ℕ). list_all is_alphanumeric ds ≡ true) (λ n low. digit_passes n low)
+    (λ n ds more passes. all-append is_alphanumeric ds ((48 + n % 10) ∷ []) passes (digit_passes (n % 10) (mod_below n 10 (omega arith)))) k small
+
+-- what says the kind: at most three letters and digits
+record IsKindPart (part : List ℕ) : Type 0 where
+  some : 1 ≤ length part
+  few : length part ≤ 3
+  passes : list_all is_alphanumeric part ≡ true
+
+kind_stands : (kind : SystemKind) → IsSystemKind kind → IsKindPart (kind_part kind)
+kind_stands (Base k) is = record {
+  some = let h : 0 < length (decimal k) = decimal_nonempty k (omega (arith, is.most)) in omega (arith, h);
+  few = length-decimal-le 3 k (omega arith) (omega (arith, is.most)) (omega (arith, is.most));
+  passes = decimal_passes k (omega (arith, is.most));
+}
+kind_stands Fibonacci is = record { some = omega arith; few = omega arith; passes = refl }
+
+-- a name of a system is one in a file
+name_stands : (way : Direction) (kind : SystemKind) → IsSystemKind kind → is_system (system_name way kind) ≡ true
+unfolding is_system
+name_stands Msd kind is =
+    let part = kind_stands kind is in
+    rw (le-leb 5 (length (system_name Msd kind)) (omega (arith, part.some)), le-leb (length (system_name Msd kind)) 62 (omega (arith, part.few)), part.passes) refl
+name_stands Lsd kind is =
+    let part = kind_stands kind is in
+    rw (le-leb 5 (length (system_name Lsd kind)) (omega (arith, part.some)), le-leb (length (system_name Lsd kind)) 62 (omega (arith, part.few)), part.passes) refl
+
+-- a built-in system has as many digits as its kind
+digits_by_kind : (kind : SystemKind) → (built_in_system kind).digits ≡ digit_count kind
+digits_by_kind (Base k) = refl
+digits_by_kind Fibonacci = refl
+
+kind_digits : (kind : SystemKind) → IsSystemKind kind → IsDigitCount (digit_count kind)
+kind_digits (Base k) is = record { some = omega (arith, is.least); small = omega (arith, is.most) }
+kind_digits Fibonacci is = record { some = omega arith; small = omega arith }
+
+-- a system that a name means is a track of a file
+named_track : (custom : Custom) (way : Direction) (s : NamedSystem) → IsSystemNamed custom s.name way s.system → IsSystemTrack (track_of s)
+named_track custom way s (kind, built, is) =
+    let digits : s.system.digits ≡ digit_count kind = ap (λ (r : System). r.digits) is ∙ digits_by_kind kind in
+    record {
+      name = ap is_system built.1 ∙ name_stands way kind built.0;
+      count = subst IsDigitCount (sym digits) (kind_digits kind built.0);
+      within = omega (arith, digits, digit_limit-built way kind s.name built);
+    }
+
+named_tracks : (custom : Custom) (way : Direction) (named : List NamedSystem) → AreNamed custom way named → AllByRecursion IsSystemTrack (header_tracks named)
+named_tracks custom way [] are = tt
+named_tracks custom way (s ∷ named) are = (named_track custom way s are.0, named_tracks custom way named are.1)
+
+-- names of one direction begin with one byte
+one_front : (way : Direction) (kind another : SystemKind) → directs_as (system_name way kind) (system_name way another) ≡ true
+one_front Msd kind another = refl
+one_front Lsd kind another = refl
+
+names_direct : (custom : Custom) (way : Direction) (s r : NamedSystem) → IsSystemNamed custom s.name way s.system → IsSystemNamed custom r.name way r.system → directs_as s.name r.name ≡ true
+names_direct custom way s r (kind, built, is) (another, built', is') = (λ i. directs_as (built.1 i) (built'.1 i)) ∙ one_front way kind another
+
+all_direct : (custom : Custom) (way : Direction) (s : NamedSystem) (named : List NamedSystem) → IsSystemNamed custom s.name way s.system → AreNamed custom way named → list_all (directs_as s.name) (lists.names_of (header_tracks named)) ≡ true
+all_direct custom way s [] is are = refl
+all_direct custom way s (r ∷ named) is are =
+    ap (λ (b : Bool). b && list_all (directs_as s.name) (lists.names_of (header_tracks named))) (names_direct custom way s r is are.0) ∙ all_direct custom way s named is are.1
+
+-- systems that names mean are tracks that a file may have
+pub file_systems : (custom : Custom) (way : Direction) (named : List NamedSystem) → 0 < length named → AreNamed custom way named → AreTrackSystems (header_tracks named)
+file_systems custom way [] some are = absurd (omega (arith, some))
+file_systems custom way (s ∷ named) some are = record {
+  each = All-from_recursion IsSystemTrack (header_tracks (s ∷ named)) (named_tracks custom way (s ∷ named) are);
+  alike = rw (all_direct custom way s named are.0 are.1) refl;
+}
+
+-- and the tracks have the names
+pub track_names : (named : List NamedSystem) → lists.names_of (header_tracks named) ≡ names_of named
+track_names [] = refl
+track_names (s ∷ named) = ap (λ (names : List (List ℕ)). s.name ∷ names) (track_names named)

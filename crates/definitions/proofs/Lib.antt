@@ -1,0 +1,16 @@
+pub mod NameLemmas
+pub mod FileNames
+pub mod ListedWords
+pub mod RegexTexts
+pub mod OneTexts
+pub mod TextMeanings
+pub mod AssignedLemmas
+pub mod SameMeanings
+pub mod FileBindings
+pub mod TableSystems
+pub mod TableDone
+pub mod BranchTables
+pub mod TableWords
+pub mod TableRelations
+pub mod OneTable
+pub mod FileTables

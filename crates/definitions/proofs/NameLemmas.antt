@@ -1,0 +1,99 @@
+-- Names tell their systems.
+use Rattle.std.proofs.Common.{◌≡◌, ℕ, zero, suc, ◌<◌, List, [], ◌∷◌, length, take, drop, get_or, inl, inr, refl, sym, ap, ◌∙◌, subst, arith}
+use Rattle.std.specs.List.{AllByRecursion}
+use Rattle.digit_tuple.specs.declared.direction.Direction.{Direction}
+use Rattle.numeration.specs.Systems.{System, IsSystem, AreSystems}
+use Rattle.base_k.specs.BaseLaws.{base_is_system}
+use Rattle.fib_system.specs.FibonacciLaws.{fibonacci_is_system}
+use Rattle.system_names.specs.declared.system_kind.SystemKind.{SystemKind}
+use Rattle.system_names.specs.declared.system_kind.SystemKind.TheVariants.{Base, Fibonacci}
+use Rattle.system_names.specs.Names.{IsSystemKind, IsBuiltInName}
+use Rattle.system_names.proofs.OneSystem.{one_system}
+use Rattle.definitions.specs.Tracks.{NamedSystem, names_of, systems_of}
+use Rattle.definitions.specs.Named.{Custom, built_in_system, IsSystemNamed, IsOf, IsKnown, AreKnown, IsFirstWithout, AreNamed}
+
+-- what a name means: one direction and one system
+pub one_meaning : (custom : Custom) (name : List ℕ) (way other : Direction) (s r : System) → IsSystemNamed custom name way s → IsSystemNamed custom name other r → (way ≡ other) × (s ≡ r)
+one_meaning custom name way other s r (kind, named, is) (another, named', is') =
+    let same = one_system way other kind another name named named' in
+    (same.0, is ∙ (ap built_in_system same.1 ∙ sym is'))
+
+pub one_direction : (custom : Custom) (way other : Direction) (name : List ℕ) → IsOf custom way name → IsOf custom other name → way ≡ other
+one_direction custom way other name (s, named) (r, named') = (one_meaning custom name way other s r named named').0
+
+-- the names that are known are those of built-in systems
+pub known_of : (custom : Custom) (name : List ℕ) → IsBuiltInName name → IsKnown custom name
+known_of custom name (way, kind, named) = (way, (built_in_system kind, (kind, named, refl)))
+
+pub of_known : (custom : Custom) (name : List ℕ) → IsKnown custom name → IsBuiltInName name
+of_known custom name (way, (s, (kind, named, is))) = (way, kind, named)
+
+-- what a name means is a system
+pub kind_is_system : (kind : SystemKind) → IsSystemKind kind → IsSystem (built_in_system kind)
+kind_is_system (Base k) base = base_is_system k base.least
+kind_is_system Fibonacci fib = fibonacci_is_system
+
+pub named_is_system : (custom : Custom) (name : List ℕ) (way : Direction) (s : System) → IsSystemNamed custom name way s → IsSystem s
+named_is_system custom name way s (kind, named, is) = subst IsSystem (sym is) (kind_is_system kind named.0)
+
+pub named_are_systems : (custom : Custom) (way : Direction) (named : List NamedSystem) → AreNamed custom way named → AreSystems (systems_of named)
+named_are_systems custom way [] are = tt
+named_are_systems custom way (s ∷ named) are = (named_is_system custom s.name way s.system are.0, named_are_systems custom way named are.1)
+
+-- checks of names have one first fault
+pub one_first : (P : List ℕ → Type 0) (names : List (List ℕ)) (a b : List ℕ) → IsFirstWithout P names a → IsFirstWithout P names b → a ≡ b
+one_first P [] a b one other = absurd one
+one_first P (name ∷ names) a b (inl (without, is)) (inl (without', is')) = is ∙ sym is'
+one_first P (name ∷ names) a b (inl (without, is)) (inr (with, rest)) = absurd (without with)
+one_first P (name ∷ names) a b (inr (with, rest)) (inl (without, is)) = absurd (without with)
+one_first P (name ∷ names) a b (inr (with, rest)) (inr (with', rest')) = one_first P names a b rest rest'
+
+-- where all have the property there is no first one without
+pub no_first : (P : List ℕ → Type 0) (names : List (List ℕ)) (a : List ℕ) → AllByRecursion P names → IsFirstWithout P names a → ⊥
+no_first P [] a all first = first
+no_first P (name ∷ names) a all (inl (without, is)) = without all.0
+no_first P (name ∷ names) a all (inr (with, rest)) = no_first P names a all.1 rest
+
+-- and of a property that is the same
+pub first_so : (P Q : List ℕ → Type 0) (names : List (List ℕ)) (a : List ℕ) → ((name : List ℕ) → P name → Q name) → ((name : List ℕ) → Q name → P name) → IsFirstWithout P names a → IsFirstWithout Q names a
+first_so P Q [] a there back first = first
+first_so P Q (name ∷ names) a there back (inl (without, is)) = inl ((λ with. without (back name with)), is)
+first_so P Q (name ∷ names) a there back (inr (with, rest)) = inr (there name with, first_so P Q names a there back rest)
+
+-- the first one without stands where all before have the property
+pub first_at : (P : List ℕ → Type 0) (names : List (List ℕ)) (i : ℕ) (name : List ℕ) → i < length names → name ≡ get_or names i name → AllByRecursion P (take i names) → ¬ P name → IsFirstWithout P names name
+first_at P [] i name within is all without = absurd (omega (arith, within))
+first_at P (n ∷ names) zero name within is all without = inl ((λ with. without (subst P (sym is) with)), is)
+first_at P (n ∷ names) (suc i) name within is all without = inr (all.0, first_at P names i name (omega (arith, within)) is all.1 without)
+
+-- names that mean systems in one direction are of that direction
+pub named_of_direction : (custom : Custom) (way : Direction) (named : List NamedSystem) → AreNamed custom way named → AllByRecursion (IsOf custom way) (names_of named)
+named_of_direction custom way [] are = tt
+named_of_direction custom way (s ∷ named) are = ((s.system, are.0), named_of_direction custom way named are.1)
+
+pub named_known : (custom : Custom) (way : Direction) (named : List NamedSystem) → AreNamed custom way named → AreKnown custom (names_of named)
+named_known custom way [] are = tt
+named_known custom way (s ∷ named) are = ((way, (s.system, are.0)), named_known custom way named are.1)
+
+same_named : (s r : NamedSystem) → s.name ≡ r.name → s.system ≡ r.system → s ≡ r
+same_named s r names systems = λ i. record { name = names i; system = systems i }
+
+-- names tell systems, and their direction
+pub same_list : (custom : Custom) (way other : Direction) (named also : List NamedSystem) → AreNamed custom way named → AreNamed custom other also → names_of named ≡ names_of also → named ≡ also
+same_list custom way other [] [] one two same = refl
+same_list custom way other [] (r ∷ also) one two same = let none : 0 ≡ suc (length (names_of also)) = ap (λ (xs : List (List ℕ)). length xs) same in absurd (omega (arith, none))
+same_list custom way other (s ∷ named) [] one two same = let none : suc (length (names_of named)) ≡ 0 = ap (λ (xs : List (List ℕ)). length xs) same in absurd (omega (arith, none))
+same_list custom way other (s ∷ named) (r ∷ also) one two same =
+    let names : s.name ≡ r.name = ap (λ (xs : List (List ℕ)). get_or xs 0 []) same in
+    let P : List ℕ → Type 0 = λ n. IsSystemNamed custom n way s.system in
+    let systems : s.system ≡ r.system = (one_meaning custom r.name way other s.system r.system (subst P names one.0) two.0).1 in
+    ap (λ (x : NamedSystem). x ∷ named) (same_named s r names systems)
+    ∙ ap (λ (xs : List NamedSystem). r ∷ xs) (same_list custom way other named also one.1 two.1 (ap (λ (xs : List (List ℕ)). drop 1 xs) same))
+
+pub same_way : (custom : Custom) (way other : Direction) (named also : List NamedSystem) → 0 < length named → AreNamed custom way named → AreNamed custom other also → names_of named ≡ names_of also → way ≡ other
+same_way custom way other [] also some one two same = absurd (omega (arith, some))
+same_way custom way other (s ∷ named) [] some one two same = let none : suc (length (names_of named)) ≡ 0 = ap (λ (xs : List (List ℕ)). length xs) same in absurd (omega (arith, none))
+same_way custom way other (s ∷ named) (r ∷ also) some one two same =
+    let names : s.name ≡ r.name = ap (λ (xs : List (List ℕ)). get_or xs 0 []) same in
+    let P : List ℕ → Type 0 = λ n. IsSystemNamed custom n way s.system in
+    (one_meaning custom r.name way other s.system r.system (subst P names one.0) two.0).0

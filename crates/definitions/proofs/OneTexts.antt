@@ -1,0 +1,81 @@
+-- An entry has one text, and a formula one verdict.
+use Rattle.std.proofs.Common.{◌≡◌, ℕ, Bool, List, [], ◌∷◌, ℤ, Option, None, Some, refl, sym, ap, ◌∙◌, subst}
+use Rattle.digit_tuple.specs.Deterministic.{Automaton, letters_of, accepts_of}
+use Rattle.digit_tuple.specs.Letters.{IsWord, product}
+use Rattle.digit_tuple.specs.Paddings.{in_order}
+use Rattle.digit_tuple.specs.declared.direction.Direction.{Direction}
+use Rattle.minimise.specs.Canonical.{IsCanonical}
+use Rattle.minimise.proofs.CanonicalLemmas.{canonical_forms}
+use Rattle.dfa_text.specs.RelationText.{relation_text}
+use Rattle.numeration.specs.Systems.{System}
+use Rattle.numeration.specs.Spelling.{Spells, letters_in}
+use Rattle.numeration.specs.Relations.{HoldsOf}
+use Rattle.formula_parse.specs.Trees as trees
+use Rattle.regex_build.specs.Expression.{Expression}
+use Rattle.reg_steps.proofs.OneRegex.{same_truth}
+use Rattle.reg_steps.proofs.RelationLemmas.{relation_is_one}
+use Rattle.definitions.specs.Tracks.{Tracks, OverSets, OverSystems, systems_of, letter_sets, header_of}
+use Rattle.definitions.specs.Trees.{Variable, Tree, File, Regex, Formula, Bindings, Bytes, Defined}
+use Rattle.definitions.specs.Named.{Custom}
+use Rattle.definitions.specs.FormulaTexts.{IsSolvedBy, named_systems, IsSolutionText, HasTruth, truth_text, IsFormulaText, HasVerdict}
+use Rattle.definitions.specs.Texts.{IsTrackText, HasTreeText}
+use Rattle.definitions.specs.Laws.{OneText}
+use Rattle.definitions.proofs.RegexTexts.{one_regex_text}
+
+-- canonical automata that hold of one relation are one
+pub one_holding : (way : Direction) (ss : List System) (holds : List ℕ → Type 0) (c d : Automaton) → IsCanonical c → IsCanonical d → HoldsOf way ss holds c → HoldsOf way ss holds d → c ≡ d
+one_holding way ss holds c d first second one other = canonical_forms c d first second (one.sizes ∙ sym other.sizes) same
+  where
+    same : (word : List ℕ) → IsWord (letters_of c) word → accepts_of c word ≡ accepts_of d word
+    same word over =
+        let inside : IsWord (letters_in ss) word = subst (λ (s : List ℕ). IsWord (product s) word) one.sizes over in
+        same_truth (accepts_of c word) (accepts_of d word) ((ns : List ℕ) × Spells ss (in_order way word) ns × holds ns) (one.accepts word inside) (other.accepts word inside)
+
+-- an expression over tracks has one text
+pub one_track_text : (custom : Custom) (tracks : Tracks) (e : Expression (List ℤ)) (text other : List ℕ) → IsTrackText custom tracks e text → IsTrackText custom tracks e other → text ≡ other
+one_track_text custom (OverSets sets) e text other a b = one_regex_text sets e text other a b
+one_track_text custom (OverSystems way named) e text other a b =
+    a.text_is
+    ∙ ap (λ (d : Automaton). relation_text (header_of (OverSystems way named)) d) (relation_is_one way (systems_of named) (letter_sets (OverSystems way named)) e a.automaton b.automaton a.of_relation b.of_relation)
+    ∙ sym b.text_is
+
+module _ (custom : Custom) (bindings : Bindings) where
+  -- a sentence has one truth
+  one_truth : (formula : trees.Formula) (truth other : Bool) → HasTruth custom bindings formula truth → HasTruth custom bindings formula other → truth ≡ other
+  one_truth formula truth other a b = same_truth truth other (IsSolvedBy custom bindings [] formula []) a b
+
+  -- the first variable tells the direction, and the formula the automaton
+  one_solution_text : (v : Variable) (variables : List Variable) (formula : trees.Formula) (text other : List ℕ)
+      → IsSolutionText custom bindings (v ∷ variables) formula text → IsSolutionText custom bindings (v ∷ variables) formula other → text ≡ other
+  one_solution_text v variables formula text other a b =
+      let named = named_systems (v ∷ variables) in
+      let holds : List ℕ → Type 0 = IsSolvedBy custom bindings (v ∷ variables) formula in
+      let ways : a.way ≡ b.way = sym a.read.0 ∙ b.read.0 in
+      let moved : HoldsOf b.way (systems_of named) holds a.automaton = subst (λ (way : Direction). HoldsOf way (systems_of named) holds a.automaton) ways a.holds in
+      let automata : a.automaton ≡ b.automaton = one_holding b.way (systems_of named) holds a.automaton b.automaton a.canonical b.canonical moved b.holds in
+      a.text_is ∙ ((λ i. relation_text (header_of (OverSystems (ways i) named)) (automata i)) ∙ sym b.text_is)
+
+  -- a formula has one text
+  pub one_formula_text : (variables : List Variable) (formula : trees.Formula) (text other : List ℕ) → IsFormulaText custom bindings variables formula text → IsFormulaText custom bindings variables formula other → text ≡ other
+  one_formula_text [] formula text other (truth, has, is) (truth', has', is') = is ∙ (ap truth_text (one_truth formula truth truth' has has') ∙ sym is')
+  one_formula_text (v ∷ variables) formula text other a b = one_solution_text v variables formula text other a b
+
+  -- and one verdict
+  pub one_verdict : (variables : List Variable) (formula : trees.Formula) (verdict other : Option Bool) → HasVerdict custom bindings variables formula verdict → HasVerdict custom bindings variables formula other → verdict ≡ other
+  one_verdict [] formula None other a b = absurd a
+  one_verdict [] formula (Some truth) None a b = absurd b
+  one_verdict [] formula (Some truth) (Some truth') a b = ap (λ (v : Bool). Some v) (one_truth formula truth truth' a b)
+  one_verdict (v ∷ variables) formula None None a b = refl
+  one_verdict (v ∷ variables) formula None (Some truth) a b = absurd b
+  one_verdict (v ∷ variables) formula (Some truth) other a b = absurd a
+
+-- a definition has one text
+pub one_tree_text : (custom : Custom) (tree : Tree) (text other : List ℕ) → HasTreeText custom tree text → HasTreeText custom tree other → text ≡ other
+one_tree_text custom (File bytes) text other a b = a ∙ sym b
+one_tree_text custom (Regex tracks e) text other a b = one_track_text custom tracks e text other a b
+one_tree_text custom (Formula variables formula bindings) text other a b = one_formula_text custom bindings variables formula text other a b
+
+-- an entry has one text
+pub one_text_of : OneText
+one_text_of custom (Bytes bytes) text other a b = a ∙ sym b
+one_text_of custom (Defined tree) text other a b = one_tree_text custom tree text other a b

@@ -1,0 +1,34 @@
+-- What holds of all definitions.
+use Rattle.std.specs.Prelude.{◌≡◌, ◌↔◌, ℕ, List}
+use Rattle.wal_outside.specs.declared.folder.Folder.{Folder}
+use Rattle.wal_outside.specs.declared.folder.Folder.TheVariants.{Bases}
+use Rattle.wal_outside.specs.Files.{Files}
+use Rattle.formula_parse.specs.Trees as trees
+use Rattle.formula_resolve.specs.declared.file.File as formula_file
+use Rattle.definitions.specs.Trees.{Variable, Tree, Formula, Bindings, Entry, Ledger, ledger_of, bindings_of}
+use Rattle.definitions.specs.Named.{Custom}
+use Rattle.definitions.specs.Files.{FileHolds}
+use Rattle.definitions.specs.TreeMeanings.{tree_holds, bound_holds}
+use Rattle.definitions.specs.Texts.{HasTreeText, HasText, Stores}
+
+-- an entry has at most one text
+abbrev pub OneText : Type 0
+OneText = (custom : Custom) (entry : Entry) (text other : List ℕ) → HasText custom entry text → HasText custom entry other → text ≡ other
+
+-- the text of a definition, read as a file, holds of the numbers of which the definition holds
+abbrev pub TextsMeanTheirTrees : Type 0
+TextsMeanTheirTrees = (custom : Custom) (tree : Tree) (text : List ℕ) → HasTreeText custom tree text → (ns : List ℕ) → FileHolds custom text ns ↔ tree_holds custom tree ns
+
+-- names are bound to what holds of the same numbers
+abbrev pub BindTheSame : Custom → Bindings → Bindings → Type 0
+BindTheSame custom bindings others = (folder : Folder) (name ns : List ℕ) → bound_holds custom bindings folder name ns ↔ bound_holds custom others folder name ns
+
+-- a formula holds of the same numbers where its names are bound to what holds of the same numbers
+abbrev pub BindingsMatterByMeaning : Type 0
+BindingsMatterByMeaning = (custom : Custom) (variables : List Variable) (formula : trees.Formula) (bindings others : Bindings) → BindTheSame custom bindings others
+    → (ns : List ℕ) → tree_holds custom (Formula variables formula bindings) ns ↔ tree_holds custom (Formula variables formula others) ns
+
+-- names stand for the same in the ledger and in the files that are its texts
+abbrev pub FilesBindAsTheirLedger : Type 0
+FilesBindAsTheirLedger = (ledger : Ledger) (files : Files) → Stores ledger files → (named : List formula_file.File)
+    → BindTheSame (ledger Bases) (bindings_of ledger named) (bindings_of (ledger_of files) named)

@@ -1,0 +1,10 @@
+pub mod Tracks
+pub mod Trees
+pub mod Named
+pub mod Files
+pub mod TreeMeanings
+pub mod FormulaTexts
+pub mod Texts
+pub mod Laws
+pub mod TableSteps
+pub mod TableLaws

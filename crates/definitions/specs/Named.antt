@@ -1,0 +1,45 @@
+-- Which numeration system a name means.
+use Rattle.std.specs.Prelude.{◌≡◌, ◌⊎◌, ℕ, List, [], ◌∷◌, Option}
+use Rattle.std.specs.List.{AllByRecursion}
+use Rattle.digit_tuple.specs.declared.direction.Direction.{Direction}
+use Rattle.numeration.specs.Systems.{System}
+use Rattle.base_k.specs.Positional.{base}
+use Rattle.fib_system.specs.Fibonacci.{fibonacci}
+use Rattle.system_names.specs.declared.system_kind.SystemKind.{SystemKind}
+use Rattle.system_names.specs.declared.system_kind.SystemKind.TheVariants.{Base, Fibonacci}
+use Rattle.system_names.specs.Names.{IsBuiltIn}
+use Rattle.definitions.specs.Tracks.{NamedSystem}
+use Rattle.definitions.specs.Trees.{Entry}
+
+-- what stands under each name in the folder of systems that users defined
+abbrev pub Custom : Type 0
+Custom = List ℕ → Option Entry
+
+-- the systems that are built in: base k, and the Fibonacci system
+abbrev pub built_in_system : SystemKind → System
+built_in_system (Base k) = base k
+built_in_system Fibonacci = fibonacci
+
+-- the name means this system, read in this direction
+abbrev pub IsSystemNamed : Custom → List ℕ → Direction → System → Type 0
+IsSystemNamed custom name way s = (kind : SystemKind) × IsBuiltIn way kind name × (s ≡ built_in_system kind)
+
+-- the name means a system that is read in this direction
+abbrev pub IsOf : Custom → Direction → List ℕ → Type 0
+IsOf custom way name = (s : System) × IsSystemNamed custom name way s
+
+-- the name means a system
+abbrev pub IsKnown : Custom → List ℕ → Type 0
+IsKnown custom name = (way : Direction) × IsOf custom way name
+
+abbrev pub AreKnown : Custom → List (List ℕ) → Type 0
+AreKnown custom names = AllByRecursion (IsKnown custom) names
+
+-- the first of the names that has not the property is this one
+abbrev pub IsFirstWithout : (List ℕ → Type 0) → List (List ℕ) → List ℕ → Type 0
+IsFirstWithout P [] first = ⊥
+IsFirstWithout P (name ∷ names) first = ((¬ P name) × (first ≡ name)) ⊎ (P name × IsFirstWithout P names first)
+
+-- each name means the system beside it, read in this direction
+abbrev pub AreNamed : Custom → Direction → List NamedSystem → Type 0
+AreNamed custom way named = AllByRecursion (λ (s : NamedSystem). IsSystemNamed custom s.name way s.system) named

@@ -1,0 +1,64 @@
+-- Which text stores an entry.
+use Rattle.std.specs.Prelude.{◌≡◌, ◌↔◌, ℕ, ◌<◌, ℤ, List, length, Option, None, Some, ⊤}
+use Rattle.std.specs.List.{AllByRecursion}
+use Rattle.digit_tuple.specs.Deterministic.{Automaton}
+use Rattle.digit_tuple.specs.declared.direction.Direction.{Direction}
+use Rattle.digit_tuple.specs.declared.header.Header.TheVariants as headers
+use Rattle.regex_build.specs.Expression.{Expression}
+use Rattle.regex_build.specs.Matches.{Matches}
+use Rattle.regex_build.specs.Patterns.{AreMembers}
+use Rattle.dfa_text.specs.Meaning.{FileAccepts, AreTrackSets}
+use Rattle.dfa_text.specs.RelationText.{relation_text}
+use Rattle.wal_outside.specs.declared.folder.Folder.TheVariants.{Bases}
+use Rattle.wal_outside.specs.Files.{Files}
+use Rattle.reg_steps.specs.RegexSteps.{IsRegexAutomaton}
+use Rattle.reg_steps.specs.Relations.{IsRelation}
+use Rattle.definitions.specs.Tracks.{NamedSystem, systems_of, Tracks, OverSets, OverSystems, letter_sets, header_of}
+use Rattle.definitions.specs.Trees.{Tree, File, Regex, Formula, Entry, Bytes, Defined, Ledger}
+use Rattle.definitions.specs.Named.{Custom, AreNamed}
+use Rattle.definitions.specs.FormulaTexts.{IsFormulaText}
+
+-- The text of an expression over sets. As a file it accepts exactly the words over the sets that the expression matches; it is the text of
+-- the canonical automaton.
+pub record IsRegexText (sets : List (List ℤ)) (expression : Expression (List ℤ)) (text : List ℕ) : Type 0 where
+  pub tracks : AreTrackSets sets
+  pub accepts : (word : List (List ℤ)) → FileAccepts text word ↔ (AllByRecursion (AreMembers sets) word × Matches expression word)
+  pub automaton : Automaton
+  pub of_regex : IsRegexAutomaton sets expression automaton
+  pub text_is : text ≡ relation_text (headers.Sets sets) automaton
+
+-- The text of an expression over systems: that of the canonical automaton of the spellings of the tuples of numbers of which some spelling
+-- matches. The systems are those that their names mean.
+pub record IsSpelledText (custom : Custom) (way : Direction) (named : List NamedSystem) (expression : Expression (List ℤ)) (text : List ℕ) : Type 0 where
+  pub some : 0 < length named
+  pub are : AreNamed custom way named
+  pub automaton : Automaton
+  pub of_relation : IsRelation way (systems_of named) (letter_sets (OverSystems way named)) expression automaton
+  pub text_is : text ≡ relation_text (header_of (OverSystems way named)) automaton
+
+-- the text of an expression over tracks
+abbrev pub IsTrackText : Custom → Tracks → Expression (List ℤ) → List ℕ → Type 0
+IsTrackText custom (OverSets sets) expression text = IsRegexText sets expression text
+IsTrackText custom (OverSystems way named) expression text = IsSpelledText custom way named expression text
+
+-- the text of a definition
+abbrev pub HasTreeText : Custom → Tree → List ℕ → Type 0
+HasTreeText custom (File bytes) text = text ≡ bytes
+HasTreeText custom (Regex tracks expression) text = IsTrackText custom tracks expression text
+HasTreeText custom (Formula variables formula bindings) text = IsFormulaText custom bindings variables formula text
+
+-- the text of an entry
+abbrev pub HasText : Custom → Entry → List ℕ → Type 0
+HasText custom (Bytes bytes) text = text ≡ bytes
+HasText custom (Defined tree) text = HasTreeText custom tree text
+
+-- a text where there is an entry, and no other
+abbrev pub HasTextAt : Custom → Option Entry → Option (List ℕ) → Type 0
+HasTextAt custom None None = ⊤
+HasTextAt custom None (Some text) = ⊥
+HasTextAt custom (Some entry) None = ⊥
+HasTextAt custom (Some entry) (Some text) = HasText custom entry text
+
+-- the files are the texts of the ledger, name by name
+abbrev pub Stores : Ledger → Files → Type 0
+Stores ledger files = (folder : _) (name : List ℕ) → HasTextAt (ledger Bases) (ledger folder name) (files folder name)

@@ -1,0 +1,46 @@
+-- Of which numbers a definition holds.
+use Rattle.std.specs.Prelude.{◌≡◌, ℕ, ℤ, Bool, true, false, List, [], ◌∷◌, length}
+use Rattle.wal_outside.specs.declared.folder.Folder.{Folder}
+use Rattle.wal_outside.specs.declared.folder.Folder.TheVariants.{Automata}
+use Rattle.wal_outside.specs.Files.{same_file}
+use Rattle.formula_truth.specs.Assignments.{Assignment, with_value}
+use Rattle.formula_truth.specs.Truth.{Meanings, Holds}
+use Rattle.regex_build.specs.Expression.{Expression}
+use Rattle.reg_steps.specs.Relations.{HasMatch}
+use Rattle.definitions.specs.Tracks.{Tracks, OverSets, OverSystems, systems_of, letter_sets}
+use Rattle.definitions.specs.Trees.{Variable, Tree, File, Regex, Formula, Bindings, unbound, bound}
+use Rattle.definitions.specs.Named.{Custom}
+use Rattle.definitions.specs.Files.{FileHolds}
+
+-- the numbers under the names of variables, and 0 under every other name
+abbrev pub assigned : List Variable → List ℕ → Assignment
+assigned [] ns = λ name. 0
+assigned (v ∷ variables) [] = λ name. 0
+assigned (v ∷ variables) (n ∷ ns) = with_value v.name n (assigned variables ns)
+
+-- some spelling of the numbers matches the expression; over sets there are no numbers
+abbrev pub RegexHolds : Tracks → Expression (List ℤ) → List ℕ → Type 0
+RegexHolds (OverSets sets) expression ns = ⊥
+RegexHolds (OverSystems way named) expression ns = HasMatch way (systems_of named) (letter_sets (OverSystems way named)) expression ns
+
+-- the one where it is so, and else the other
+abbrev pub chosen : Bool → Type 0 → Type 0 → Type 0
+chosen true P Q = P
+chosen false P Q = Q
+
+abbrev mutual
+  -- a file holds as it lists; an expression of the numbers of which a spelling matches; a formula of those for which it is true, one for
+  -- each free variable
+  pub tree_holds : Custom → Tree → List ℕ → Type 0
+  tree_holds custom (File bytes) ns = FileHolds custom bytes ns
+  tree_holds custom (Regex tracks expression) ns = RegexHolds tracks expression ns
+  tree_holds custom (Formula variables formula bindings) ns = (length ns ≡ length variables) × Holds (record { holds_of = λ name ms. bound_holds custom bindings Automata name ms; has_letter = λ name ms letter. ⊥ }) formula (assigned variables ns)
+
+  -- what a name is bound to holds of the numbers
+  pub bound_holds : Custom → Bindings → Folder → List ℕ → List ℕ → Type 0
+  bound_holds custom unbound folder name ns = ⊥
+  bound_holds custom (bound bindings at under tree) folder name ns = chosen (same_file at under folder name) (tree_holds custom tree ns) (bound_holds custom bindings folder name ns)
+
+-- what names mean that are bound so; no word has a letter
+abbrev pub meanings_in : Custom → Bindings → Meanings
+meanings_in custom bindings = record { holds_of = λ name ms. bound_holds custom bindings Automata name ms; has_letter = λ name ms letter. ⊥ }

@@ -1,0 +1,68 @@
+-- Definitions that commands make, and the ledger of what stands under each name.
+use Rattle.std.specs.Prelude.{ℕ, ℤ, List, Option, None, Some, if◌then◌else◌}
+use Rattle.std.specs.List.{fold}
+use Rattle.std.specs.Option.{option_map}
+use Rattle.wal_outside.specs.declared.folder.Folder.{Folder}
+use Rattle.wal_outside.specs.declared.folder.Folder.TheVariants.{Automata, Words}
+use Rattle.wal_outside.specs.Files.{Files, same_file}
+use Rattle.digit_tuple.specs.declared.direction.Direction.{Direction}
+use Rattle.formula_parse.specs.Trees as trees
+use Rattle.formula_resolve.specs.declared.file.File as formula_file
+use Rattle.formula_resolve.specs.declared.file.File.TheVariants.{Automaton, Word}
+use Rattle.regex_build.specs.Expression.{Expression}
+use Rattle.definitions.specs.Tracks.{NamedSystem, Tracks}
+
+-- a free variable of a formula, and the system of its numbers, read in a direction
+pub record Variable : Type 0 where
+  pub name : List ℕ
+  pub way : Direction
+  pub system : NamedSystem
+
+mutual
+  -- A definition: the bytes of a file; an expression over tracks; or a formula, with its free variables in byte order and the definitions
+  -- that its names stand for.
+  pub data Tree : Type 0 where
+    File : List ℕ → Tree
+    Regex : Tracks → Expression (List ℤ) → Tree
+    Formula : List Variable → trees.Formula → Bindings → Tree
+
+  -- what names in folders stand for; the last one of a name counts
+  pub data Bindings : Type 0 where
+    unbound : Bindings
+    bound : Bindings → Folder → List ℕ → Tree → Bindings
+
+-- what stands under a name: bytes, or a definition
+pub data Entry : Type 0 where
+  Bytes : List ℕ → Entry
+  Defined : Tree → Entry
+
+-- the entry under each name in each folder, where there is one
+abbrev pub Ledger : Type 0
+Ledger = Folder → List ℕ → Option Entry
+
+-- files as they were found: all entries are bytes
+abbrev pub ledger_of : Files → Ledger
+ledger_of files = λ folder name. option_map (λ bytes. Bytes bytes) (files folder name)
+
+-- the ledger with this entry at one name, and else as it was
+abbrev pub entered : Ledger → Folder → List ℕ → Entry → Ledger
+entered ledger folder name entry = λ f n. if same_file folder name f n then Some entry else ledger f n
+
+-- the definition of an entry
+abbrev pub tree_of : Entry → Tree
+tree_of (Bytes bytes) = File bytes
+tree_of (Defined tree) = tree
+
+-- a name bound to the definition of its entry, where there is one
+abbrev pub with_entry : Bindings → Folder → List ℕ → Option Entry → Bindings
+with_entry bindings folder name None = bindings
+with_entry bindings folder name (Some entry) = bound bindings folder name (tree_of entry)
+
+-- a file that a formula names, bound to what stands there
+abbrev pub with_file : Ledger → Bindings → formula_file.File → Bindings
+with_file ledger bindings (Automaton name) = with_entry bindings Automata name (ledger Automata name)
+with_file ledger bindings (Word name) = with_entry bindings Words name (ledger Words name)
+
+-- the definitions for which the files of a formula stand now
+abbrev pub bindings_of : Ledger → List formula_file.File → Bindings
+bindings_of ledger files = fold (with_file ledger) unbound files

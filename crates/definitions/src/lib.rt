@@ -1,0 +1,18 @@
+//! Definitions: what a stored file means, what a definition holds of, and the text that stores it.
+//!
+//! A definition (`Tree` in `specs/Trees.antt`) is the bytes of a file, an expression over tracks, or a formula with the
+//! definitions that its names stand for. `tree_holds` (`specs/TreeMeanings.antt`) says of which numbers it holds, `HasText`
+//! (`specs/Texts.antt`) which text stores it. The text of a definition, read as a file, holds of what the definition holds of,
+//! so that a command means the same under the definitions of names and under the files that stand for them.
+#![tactic(auto)]
+
+/// Laws of definitions.
+mod laws;
+
+/// The relation of what a file lists.
+mod table;
+
+pub use laws::{
+    bindings_matter_by_meaning, files_bind_as_their_ledger, one_text, texts_mean_their_trees,
+};
+pub use table::{files_are_tables, table_relation, tables_have_one_outcome, tables_hold};

@@ -1,0 +1,211 @@
+-- The header of what a file lists: a line of the file is read so, and its systems have one direction.
+use Rattle.std.proofs.Common.{◌≡◌, ℕ, zero, suc, ◌+◌, ◌<◌, Bool, true, false, ◌&&◌, ◌||◌, cond, eqb, List, [], ◌∷◌, length, take, drop, get_or, Option, None, Some, Result, Ok, Err, bytes_eq, refl, sym, ap, ◌∙◌, subst, arith}
+use Rattle.std.specs.Prelude.{ok_or, option_map, codes, nat_le}
+use Rattle.std.specs.List.{AllByRecursion, list_all}
+use Rattle.std.proofs.lemmas.Bool.{eqb-true}
+use Rattle.std.proofs.lemmas.Slice.Eq.{bytes_eq-Decides}
+use Rattle.dfa_reading.specs.Lines.{◌>>=◌, is_passed, lines_of, line_after, parts_of, each_of}
+use Rattle.dfa_reading.specs.Headers.{Header, Truth, Systems, Sets, digits_in, has_states, header_of, truth_of, sets_of, or_else}
+use Rattle.dfa_reading.specs.Systems.{is_system, is_direction, is_alphanumeric, system_of, directs_as, of_one_direction, systems_of}
+use Rattle.dfa_reading.specs.Listed.{Listed}
+use Rattle.dfa_reading.specs.Entries.{Entry, State, Line, entry_of}
+use Rattle.dfa_reading.specs.Reading.{Draft, no_draft, with_header, with_state, with_line, has_number, add_entry, add_to, add_line, add_lines, then_read, placed_lines, lists, finish_with, finish, relation_of}
+use Rattle.dfa_reading.proofs.Options.{bind_some, map_some, cond_some, cond_some-then, each_holds}
+use Rattle.digit_tuple.specs.declared.direction.Direction.TheVariants.{Msd, Lsd}
+use Rattle.formula_parse.specs.Tokens.{Name}
+use Rattle.formula_resolve.specs.Directions.{is_lsd}
+use Rattle.formula_build.specs.Resolved.{HaveOneWay}
+use Rattle.formula_build.specs.Solutions.{way_named}
+
+-- a line is read as this header
+abbrev pub IsHeaderOfLine : Header → Type 0
+IsHeaderOfLine header = (line : List ℕ) × (header_of line ≡ Some header)
+
+-- the header of a draft, where it has one, is that of a line
+abbrev IsHeaded : Draft → Type 0
+IsHeaded draft = (header : Header) → draft.header ≡ Some header → IsHeaderOfLine header
+
+then_ok : {A B : Type 0} (r : Result A ℕ) (f : A → Result B ℕ) (y : B) → then_read r f ≡ Ok y → (x : A) × (r ≡ Ok x) × (f x ≡ Ok y)
+then_ok (Ok x) f y h = (x, refl, h)
+then_ok (Err at) f y h = absurd (cc)
+
+ok_some : {A : Type 0} (o : Option A) (at : ℕ) (x : A) → ok_or o at ≡ Ok x → o ≡ Some x
+ok_some None at x h = absurd (cc)
+ok_some (Some y) at x h = let same : y ≡ x = cc in ap Some same
+
+entry_headed : (at : ℕ) (draft next : Draft) (entry : Entry) → add_entry at draft entry ≡ Some next → IsHeaded draft → IsHeaded next
+entry_headed at draft next (State n output) h is =
+    let added = cond_some (has_number draft.numbers n) (Some (with_state draft n output)) next h in
+    let same : with_state draft n output ≡ next = let e : Some (with_state draft n output) ≡ Some next = added.1 in cc in
+    subst IsHeaded same is
+entry_headed at draft next (Line digits targets) h is =
+    let added = cond_some (eqb (length draft.outputs) 0) (Some (with_line at draft digits targets)) next h in
+    let same : with_line at draft digits targets ≡ next = let e : Some (with_line at draft digits targets) ≡ Some next = added.1 in cc in
+    subst IsHeaded same is
+
+to_headed : (at : ℕ) (draft next : Draft) (line : List ℕ) (header : Option Header) → add_to at draft line header ≡ Some next → IsHeaded draft → IsHeaded next
+to_headed at draft next line None h is =
+    let read = map_some (header_of line) (with_header draft) next h in
+    let first : IsHeaded (with_header draft read.0) = λ other there. let same : read.0 ≡ other = let e : Some read.0 ≡ Some other = there in cc in (line, read.1 ∙ ap Some same) in
+    subst IsHeaded read.2 first
+to_headed at draft next line (Some header) h is =
+    let below = cond_some-then (has_states header) (entry_of (digits_in header) line >>= add_entry at draft) next h in
+    let read = bind_some (entry_of (digits_in header) line) (add_entry at draft) next below.1 in
+    entry_headed at draft next read.0 read.2 is
+
+line_headed : (at : ℕ) (draft next : Draft) (line : List ℕ) → add_line at draft line ≡ Some next → IsHeaded draft → IsHeaded next
+unfolding add_line
+line_headed at draft next line h is = by (is_passed line) h
+  where
+    by : (b : Bool) → cond b (Some draft) (add_to at draft line draft.header) ≡ Some next → IsHeaded next
+    by true e = let same : draft ≡ next = let f : Some draft ≡ Some next = e in cc in subst IsHeaded same is
+    by false e = to_headed at draft next line draft.header e is
+
+lines_headed : (at : ℕ) (draft last : Draft) (lines : List (List ℕ)) → add_lines at draft lines ≡ Ok last → IsHeaded draft → IsHeaded last
+lines_headed at draft last [] h is = let same : draft ≡ last = let e : Ok draft ≡ Ok last = h in cc in subst IsHeaded same is
+lines_headed at draft last (line ∷ lines) h is =
+    let first = then_ok (ok_or (add_line at draft line) at) (λ next. add_lines (at + 1) next lines) last h in
+    lines_headed (at + 1) first.0 last lines first.2 (line_headed at draft first.0 line (ok_some (add_line at draft line) at first.0 first.1) is)
+
+lists_header : (header : Header) (draft : Draft) (listed : Listed) → lists header draft ≡ Ok listed → listed.header ≡ header
+lists_header header draft listed h =
+    let placed = then_ok (placed_lines draft.numbers draft.lines) (λ lines. Ok (record { header = header; outputs = draft.outputs; lines = lines })) listed h in
+    let made : Listed = record { header = header; outputs = draft.outputs; lines = placed.0 } in
+    let same : made ≡ listed = let e : Ok made ≡ Ok listed = placed.2 in cc in
+    sym (ap (λ (l : Listed). l.header) same)
+
+finished_header : (after : ℕ) (header : Option Header) (draft : Draft) (listed : Listed) → finish_with after header draft ≡ Ok listed → header ≡ Some listed.header
+finished_header after None draft listed h = absurd (cc)
+finished_header after (Some header) draft listed h = by (has_states header && eqb (length draft.outputs) 0) h
+  where
+    by : (b : Bool) → cond b (Err after) (lists header draft) ≡ Ok listed → Some header ≡ Some listed.header
+    by true e = absurd (cc)
+    by false e = ap Some (sym (lists_header header draft listed e))
+
+-- the header of what a file lists is that of one of its lines
+pub header_of_line : (text : List ℕ) (listed : Listed) → relation_of text ≡ Ok listed → IsHeaderOfLine listed.header
+unfolding relation_of
+header_of_line text listed h =
+    let read = then_ok (add_lines 1 no_draft (lines_of text)) (finish (line_after (lines_of text))) listed h in
+    lines_headed 1 no_draft read.0 (lines_of text) read.1 (λ header none. let e : None ≡ Some header = none in absurd (cc)) listed.header (finished_header (line_after (lines_of text)) read.0.header read.0 listed read.2)
+
+-- a header of systems is a line of them
+or_else_some : {A : Type 0} (o other : Option A) (x : A) (P : Type 0) → (o ≡ Some x → P) → (other ≡ Some x → P) → or_else o other ≡ Some x → P
+or_else_some None other x P first second h = second h
+or_else_some (Some y) other x P first second h = first h
+
+line_of_systems : (line : List ℕ) (names : List (List ℕ)) → header_of line ≡ Some (Systems names) → systems_of line ≡ Some names
+unfolding header_of
+line_of_systems line names h =
+    or_else_some (option_map Truth (truth_of line)) (or_else (option_map Systems (systems_of line)) (option_map Sets (sets_of line))) (Systems names) (systems_of line ≡ Some names)
+    (λ e. let read = map_some (truth_of line) Truth (Systems names) e in let other : Truth read.0 ≡ Systems names = read.2 in absurd (cc))
+    (λ rest. or_else_some (option_map Systems (systems_of line)) (option_map Sets (sets_of line)) (Systems names) (systems_of line ≡ Some names)
+    (λ e. let read = map_some (systems_of line) Systems (Systems names) e in let same : read.0 ≡ names = let s : Systems read.0 ≡ Systems names = read.2 in cc in read.1 ∙ ap Some same)
+    (λ e. let read = map_some (sets_of line) Sets (Systems names) e in let other : Sets read.0 ≡ Systems names = read.2 in absurd (cc))
+    rest)
+    h
+
+-- the first byte of a name tells whether it begins with `lsd_`, of those that begin with a direction
+abbrev tells_lsd : List ℕ → Bool
+tells_lsd name = eqb (get_or name 0 0) 108
+
+begun_so : (name begin : List ℕ) → bytes_eq (take 4 name) begin ≡ true → take 4 name ≡ begin
+begun_so name begin same = (bytes_eq-Decides (take 4 name) begin).0 same
+
+by_first : (name : List ℕ) → is_direction (take 4 name) ≡ true → is_lsd name ≡ tells_lsd name
+by_first name is = by (bytes_eq (take 4 name) (codes "msd_")) refl is
+  where
+    first_of : (xs : List ℕ) → get_or xs 0 0 ≡ get_or (take 4 xs) 0 0
+    first_of [] = refl
+    first_of (x ∷ xs) = refl
+
+    Says : List ℕ → Type 0
+    Says begin = bytes_eq (codes "lsd_") begin ≡ eqb (get_or begin 0 0) 108
+
+    so : (begin : List ℕ) → take 4 name ≡ begin → Says begin → is_lsd name ≡ tells_lsd name
+    so begin same says = ap (bytes_eq (codes "lsd_")) same ∙ says ∙ ap (λ b. eqb (get_or b 0 0) 108) (sym same) ∙ ap (λ n. eqb n 108) (sym (first_of name))
+
+    by : (b : Bool) → bytes_eq (take 4 name) (codes "msd_") ≡ b → (b || bytes_eq (take 4 name) (codes "lsd_")) ≡ true → is_lsd name ≡ tells_lsd name
+    by true same either = so (codes "msd_") (begun_so name (codes "msd_") same) refl
+    by false apart either = so (codes "lsd_") (begun_so name (codes "lsd_") either) refl
+
+-- a system's name
+abbrev TellsWay : List ℕ → Type 0
+TellsWay name = is_lsd name ≡ tells_lsd name
+
+and_right : (a b : Bool) → (a && b) ≡ true → b ≡ true
+and_right true b h = h
+and_right false b h = absurd (cc)
+
+and_left : (a b : Bool) → (a && b) ≡ true → a ≡ true
+and_left true b h = refl
+and_left false b h = absurd (cc)
+
+is_system_tells : (part : List ℕ) → is_system part ≡ true → TellsWay part
+unfolding is_system
+is_system_tells part is =
+    let short = and_right (nat_le 5 (length part)) (nat_le (length part) 62 && (is_direction (take 4 part) && list_all is_alphanumeric (drop 4 part))) is in
+    let both = and_right (nat_le (length part) 62) (is_direction (take 4 part) && list_all is_alphanumeric (drop 4 part)) short in
+    by_first part (and_left (is_direction (take 4 part)) (list_all is_alphanumeric (drop 4 part)) both)
+
+-- names that begin with the same byte
+all_lsd : (name : List ℕ) (names : List (List ℕ)) → list_all (directs_as name) names ≡ true → AllByRecursion TellsWay names → AllByRecursion (λ other. is_lsd other ≡ tells_lsd name) names
+all_lsd name [] same tell = tt
+all_lsd name (other ∷ names) same tell =
+    let first : get_or other 0 0 ≡ get_or name 0 0 = eqb-true (get_or other 0 0) (get_or name 0 0) (and_left (directs_as name other) (list_all (directs_as name) names) same) in
+    (tell.0 ∙ ap (λ n. eqb n 108) first, all_lsd name names (and_right (directs_as name other) (list_all (directs_as name) names) same) tell.1)
+
+-- what holds of all holds at each place
+pub all_at : {X : Type 0} (P : X → Type 0) (xs : List X) (i : ℕ) (d : X) → i < length xs → AllByRecursion P xs → P (get_or xs i d)
+all_at P [] i d within all = absurd (omega (arith, within))
+all_at P (x ∷ xs) zero d within all = all.0
+all_at P (x ∷ xs) (suc i) d within all = all_at P xs i d (omega (arith, within)) all.1
+
+one_way_by : (lsd : Bool) (names : List Name) → AllByRecursion (λ name. is_lsd name ≡ lsd) names → HaveOneWay way_named names
+one_way_by lsd names all i j within also =
+    ap (λ b. cond b Lsd Msd) (all_at (λ name. is_lsd name ≡ lsd) names i [] within all ∙ sym (all_at (λ name. is_lsd name ≡ lsd) names j [] also all))
+
+one_way_of : (read names : List (List ℕ)) → of_one_direction read ≡ Some names → AllByRecursion TellsWay read → HaveOneWay way_named names
+one_way_of [] names h tell = absurd (cc)
+one_way_of (name ∷ rest) names h tell =
+    let is = cond_some-then (list_all (directs_as name) rest) (Some (name ∷ rest)) names h in
+    let same : name ∷ rest ≡ names = let e : Some (name ∷ rest) ≡ Some names = is.1 in cc in
+    subst (HaveOneWay way_named) same (one_way_by (tells_lsd name) (name ∷ rest) (tell.0, all_lsd name rest is.0 tell.1))
+
+-- the names of a line of systems are of one direction
+systems_one_way : (line : List ℕ) (names : List (List ℕ)) → systems_of line ≡ Some names → HaveOneWay way_named names
+unfolding systems_of
+systems_one_way line names h =
+    let read = bind_some (each_of system_of (parts_of line)) of_one_direction names h in
+    let tell : AllByRecursion TellsWay read.0 = each_holds system_of TellsWay (λ part name e. part_tells part name e) (parts_of line) read.0 read.1 in
+    one_way_of read.0 names read.2 tell
+  where
+    part_tells : (part name : List ℕ) → system_of part ≡ Some name → TellsWay name
+    part_tells part name e =
+        let is = cond_some-then (is_system part) (Some part) name e in
+        let same : part ≡ name = let s : Some part ≡ Some name = is.1 in cc in
+        subst TellsWay same (is_system_tells part is.0)
+
+some_of : (read names : List (List ℕ)) → of_one_direction read ≡ Some names → 0 < length names
+some_of [] names h = absurd (cc)
+some_of (name ∷ rest) names h =
+    let is = cond_some-then (list_all (directs_as name) rest) (Some (name ∷ rest)) names h in
+    let same : name ∷ rest ≡ names = let e : Some (name ∷ rest) ≡ Some names = is.1 in cc in
+    subst (λ (ns : List (List ℕ)). 0 < length ns) same (omega arith)
+
+-- and there is one
+systems_some : (line : List ℕ) (names : List (List ℕ)) → systems_of line ≡ Some names → 0 < length names
+unfolding systems_of
+systems_some line names h = let read = bind_some (each_of system_of (parts_of line)) of_one_direction names h in some_of read.0 names read.2
+
+-- the systems of what a file lists have one direction
+pub listed_one_way : (text : List ℕ) (listed : Listed) (names : List (List ℕ)) → relation_of text ≡ Ok listed → listed.header ≡ Systems names → HaveOneWay way_named names
+listed_one_way text listed names lists is =
+    let line = header_of_line text listed lists in
+    systems_one_way line.0 names (line_of_systems line.0 names (line.1 ∙ ap Some is))
+
+-- and where it has systems there is one
+pub listed_some : (text : List ℕ) (listed : Listed) (names : List (List ℕ)) → relation_of text ≡ Ok listed → listed.header ≡ Systems names → 0 < length names
+listed_some text listed names lists is =
+    let line = header_of_line text listed lists in
+    systems_some line.0 names (line_of_systems line.0 names (line.1 ∙ ap Some is))

@@ -1,0 +1,101 @@
+-- Tables over systems that a session has under their names are readable.
+use Rattle.std.proofs.Common.{◌≡◌, ℕ, suc, ◌<◌, List, [], ◌∷◌, length, get_or, None, Some, refl, sym, ◌∙◌, subst, arith}
+use Rattle.std.specs.List.{AllByRecursion, AllZip}
+use Rattle.wal_outside.specs.Files.{Files}
+use Rattle.digit_tuple.specs.declared.direction.Direction.{Direction}
+use Rattle.dfa_reading.specs.Headers.{Header, Truth, Systems, Sets}
+use Rattle.dfa_loading.specs.Headers.{headers_of}
+use Rattle.dfa_loading.specs.Loading.{AreListedBy}
+use Rattle.dfa_loading.specs.declared.loaded.Loaded.{Loaded}
+use Rattle.num_system.specs.Sealed.{SystemValue}
+use Rattle.number_relations.specs.Relations.{HaveOneWay}
+use Rattle.formula_parse.specs.Tokens.{Name}
+use Rattle.formula_parse.specs.Trees as trees
+use Rattle.formula_resolve.specs.FirstMentions.{first_files, first_systems, IsOnce}
+use Rattle.formula_resolve.specs.Headers.{Headers, known, automaton_tracks}
+use Rattle.formula_resolve.specs.Mentions.{mentions}
+use Rattle.formula_resolve.specs.Resolving.{fault_of}
+use Rattle.formula_resolve.specs.declared.file.File.{File}
+use Rattle.formula_resolve.specs.declared.file.File.TheVariants.{Automaton, Word}
+use Rattle.formula_build.specs.Libraries.{NamedSystem, system_named}
+use Rattle.formula_build.specs.Resolved as resolved
+use Rattle.formula_build.specs.Solutions.{way_named}
+use Rattle.definitions.specs.Named.{Custom}
+use Rattle.definitions.specs.TableLaws.{FilesAreTables}
+use Rattle.definitions.specs.TableSteps.{IsTable}
+use Rattle.session_cli.specs.FormulaPlans.{HasSystems}
+use Rattle.session_cli.specs.FormulaSteps.{AreMeant, AreSystemsUnder}
+use Rattle.session_cli.specs.SealedSystems.{HasSystemIn}
+use Rattle.session_cli.specs.TableReading.{IsReadable, AreReadable}
+use Rattle.session_cli.proofs.MeantNames.{found_way}
+use Rattle.session_cli.proofs.TableNames.{named_apart}
+use Rattle.session_cli.proofs.TableHeaders.{systems_in, IsKeptIn, headers_kept, tracks_kept, IsOneWay, tables_one_way}
+use Rattle.session_cli.proofs.MentionedTables.{IsNotOverSets, none_over_sets, tables_systems}
+
+-- what stands under each of some names
+abbrev AreUnder : List NamedSystem → List Name → List SystemValue → Type 0
+AreUnder systems names tracks = AllZip (λ name s. system_named systems name ≡ Some s) names tracks
+
+-- a system for each name
+tracks_under : (systems : List NamedSystem) (names : List Name) → AllByRecursion (HasSystemIn systems) names → (tracks : List SystemValue) × AreUnder systems names tracks
+tracks_under systems [] has = ([], tt)
+tracks_under systems (name ∷ names) has = let rest = tracks_under systems names has.1 in (has.0.0 ∷ rest.0, (has.0.1, rest.1))
+
+-- each system has the direction that its name tells
+under_ways : (systems : List NamedSystem) (names : List Name) (tracks : List SystemValue) (way : Direction) → AreMeant (λ _. None) systems → AllByRecursion (λ name. way_named name ≡ way) names → AreUnder systems names tracks → AllByRecursion (λ (s : SystemValue). s.way ≡ way) tracks
+under_ways systems [] [] way are ways under = tt
+under_ways systems [] (s ∷ tracks) way are ways under = absurd under
+under_ways systems (name ∷ names) [] way are ways under = absurd under
+under_ways systems (name ∷ names) (s ∷ tracks) way are ways under = (found_way (λ _. None) systems name s are under.0 ∙ ways.0, under_ways systems names tracks way are ways.1 under.1)
+
+-- names of one direction have that of the first
+as_first : (names : List Name) (way : Direction) → ((i : ℕ) → i < length names → way_named (get_or names i []) ≡ way) → AllByRecursion (λ name. way_named name ≡ way) names
+as_first [] way each = tt
+as_first (name ∷ names) way each = (each 0 (omega arith), as_first names way (λ i within. each (suc i) (omega (arith, within))))
+
+-- so systems under names of one direction have one direction
+pub under_one_way : (systems : List NamedSystem) (names : List Name) (tracks : List SystemValue) → AreMeant (λ _. None) systems → resolved.HaveOneWay way_named names → AreUnder systems names tracks → HaveOneWay tracks
+under_one_way systems [] [] are one under = tt
+under_one_way systems [] (s ∷ tracks) are one under = absurd under
+under_one_way systems (name ∷ names) [] are one under = absurd under
+under_one_way systems (name ∷ names) (s ∷ tracks) are one under =
+    let ways : AllByRecursion (λ n. way_named n ≡ s.way) (name ∷ names) = as_first (name ∷ names) s.way (λ i within. one i 0 within (omega arith) ∙ sym (found_way (λ _. None) systems name s are under.0)) in
+    under_ways systems (name ∷ names) (s ∷ tracks) s.way are ways under
+
+-- a table is readable whose systems are there
+readable : (systems : List NamedSystem) (table : Loaded) → AreMeant (λ _. None) systems → IsTable table.listed → IsNotOverSets table → IsOneWay table → AllByRecursion (HasSystemIn systems) (known (systems_in table.listed.header)) → IsReadable systems table
+readable systems table are is_table plain one has = by table.listed.header refl one has
+  where
+    made : (header : Header) (tracks : List SystemValue) → table.listed.header ≡ header → AreSystemsUnder systems header tracks → HaveOneWay tracks → IsReadable systems table
+    made header tracks is over one_way = record {
+      is_table = is_table;
+      tracks = tracks;
+      over = subst (λ (h : Header). AreSystemsUnder systems h tracks) (sym is) over;
+      one_way = one_way;
+    }
+
+    by : (header : Header) → table.listed.header ≡ header → resolved.HaveOneWay way_named (known (systems_in header)) → AllByRecursion (HasSystemIn systems) (known (systems_in header)) → IsReadable systems table
+    by (Truth value) is ways under = made (Truth value) [] is refl tt
+    by (Systems names) is ways under = let tracks = tracks_under systems names under in made (Systems names) tracks.0 is tracks.1 (under_one_way systems names tracks.0 are ways tracks.1)
+    by (Sets sets) is ways under = absurd (plain sets is)
+
+all_readable : (systems : List NamedSystem) (files : Files) (named : List File) (tables : List Loaded) (h : Headers) → FilesAreTables → AreMeant (λ _. None) systems → AreListedBy files named tables
+    → AllByRecursion (IsKeptIn h) tables → AllByRecursion IsNotOverSets tables → AllByRecursion IsOneWay tables → AllByRecursion (λ (t : Loaded). AllByRecursion (HasSystemIn systems) (automaton_tracks h t.name)) tables → AreReadable systems tables
+all_readable systems files [] [] h law are listed own plain one has = tt
+all_readable systems files [] (table ∷ tables) h law are listed own plain one has = absurd listed
+all_readable systems files (file ∷ named) [] h law are listed own plain one has = absurd listed
+all_readable systems files (Word m ∷ named) (table ∷ tables) h law are listed own plain one has = absurd listed.0
+all_readable systems files (Automaton m ∷ named) (table ∷ tables) h law are listed own plain one has =
+    let under : AllByRecursion (HasSystemIn systems) (known (systems_in table.listed.header)) = subst (AllByRecursion (HasSystemIn systems)) (tracks_kept h table own.0) has.0 in
+    (readable systems table are (law listed.0.text table.listed listed.0.lists.lists) plain.0 one.0 under, all_readable systems files named tables h law are listed.1 own.1 plain.1 one.1 has.1)
+
+-- the tables of a formula without fault are readable by the systems that it mentions
+pub tables_readable : FilesAreTables → (systems : List NamedSystem) (files : Files) (tables : List Loaded) (formula : trees.Formula) → IsOnce (first_files (mentions formula)) → AreListedBy files (first_files (mentions formula)) tables
+    → fault_of (headers_of tables) formula ≡ None → HasSystems (first_systems (headers_of tables) (mentions formula)) systems → ((custom : Custom) → AreMeant custom systems) → AreReadable systems tables
+tables_readable law systems files tables formula once listed none has meant =
+    let h : Headers = headers_of tables in
+    all_readable systems files (first_files (mentions formula)) tables h law (meant (λ _. None)) listed
+    (headers_kept tables (named_apart files (first_files (mentions formula)) tables once listed))
+    (none_over_sets files tables formula once listed none)
+    (tables_one_way files (first_files (mentions formula)) tables listed)
+    (tables_systems (HasSystemIn systems) h files (mentions formula) tables listed has.mentioned)

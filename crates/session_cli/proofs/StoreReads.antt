@@ -1,0 +1,134 @@
+-- What is given by the files that a command finds, from its parts.
+use Rattle.std.proofs.Common.{◌≡◌, Bool, false, Option, None, Some, IfSome, Result, Ok, Err, refl, arith}
+use Rattle.std.specs.Prelude.{⊤}
+use Rattle.wal_outside.specs.Files.{Files}
+use Rattle.wal_outside.specs.Places.{Place}
+use Rattle.wal_outside.specs.Views.{StoreView}
+use Rattle.session_cli.specs.declared.fault.Fault.{Fault}
+use Rattle.session_cli.specs.declared.fault.Fault.TheVariants as faults
+use Rattle.formula_parse.specs.declared.fault.ParseFault.{ParseFault}
+use Rattle.formula_parse.specs.declared.fault.ParseFault.TheVariants as parses
+use Rattle.session_cli.specs.FormulaFaults.{fault_of_formula}
+use Rattle.session_cli.specs.declared.plan.Made.{Made}
+use Rattle.session_cli.specs.declared.plan.Plan.{Plan}
+use Rattle.session_cli.specs.Checks.{Check, Fails}
+use Rattle.session_cli.specs.Accepting.{Success}
+use Rattle.session_cli.specs.Plans.{Makes, Plans}
+use Rattle.session_cli.specs.Runs.{is_store_fault}
+use Rattle.session_cli.specs.StoreReads.{IsReadFault, HasRead, FromFiles}
+
+-- files that are the store's where it tells them
+found_in : Option Files → Files
+found_in None = λ folder name. None
+found_in (Some files) = files
+
+found_told : (told : Option Files) → IfSome told (λ files. found_in told ≡ files)
+unfolding found_in
+found_told None = tt
+found_told (Some files) = refl
+
+-- a fault that is not the store's leaves which call failed last
+kept : (store : StoreView) (f : Fault) → is_store_fault f ≡ false → IsReadFault f store store
+kept store (faults.Store folder name) other = cc
+kept store faults.Memory other = refl
+kept store faults.Command other = refl
+kept store (faults.Syntax grammar at) other = refl
+kept store (faults.Number grammar at) other = refl
+kept store (faults.Depth grammar at) other = refl
+kept store (faults.Long bytes) other = refl
+kept store (faults.SystemUnknown name) other = refl
+kept store (faults.Direction first second) other = refl
+kept store (faults.Letters step) other = refl
+kept store (faults.States step) other = refl
+kept store faults.ScriptLimit other = refl
+kept store (faults.MixedChain byte) other = refl
+kept store (faults.NotLinear byte) other = refl
+kept store (faults.Unknown of file) other = refl
+kept store (faults.File of file flaw) other = refl
+kept store (faults.Arity of tracks given) other = refl
+kept store (faults.Clash of one two) other = refl
+kept store (faults.Plain of) other = refl
+
+-- a later fault that is not the store's keeps what was read before
+moved : (old new : StoreView) (f : Fault) → is_store_fault f ≡ false → new.failed ≡ old.failed → IsReadFault f old new
+moved old new (faults.Store folder name) other is = cc
+moved old new faults.Memory other is = is
+moved old new faults.Command other is = is
+moved old new (faults.Syntax grammar at) other is = is
+moved old new (faults.Number grammar at) other is = is
+moved old new (faults.Depth grammar at) other is = is
+moved old new (faults.Long bytes) other is = is
+moved old new (faults.SystemUnknown name) other is = is
+moved old new (faults.Direction first second) other is = is
+moved old new (faults.Letters step) other is = is
+moved old new (faults.States step) other is = is
+moved old new faults.ScriptLimit other is = is
+moved old new (faults.MixedChain byte) other is = is
+moved old new (faults.NotLinear byte) other is = is
+moved old new (faults.Unknown of file) other is = is
+moved old new (faults.File of file flaw) other is = is
+moved old new (faults.Arity of tracks given) other is = is
+moved old new (faults.Clash of one two) other is = is
+moved old new (faults.Plain of) other is = is
+
+-- what is no store fault
+abbrev pub IsOwn : {X : Type 0} → Result X Fault → Type 0
+IsOwn (Ok x) = ⊤
+IsOwn (Err fault) = is_store_fault fault ≡ false
+
+-- what is given whatever files are found, where nothing is read
+pub from_none : {X : Type 0} (Gives : Files → Result X Fault → Type 0) (store : StoreView) (r : Result X Fault) → IsOwn r → ((found : Files) → Gives found r) → FromFiles Gives store r store
+from_none Gives store (Ok x) own gives = record { found = found_in store.files; told = found_told store.files; gives = gives (found_in store.files); has_read = record { files = refl; later = omega arith; cause = refl } }
+from_none Gives store (Err f) own gives = record { found = found_in store.files; told = found_told store.files; gives = gives (found_in store.files); has_read = record { files = refl; later = omega arith; cause = kept store f own } }
+
+-- a part that reads refuses, and so does the whole
+pub from_refused : {X Y : Type 0} (First : Files → Result X Fault → Type 0) (Gives : Files → Result Y Fault → Type 0) (old new : StoreView) (f : Fault) → FromFiles First old (Err f) new → ((found : Files) → First found (Err f) → Gives found (Err f)) → FromFiles Gives old (Err f) new
+from_refused First Gives old new f first so = record { found = first.found; told = first.told; gives = so first.found first.gives; has_read = record { files = first.has_read.files; later = first.has_read.later; cause = first.has_read.cause } }
+
+-- a part that reads goes on to what reads nothing
+pub from_read : {X Y : Type 0} (First : Files → Result X Fault → Type 0) (Gives : Files → Result Y Fault → Type 0) (old new : StoreView) (x : X) (r : Result Y Fault) → IsOwn r → FromFiles First old (Ok x) new → ((found : Files) → First found (Ok x) → Gives found r) → FromFiles Gives old r new
+from_read First Gives old new x (Ok y) own first so = record { found = first.found; told = first.told; gives = so first.found first.gives; has_read = record { files = first.has_read.files; later = first.has_read.later; cause = first.has_read.cause } }
+from_read First Gives old new x (Err f) own first so = record { found = first.found; told = first.told; gives = so first.found first.gives; has_read = record { files = first.has_read.files; later = first.has_read.later; cause = moved old new f own first.has_read.cause } }
+
+-- what is given by a part is given by the whole
+pub from_part : {X : Type 0} (First : Files → Result X Fault → Type 0) (Gives : Files → Result X Fault → Type 0) (old new : StoreView) (r : Result X Fault) → FromFiles First old r new → ((found : Files) → First found r → Gives found r) → FromFiles Gives old r new
+from_part First Gives old new r first so = record { found = first.found; told = first.told; gives = so first.found first.gives; has_read = first.has_read }
+
+-- checks that read nothing are not refused by the store
+pub own_fault : {Y : Type 0} (check : Check Y) → ((place : Place) → check.reads place → ⊥) → (f : Fault) → Fails check f → is_store_fault f ≡ false
+own_fault check none (faults.Store folder name) refused = absurd (none (folder, name) refused)
+own_fault check none faults.Memory refused = refl
+own_fault check none faults.Command refused = refl
+own_fault check none (faults.Syntax grammar at) refused = refl
+own_fault check none (faults.Number grammar at) refused = refl
+own_fault check none (faults.Depth grammar at) refused = refl
+own_fault check none (faults.Long bytes) refused = refl
+own_fault check none (faults.SystemUnknown name) refused = refl
+own_fault check none (faults.Direction first other) refused = refl
+own_fault check none (faults.Letters step) refused = refl
+own_fault check none (faults.States step) refused = refl
+own_fault check none faults.ScriptLimit refused = refl
+own_fault check none (faults.MixedChain byte) refused = refl
+own_fault check none (faults.NotLinear byte) refused = refl
+own_fault check none (faults.Unknown of file) refused = refl
+own_fault check none (faults.File of file flaw) refused = refl
+own_fault check none (faults.Arity of tracks given) refused = refl
+own_fault check none (faults.Clash of one two) refused = refl
+own_fault check none (faults.Plain of) refused = refl
+
+pub own_made : (checks : Check Success) → ((place : Place) → checks.reads place → ⊥) → (shown : Bool) (r : Result Made Fault) → Makes checks shown r → IsOwn r
+own_made checks none shown (Ok made) makes = tt
+own_made checks none shown (Err f) refused = own_fault checks none f refused
+
+pub own_plan : (checks : Check Success) → ((place : Place) → checks.reads place → ⊥) → (shown : Bool) (r : Result Plan Fault) → Plans checks shown r → IsOwn r
+own_plan checks none shown (Ok plan) plans = tt
+own_plan checks none shown (Err f) refused = own_fault checks none f refused
+
+-- a fault of a formula's text is none of the store
+pub own_parse : (fault : ParseFault) → is_store_fault (fault_of_formula fault) ≡ false
+own_parse (parses.Syntax at) = refl
+own_parse (parses.Number at) = refl
+own_parse (parses.Depth at) = refl
+own_parse (parses.MixedChain at) = refl
+own_parse (parses.NotLinear at) = refl
+own_parse parses.Memory = refl

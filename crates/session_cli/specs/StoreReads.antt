@@ -1,0 +1,27 @@
+-- Commands that read a store: what they give is said of some files, which are the store's where it tells them.
+use Rattle.std.specs.Prelude.{◌≡◌, ◌≤◌, Option, Some, Result, MatchResult}
+use Rattle.std.specs.Option.{option_map}
+use Rattle.wal_outside.specs.Causes.{Rose}
+use Rattle.wal_outside.specs.Files.{Files}
+use Rattle.wal_outside.specs.Views.{StoreView}
+use Rattle.dfa_loading.specs.Places.{AreTold}
+use Rattle.session_cli.specs.declared.fault.Fault.{Fault}
+use Rattle.session_cli.specs.declared.fault.Fault.TheVariants as faults
+
+-- the count of faults rose, and the last call that failed is the one at this place; or no call failed
+abbrev pub IsReadFault : Fault → StoreView → StoreView → Type 0
+IsReadFault (faults.Store folder name) old new = Rose old.faults new.faults × (new.failed ≡ option_map (λ _. Some (folder, name)) old.failed)
+IsReadFault fault old new = new.failed ≡ old.failed
+
+-- reading changes no text, and a store fault comes only where a call failed
+pub record HasRead {X : Type 0} (old : StoreView) (result : Result X Fault) (new : StoreView) : Type 0 where
+  pub files : new.files ≡ old.files
+  pub later : old.faults ≤ new.faults
+  pub cause : MatchResult result (λ _. new.failed ≡ old.failed) (λ fault. IsReadFault fault old new)
+
+-- what is given by the files that were found
+pub record FromFiles {X : Type 0} (Gives : Files → Result X Fault → Type 0) (old : StoreView) (result : Result X Fault) (new : StoreView) : Type 0 where
+  pub found : Files
+  pub told : AreTold old found
+  pub gives : Gives found result
+  pub has_read : HasRead old result new

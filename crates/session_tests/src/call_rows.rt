@@ -1,0 +1,291 @@
+//! Calls of automata: what is printed of scripts over stores that hold files.
+
+use crate::whole::{Left, Outside, SURE, run_over};
+use session_cli::Status;
+use std::alloc::Global;
+use std::process::Abort;
+use std::test::Fail;
+use wal_outside::{Folder, MemStore};
+
+/// A file among the automata, by its name and its text; or none, where the name is empty.
+type FileRow = (&'static str, &'static str);
+
+const NONE: FileRow = ("", "");
+
+/// Scripts that call what they made before, and what they print.
+static CALLS: [(&str, &str); 22] = [
+    (
+        "reg one msd_2 \"1\"; eval t \"$one(1) & ~$one(2)\";",
+        "TRUE\n",
+    ),
+    (
+        "def f \"x=1\"; def g \"$f(x)\"; def f \"x=2\"; eval t \"$g(1)\";",
+        "TRUE\n",
+    ),
+    (
+        "def f \"x=1\"; eval t \"$f(1,2)\";",
+        "error 1: F13 Arity f 1 2\n",
+    ),
+    (
+        "reg ab {0,1} \"0*1\"; eval t \"$ab(1)\";",
+        "error 1: F21 Plain ab\n",
+    ),
+    (
+        "def f \"x=y+1\"; def g \"$f(x,x)\":",
+        "step 1 read 3 2\nstep 2 pad 4 2\nstep 3 valid 3 2\n",
+    ),
+    (
+        "def f \"x=y+1\"; def h \"$f(x,3)\":",
+        "step 1 read 3 2\nstep 2 pad 4 2\nstep 3 valid 3 2\nstep 4 const 4 3\nstep 5 product 12 4\nstep 6 project 5 4\n",
+    ),
+    (
+        "def f \"x=y+1\"; def k \"$f(2*x,y+1)\":",
+        "step 1 read 3 2\nstep 2 pad 4 2\nstep 3 valid 3 2\nstep 4 const 3 2\nstep 5 product 9 3\nstep 6 project 3 2\nstep 7 product 9 4\nstep 8 project 4 3\nstep 9 product 12 4\nstep 10 project 5 4\n",
+    ),
+    (
+        "def a \"x=1\"; def a \"$a(x-1)\"; def a \"$a(x-1)\": eval t \"$a(3) & ~$a(1)\";",
+        "step 1 read 4 3\nstep 2 pad 4 3\nstep 3 valid 4 3\nstep 4 const 3 2\nstep 5 product 9 3\nstep 6 project 3 2\nstep 7 product 12 3\nstep 8 project 4 3\nTRUE\n",
+    ),
+    (
+        "def s \"1=1\"; eval t \"$s() & Ex x=1\":",
+        "step 1 const 3 2\nstep 2 project 1 1\nstep 3 product 1 1\nTRUE\n",
+    ),
+    (
+        "def s \"1=1\"; eval u \"$s(1)\";",
+        "error 1: F13 Arity s 0 1\n",
+    ),
+    (
+        "eval s \"1=1\"; eval t \"$s()\";",
+        "TRUE\nerror 1: F11 Unknown Automata Library/s\n",
+    ),
+    (
+        "eval t \"$q(1) & $r(1)\";",
+        "error 1: F11 Unknown Automata Library/q\n",
+    ),
+    (
+        "eval t \"0=0 & ~?msd_3 x=1 & ?msd_77 1=1 & $q(1)\";",
+        "error 1: F11 Unknown Automata Library/q\n",
+    ),
+    (
+        "def f \"x=1\"; eval t \"$f(x) & $q(x)\";",
+        "error 1: F11 Unknown Automata Library/q\n",
+    ),
+    (
+        "def f \"x=1\"; eval t \"$f(x,y) & ?msd_77 z=z\";",
+        "error 1: F14 SystemUnknown msd_77\n",
+    ),
+    (
+        "def f \"?msd_3 x=1\"; eval t \"?msd_2 x=1 & $f(x)\";",
+        "error 1: F16 Clash x msd_2 msd_3\n",
+    ),
+    (
+        "def f \"?lsd_2 x=1\"; eval t \"?msd_2 x=1 & $f(y)\";",
+        "error 1: F17 Direction msd_2 lsd_2\n",
+    ),
+    (
+        "def f \"?msd_fib x=5\"; eval t \"?msd_fib Ex $f(x+1) & x=4\";",
+        "TRUE\n",
+    ),
+    (
+        "def lt \"x<y\"; eval t \"Ax,y,z ($lt(x,y) & $lt(y,z)) => $lt(x,z)\";",
+        "TRUE\n",
+    ),
+    (
+        "def e \"Ey x=y+y\"; eval t \"Ax $e(x) <=> ~$e(x+1)\";",
+        "TRUE\n",
+    ),
+    (
+        "def e \"Ey x=y+y\"; eval t \"Ex $e(x-1) & x=0\";",
+        "FALSE\n",
+    ),
+    (
+        "def T \"x=1\"; eval t \"$T(1) & T[0]=@0\";",
+        "error 1: F11 Unknown Word Automata Library/T\n",
+    ),
+];
+
+/// A file, a script that calls it, and what this prints.
+static FILES: [(FileRow, &str, &str); 14] = [
+    (
+        ("b", "msd_2\n\n0 1\n0 -> 1\n"),
+        "eval w \"$b(0)\";",
+        "error 1: F12 File Automata Library/b line 4\n",
+    ),
+    (
+        ("b", "msd_2\n0 1\n0 -> 0\n0 0\n"),
+        "eval w \"$b(0)\";",
+        "error 1: F12 File Automata Library/b line 4\n",
+    ),
+    (
+        ("b", "msd_2\n0 1\n2 -> 0\n"),
+        "eval w \"$b(0)\";",
+        "error 1: F12 File Automata Library/b line 3\n",
+    ),
+    (
+        ("b", "msd_2\n0 -> 0\n"),
+        "eval w \"$b(0)\";",
+        "error 1: F12 File Automata Library/b line 2\n",
+    ),
+    (
+        ("b", ""),
+        "eval w \"$b(0)\";",
+        "error 1: F12 File Automata Library/b line 1\n",
+    ),
+    (
+        ("b", "msd_2\r\n0 1\r\n0 -> 0\r\n"),
+        "eval w \"$b(0)\";",
+        "TRUE\n",
+    ),
+    (("b", "true\n"), "eval w \"$b()\";", "TRUE\n"),
+    (("b", "false"), "eval w \"$b() | 1=2\";", "FALSE\n"),
+    (
+        ("b", "true\n"),
+        "eval w \"$b(x)\";",
+        "error 1: F13 Arity b 0 1\n",
+    ),
+    (
+        ("b", "{0,1}\n0 1\n"),
+        "eval w \"$b(1)\";",
+        "error 1: F21 Plain b\n",
+    ),
+    (
+        ("b", "msd_nope\n0 1\n"),
+        "eval w \"$b(1)\";",
+        "error 1: F14 SystemUnknown msd_nope\n",
+    ),
+    (
+        ("b", "msd_2 lsd_2\n0 1\n"),
+        "eval w \"$b(1,1)\";",
+        "error 1: F12 File Automata Library/b line 1\n",
+    ),
+    (
+        ("b", "msd_2\n# c\n7 1\n* -> 7\n"),
+        "eval w \"Ax $b(x)\":",
+        "step 1 read 1 1\nstep 2 pad 2 1\nstep 3 valid 1 1\nstep 4 complement 1 1\nstep 5 project 1 1\nstep 6 complement 1 1\nTRUE\n",
+    ),
+    (
+        (
+            "b",
+            "msd_2\n0 1\n0 -> 0\n0 -> 1\n1 -> 1\n1 1\n0 1\n0 -> 0\n",
+        ),
+        "eval w \"$b(0)\";",
+        "error 1: F12 File Automata Library/b line 7\n",
+    ),
+];
+
+/// Runs a script over a store with this file among the automata.
+fn run_with(alloc: Global, file: FileRow, script: &str, outside: &Outside) -> Result<Left, Fail> {
+    let (name, text) = file;
+    let mut store = MemStore::new(alloc, Vec::from_slice(alloc, outside.failing_store)?);
+    if !name.is_empty() {
+        store.put(Folder::Automata, name, text.as_bytes())?;
+    }
+    Ok(run_over(alloc, &["walnut"], script.as_bytes(), outside, store)?)
+}
+
+/// The script prints this over a store with the file.
+fn expect_printed(
+    rt: &impl Abort,
+    alloc: Global,
+    file: FileRow,
+    script: &str,
+    printed: &str,
+) -> Result<(), Fail> {
+    let left = run_with(alloc, file, script, &SURE)?;
+    assert_eq!(rt; left.out.held(), printed.as_bytes(), "what {script} prints");
+    Ok(())
+}
+
+fn expect_calls(rt: &impl Abort, alloc: Global, rows: &[(&str, &str)]) -> Result<(), Fail> {
+    for (script, printed) in rows {
+        expect_printed(rt, alloc, NONE, script, printed)?;
+    }
+    Ok(())
+}
+
+fn expect_files(
+    rt: &impl Abort,
+    alloc: Global,
+    rows: &[(FileRow, &str, &str)],
+) -> Result<(), Fail> {
+    for (file, script, printed) in rows {
+        expect_printed(rt, alloc, *file, script, printed)?;
+    }
+    Ok(())
+}
+
+#[test]
+fn calls_print_as_listed(rt: HostRuntime) -> Result<(), Fail> {
+    expect_calls(&rt, rt.alloc(), &CALLS)
+}
+
+#[test]
+fn files_are_called_as_listed(rt: HostRuntime) -> Result<(), Fail> {
+    expect_files(&rt, rt.alloc(), &FILES)
+}
+
+/// Four commands, each of which calls the one before it.
+const CHAIN: &str =
+    "def a \"x=1\"; def b \"$a(x-1)\"; def c \"$b(x-1) | $a(x)\"; eval t \"$c(3)\";";
+
+/// The number of the store's call that fails, what is printed, and the status.
+static FAILING: [(u64, &str); 9] = [
+    (
+        1,
+        "error 1: F26 Store Automata Library/a\nerror 1: F11 Unknown Automata Library/a\nerror 1: F11 Unknown Automata Library/b\nerror 1: F11 Unknown Automata Library/c\n",
+    ),
+    (
+        2,
+        "error 1: F26 Store Automata Library/a\nerror 1: F11 Unknown Automata Library/b\nerror 1: F11 Unknown Automata Library/c\n",
+    ),
+    (
+        3,
+        "error 1: F26 Store Automata Library/b\nerror 1: F11 Unknown Automata Library/b\nerror 1: F11 Unknown Automata Library/c\n",
+    ),
+    (
+        4,
+        "error 1: F26 Store Automata Library/b\nerror 1: F11 Unknown Automata Library/c\n",
+    ),
+    (
+        5,
+        "error 1: F26 Store Automata Library/a\nerror 1: F11 Unknown Automata Library/c\n",
+    ),
+    (
+        6,
+        "error 1: F26 Store Automata Library/c\nerror 1: F11 Unknown Automata Library/c\n",
+    ),
+    (7, "error 1: F26 Store Automata Library/c\n"),
+    (8, "error 1: F26 Store Result/t\n"),
+    (9, "TRUE\n"),
+];
+
+/// Runs the chain over a store whose call of this number fails.
+fn run_to_call(alloc: Global, failing: u64) -> Result<Left, Fail> {
+    let mut calls = Vec::new(alloc);
+    calls.push(failing)?;
+    let store = MemStore::new(alloc, calls);
+    Ok(run_over(alloc, &["walnut"], CHAIN.as_bytes(), &SURE, store)?)
+}
+
+fn expect_failing(rt: &impl Abort, alloc: Global, rows: &[(u64, &str)]) -> Result<(), Fail> {
+    for (failing, printed) in rows {
+        let left = run_to_call(alloc, *failing)?;
+        assert_eq!(rt;
+            left.out.held(),
+            printed.as_bytes(),
+            "where call {failing} fails"
+        );
+        let status = if *failing < 9 {
+            Status::Outside
+        } else {
+            Status::Done
+        };
+        assert_eq!(rt; left.status, status, "where call {failing} fails");
+    }
+    Ok(())
+}
+
+#[test]
+fn a_store_that_fails_at_each_call(rt: HostRuntime) -> Result<(), Fail> {
+    expect_failing(&rt, rt.alloc(), &FAILING)
+}
