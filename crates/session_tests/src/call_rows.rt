@@ -5,7 +5,7 @@ use session_cli::Status;
 use std::alloc::Global;
 use std::process::Abort;
 use std::test::Fail;
-use wal_outside::{Folder, MemStore};
+use wal_outside::{Folder, MemStore, TEXT_LIMIT};
 
 /// A file among the automata, by its name and its text; or none, where the name is empty.
 type FileRow = (&'static str, &'static str);
@@ -48,11 +48,11 @@ static CALLS: [(&str, &str); 22] = [
     ),
     (
         "def s \"1=1\"; eval t \"$s() & Ex x=1\":",
-        "step 1 const 3 2\nstep 2 project 1 1\nstep 3 product 1 1\nTRUE\n",
+        "TRUE\nstep 1 const 3 2\nstep 2 project 1 1\nstep 3 product 1 1\nTRUE\n",
     ),
     (
         "def s \"1=1\"; eval u \"$s(1)\";",
-        "error 1: F13 Arity s 0 1\n",
+        "TRUE\nerror 1: F13 Arity s 0 1\n",
     ),
     (
         "eval s \"1=1\"; eval t \"$s()\";",
@@ -288,4 +288,28 @@ fn expect_failing(rt: &impl Abort, alloc: Global, rows: &[(u64, &str)]) -> Resul
 #[test]
 fn a_store_that_fails_at_each_call(rt: HostRuntime) -> Result<(), Fail> {
     expect_failing(&rt, rt.alloc(), &FAILING)
+}
+
+/// A file of one byte more than may be read is refused without a look at its format.
+#[test]
+fn a_file_has_at_most_16777216_bytes(rt: HostRuntime) -> Result<(), Fail> {
+    let alloc = rt.alloc();
+    let text = blank_lines(alloc, TEXT_LIMIT + 1)?;
+    let mut store = MemStore::new(alloc, Vec::new(alloc));
+    store.put(Folder::Automata, "b", &text)?;
+    let left = run_over(alloc, &["walnut"], b"eval w \"$b(0)\";", &SURE, store)?;
+    assert_eq!(rt;
+        left.out.held(),
+        b"error 1: F12 File Automata Library/b too long\n".as_slice()
+    );
+    Ok(())
+}
+
+/// So many line ends.
+fn blank_lines(alloc: Global, count: usize) -> Result<Vec<u8>, Fail> {
+    let mut text = Vec::with_capacity(alloc, count)?;
+    for _ in 0..count {
+        text.push(b'\n')?;
+    }
+    Ok(text)
 }
