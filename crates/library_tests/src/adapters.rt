@@ -1,6 +1,7 @@
 //! The adapters over the system's own readers, writers and files.
 
 use std::io::{ErrorKind, Read, Write};
+use std::process::Abort;
 use std::test::Fail;
 use std::{env, fs, io};
 use wal_outside::{
@@ -57,13 +58,21 @@ static READS: [(Result<usize, Failed>, [u8; 4], u64); 3] = [
     (Err(Failed), [0; 4], 1),
 ];
 
-#[test]
-fn a_reader_is_a_source(rt: HostRuntime) -> Result<(), Fail> {
-    let mut source = StdSource::new(Flaky { calls: 0 });
-    for wanted in READS {
-        assert_eq!(rt; one_read(&mut source), wanted);
+// Asserts that the reads of a source give this.
+fn expect_reads(
+    rt: &impl Abort,
+    source: &mut StdSource<Flaky>,
+    rows: &[(Result<usize, Failed>, [u8; 4], u64)],
+) {
+    for wanted in rows {
+        assert_eq!(rt; one_read(source), *wanted);
     }
-    Ok(())
+}
+
+#[test]
+fn a_reader_is_a_source(rt: HostRuntime) {
+    let mut source = StdSource::new(Flaky { calls: 0 });
+    expect_reads(&rt, &mut source, &READS);
 }
 
 // One write to a sink, and how many faults the sink counts.
@@ -79,45 +88,118 @@ static WRITES: [(Result<usize, WriteFault>, u64); 3] = [
     (Err(WriteFault::Failed), 2),
 ];
 
-#[test]
-fn a_writer_is_a_sink(rt: HostRuntime) -> Result<(), Fail> {
-    let mut sink = StdSink::new(Flaky { calls: 0 });
-    for wanted in WRITES {
-        assert_eq!(rt; one_write(&mut sink), wanted);
+// Asserts that the writes to a sink give this.
+fn expect_writes(
+    rt: &impl Abort,
+    sink: &mut StdSink<Flaky>,
+    rows: &[(Result<usize, WriteFault>, u64)],
+) {
+    for wanted in rows {
+        assert_eq!(rt; one_write(sink), *wanted);
     }
-    Ok(())
+}
+
+#[test]
+fn a_writer_is_a_sink(rt: HostRuntime) {
+    let mut sink = StdSink::new(Flaky { calls: 0 });
+    expect_writes(&rt, &mut sink, &WRITES);
 }
 
 const FOLDER: &str = "folder_store_test";
 
+// Goes into a new folder.
+fn enter(rt: &HostRuntime) -> Result<(), Fail> {
+    let _ = fs::remove_dir_all(rt, FOLDER);
+    fs::create_dir(rt, FOLDER)?;
+    Ok(env::set_current_dir(rt, FOLDER)?)
+}
+
+// Leaves the folder and removes it.
+fn leave(rt: &HostRuntime) -> Result<(), Fail> {
+    env::set_current_dir(rt, "..")?;
+    Ok(fs::remove_dir_all(rt, FOLDER)?)
+}
+
+// Asserts what a store has under a name, and that `into` then holds this.
+fn expect_found(
+    rt: &impl Abort,
+    store: &mut FolderStore<'_, HostRuntime>,
+    (folder, name): (Folder, &str),
+    wanted: Found,
+    into: &mut Vec<u8>,
+) {
+    assert_eq!(rt; store.read(folder, name, into), wanted);
+}
+
+// Asserts what a writing call of a store gives.
+fn expect_kept(
+    rt: &impl Abort,
+    store: &mut FolderStore<'_, HostRuntime>,
+    (folder, name): (Folder, &str),
+    text: &[u8],
+    wanted: Result<(), WriteFault>,
+) {
+    assert_eq!(rt; store.write(folder, name, text), wanted);
+}
+
+// Asserts that bytes are these.
+fn expect_bytes(rt: &impl Abort, found: &[u8], wanted: &[u8]) {
+    assert_eq!(rt; found, wanted);
+}
+
+// Asserts that a store gives a text that was written over a longer one.
+fn expect_overwritten(
+    rt: &impl Abort,
+    store: &mut FolderStore<'_, HostRuntime>,
+    into: &mut Vec<u8>,
+) {
+    let place = (Folder::Automata, "a");
+    expect_found(rt, store, place, Found::Absent, into);
+    expect_bytes(rt, into, b"");
+    expect_kept(rt, store, place, b"first, longer", Ok(()));
+    expect_kept(rt, store, place, b"one", Ok(()));
+    expect_found(rt, store, place, Found::Found, into);
+    expect_bytes(rt, into, b"one");
+}
+
+// Asserts that a store reads and writes nothing outside its folders.
+fn expect_inside(rt: &impl Abort, store: &mut FolderStore<'_, HostRuntime>, into: &mut Vec<u8>) {
+    let outside = (Folder::Automata, "../Automata Library/a");
+    expect_found(rt, store, outside, Found::Absent, into);
+    assert_eq!(rt; store.faults(), 0);
+    let refused = Err(WriteFault::Failed);
+    expect_kept(rt, store, (Folder::Automata, "../a"), b"one", refused);
+}
+
+// Asserts that a store fails where a file stands in the place of its folder.
+fn expect_failed(rt: &impl Abort, store: &mut FolderStore<'_, HostRuntime>, into: &mut Vec<u8>) {
+    let place = (Folder::Results, "a");
+    expect_found(rt, store, place, Found::Failed, into);
+    expect_kept(rt, store, place, b"one", Err(WriteFault::Failed));
+    assert_eq!(rt; store.faults(), 3);
+}
+
+// The text of the file that a store wrote.
+fn text_of(rt: &HostRuntime) -> Result<String, Fail> {
+    Ok(fs::read_to_string(rt, "Automata Library/a.txt")?)
+}
+
+// Whether there is a file outside, after which one takes the place of a folder.
+fn replaced(rt: &HostRuntime) -> Result<bool, Fail> {
+    let is_outside = fs::exists(rt, "a.txt")?;
+    fs::write(rt, "Result", b"a file".as_slice())?;
+    Ok(is_outside)
+}
+
 #[test]
 fn a_folder_is_a_store(rt: HostRuntime) -> Result<(), Fail> {
-    let _ = fs::remove_dir_all(&rt, FOLDER);
-    fs::create_dir(&rt, FOLDER)?;
-    env::set_current_dir(&rt, FOLDER)?;
+    enter(&rt)?;
     let mut store = FolderStore::new(&rt, rt.alloc());
     let mut into = Vec::from_slice(rt.alloc(), b"old")?;
-    assert_eq!(rt; store.read(Folder::Automata, "a", &mut into), Found::Absent);
-    assert!(rt; into.is_empty());
-    let longer = store.write(Folder::Automata, "a", b"first, longer");
-    assert_eq!(rt; longer, Ok(()));
-    assert_eq!(rt; store.write(Folder::Automata, "a", b"one"), Ok(()));
-    let text = fs::read_to_string(&rt, "Automata Library/a.txt")?;
-    assert_eq!(rt; text.as_str(), "one");
-    assert_eq!(rt; store.read(Folder::Automata, "a", &mut into), Found::Found);
-    assert_eq!(rt; into.as_slice(), b"one".as_slice());
-    let outside = store.read(Folder::Automata, "../Automata Library/a", &mut into);
-    assert_eq!(rt; outside, Found::Absent);
-    assert_eq!(rt; store.faults(), 0);
-    let refused = store.write(Folder::Automata, "../a", b"one");
-    assert_eq!(rt; refused, Err(WriteFault::Failed));
-    assert!(rt; !fs::exists(&rt, "a.txt")?);
-    fs::write(&rt, "Result", b"a file".as_slice())?;
-    assert_eq!(rt; store.read(Folder::Results, "a", &mut into), Found::Failed);
-    let refused = store.write(Folder::Results, "a", b"one");
-    assert_eq!(rt; refused, Err(WriteFault::Failed));
-    assert_eq!(rt; store.faults(), 3);
-    env::set_current_dir(&rt, "..")?;
-    fs::remove_dir_all(&rt, FOLDER)?;
-    Ok(())
+    expect_overwritten(&rt, &mut store, &mut into);
+    expect_bytes(&rt, text_of(&rt)?.as_bytes(), b"one");
+    expect_inside(&rt, &mut store, &mut into);
+    assert!(rt; !replaced(&rt)?);
+    expect_failed(&rt, &mut store, &mut into);
+    leave(&rt)
 }

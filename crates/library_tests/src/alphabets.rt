@@ -1,6 +1,6 @@
 //! Alphabets, letters and the lines of steps.
 
-ghost use Rattle.std.specs.Prelude.{◌≡◌};
+ghost use Rattle.std.specs.Prelude.{◌≡◌, ◌∷◌, [], IfOk};
 
 use crate::outcomes::{expect, lines_of};
 use crate::row_fault::RowFault;
@@ -10,21 +10,37 @@ use digit_tuple::kind::Kind;
 use digit_tuple::letter_parts::letter_parts;
 use digit_tuple::steps::Steps;
 use std::alloc::Global;
+use std::process::Abort;
+
+// The alphabet of two tracks of 2 and 3 digits, by way of a copy.
+fn two_and_three(alloc: Global) -> Result<Alphabet, RowFault>
+    ensures { IfOk result (λ alphabet. alphabet ≡ 2 ∷ 3 ∷ []) }
+{
+    Ok(Alphabet::new(alloc, &[2, 3])?.copy(alloc)?)
+}
+
+// Asserts that numbers are these.
+fn expect_numbers(rt: &impl Abort, found: &[u32], wanted: &[u32]) {
+    assert_eq!(rt; found, wanted);
+}
 
 #[test]
 fn letters_and_digits_are_inverse(rt: HostRuntime) -> Result<(), RowFault> {
-    let alphabet = Alphabet::new(rt.alloc(), &[2, 3])?.copy(rt.alloc())?;
-    assert_eq!(rt; alphabet.tracks(), 2);
-    assert_eq!(rt; alphabet.size(1), 3);
-    assert_eq!(rt; alphabet.letter_of(&[1, 2]), 5);
+    let alphabet = two_and_three(rt.alloc())?;
+    let letter = alphabet.letter_of(&[1, 2]);
+    expect_numbers(
+        &rt,
+        &[alphabet.tracks(), alphabet.size(1), letter],
+        &[2, 3, 5],
+    );
     let mut digits = [0, 0];
     alphabet.digits_of(4, &mut digits);
-    assert_eq!(rt; digits.as_slice(), [1, 1].as_slice());
+    expect_numbers(&rt, &digits, &[1, 1]);
     Ok(())
 }
 
 // Sizes of tracks, and how many letters they have, if these are not too many.
-const LETTERS: [(&[u32], Option<u32>); 8] = [
+static LETTERS: [(&[u32], Option<u32>); 8] = [
     (&[], Some(1)),
     (&[2, 0, 3], Some(0)),
     (&[256, 256], Some(65536)),
@@ -44,12 +60,21 @@ fn letters_over(alloc: Global, sizes: &[u32]) -> Result<Option<u32>, RowFault> {
     }
 }
 
-#[test]
-fn sixteen_tracks_and_65536_letters_are_the_most(rt: HostRuntime) -> Result<(), RowFault> {
-    for (sizes, letters) in LETTERS {
-        assert_eq!(rt; letters_over(rt.alloc(), sizes)?, letters, "of {sizes:?}");
+// Asserts that tracks of these sizes have so many letters, or too many.
+fn expect_letters(
+    rt: &impl Abort,
+    alloc: Global,
+    rows: &[(&[u32], Option<u32>)],
+) -> Result<(), RowFault> {
+    for (sizes, letters) in rows {
+        assert_eq!(rt; letters_over(alloc, sizes)?, *letters, "of {sizes:?}");
     }
     Ok(())
+}
+
+#[test]
+fn sixteen_tracks_and_65536_letters_are_the_most(rt: HostRuntime) -> Result<(), RowFault> {
+    expect_letters(&rt, rt.alloc(), &LETTERS)
 }
 
 // The letters of two tracks of 2 and 3 digits, with the tracks exchanged.
@@ -68,10 +93,8 @@ fn second_parts(alloc: Global) -> Result<Vec<u32>, RowFault> {
 
 #[test]
 fn parts_are_taken_in_the_order_of_the_places(rt: HostRuntime) -> Result<(), RowFault> {
-    let turned = turned_parts(rt.alloc())?;
-    assert_eq!(rt; turned.as_slice(), [0, 2, 4, 1, 3, 5].as_slice());
-    let digits = second_parts(rt.alloc())?;
-    assert_eq!(rt; digits.as_slice(), [0, 1, 2, 0, 1, 2].as_slice());
+    expect_numbers(&rt, &turned_parts(rt.alloc())?, &[0, 2, 4, 1, 3, 5]);
+    expect_numbers(&rt, &second_parts(rt.alloc())?, &[0, 1, 2, 0, 1, 2]);
     Ok(())
 }
 

@@ -7,14 +7,16 @@ use crate::outcomes::expect;
 use crate::row_fault::RowFault;
 use crate::table_texts::listed;
 use determinise::subset_construction::determinise;
-use dfa_reading::{FileFault, FileHeader, read_relation};
+use dfa_reading::{FileFault, FileHeader, Listed, read_relation};
 use dfa_text::print_relation;
 use digit_tuple::alphabet::Alphabet;
 use digit_tuple::dfa::Dfa;
 use digit_tuple::header::Header;
 use digit_tuple::name::Name;
+use digit_tuple::nfa::Nfa;
 use digit_tuple::systems::Systems;
 use std::alloc::Global;
+use std::process::Abort;
 
 // The text of an automaton over the header's tracks.
 fn text_of(alloc: Global, header: &Header, line: &str) -> Result<String, RowFault> {
@@ -61,13 +63,26 @@ static TEXTS: [(&[&[i32]], &str, &str); 3] = [
     (&[&[0, 1]], "x:2 = /", "{0,1}\n\n0 0\n"),
 ];
 
-#[test]
-fn automata_over_sets_have_these_texts(rt: HostRuntime) -> Result<(), RowFault> {
-    for (tracks, line, wanted) in TEXTS {
-        let header = header_of(rt.alloc(), tracks)?;
-        expect(&rt, line, &text_of(rt.alloc(), &header, line)?, wanted);
+// The text of an automaton over sets.
+fn text_over(alloc: Global, tracks: &[&[i32]], line: &str) -> Result<String, RowFault> {
+    text_of(alloc, &header_of(alloc, tracks)?, line)
+}
+
+// Asserts that each automaton has this text.
+fn expect_texts(
+    rt: &impl Abort,
+    alloc: Global,
+    rows: &[(&[&[i32]], &str, &str)],
+) -> Result<(), RowFault> {
+    for (tracks, line, wanted) in rows {
+        expect(rt, line, &text_over(alloc, tracks, line)?, wanted);
     }
     Ok(())
+}
+
+#[test]
+fn automata_over_sets_have_these_texts(rt: HostRuntime) -> Result<(), RowFault> {
+    expect_texts(&rt, rt.alloc(), &TEXTS)
 }
 
 // The header of base 2 and base 12.
@@ -93,7 +108,7 @@ const PRINTED: &str = "{0,1}\n\n0 0\n0 -> 1\n1 -> 2\n\n1 0\n0 -> 1\n1 -> 2\n\n2 
 const BY_HAND: &str = "# a file by hand\r\n\n { 1 ,0}{5,-3}\r\n007 -2\n*\t-3->9 7\n9 0";
 
 // A file, the letters of a word, and whether the file accepts it.
-const WORDS: [(&str, &[u32], bool); 7] = [
+static WORDS: [(&str, &[u32], bool); 7] = [
     (PRINTED, &[], false),
     (PRINTED, &[0], false),
     (PRINTED, &[0, 1], true),
@@ -108,27 +123,37 @@ fn accepts_word(alloc: Global, text: &[u8], word: &[u32]) -> Result<bool, RowFau
     if text.len() >= 1000 {
         return Err(RowFault::Form);
     }
-    let listed = read_relation(alloc, text)?;
+    let table = table_over_sets(alloc, &read_relation(alloc, text)?)?;
+    Ok(determinise(alloc, &table, 100)?.result.accepts(word))
+}
+
+// The table of what a file over sets lists.
+fn table_over_sets(alloc: Global, listed: &Listed) -> Result<Nfa, RowFault> {
     if listed.states() == 0 {
         return Err(RowFault::Form);
     }
     match listed.header() {
-        FileHeader::Sets(_) => {
-            let table = listed.nfa(alloc, &[])?;
-            let dfa = determinise(alloc, &table, 100)?.result;
-            Ok(dfa.accepts(word))
-        }
+        FileHeader::Sets(_) => Ok(listed.nfa(alloc, &[])?),
         _ => Err(RowFault::Form),
     }
 }
 
-#[test]
-fn files_accept_these_words(rt: HostRuntime) -> Result<(), RowFault> {
-    for (text, word, wanted) in WORDS {
-        let found = accepts_word(rt.alloc(), text.as_bytes(), word)?;
-        assert_eq!(rt; found, wanted, "of {text}");
+// Asserts that each file accepts its word, or not.
+fn expect_words(
+    rt: &impl Abort,
+    alloc: Global,
+    rows: &[(&str, &[u32], bool)],
+) -> Result<(), RowFault> {
+    for (text, word, wanted) in rows {
+        let found = accepts_word(alloc, text.as_bytes(), word)?;
+        assert_eq!(rt; found, *wanted, "of {text}");
     }
     Ok(())
+}
+
+#[test]
+fn files_accept_these_words(rt: HostRuntime) -> Result<(), RowFault> {
+    expect_words(&rt, rt.alloc(), &WORDS)
 }
 
 // What stands in a short file: how many states, or the line of the fault.
@@ -144,7 +169,7 @@ fn states_in(alloc: Global, text: &[u8]) -> Result<usize, u64> {
 }
 
 // Files, and how many states they list, or the line of their first fault.
-const FILES: [(&str, Result<usize, u64>); 11] = [
+static FILES: [(&str, Result<usize, u64>); 11] = [
     (PRINTED, Ok(3)),
     (BY_HAND, Ok(2)),
     ("", Err(1)),
@@ -158,11 +183,15 @@ const FILES: [(&str, Result<usize, u64>); 11] = [
     ("{0}\n0 1\n\n0 1\n", Err(4)),
 ];
 
-#[test]
-fn files_are_read_or_name_a_line(rt: HostRuntime) -> Result<(), RowFault> {
-    for (text, wanted) in FILES {
-        let found = states_in(rt.alloc(), text.as_bytes());
-        assert_eq!(rt; found, wanted, "of {text}");
+// Asserts that each file lists so many states, or has its fault in this line.
+fn expect_files(rt: &impl Abort, alloc: Global, rows: &[(&str, Result<usize, u64>)]) {
+    for (text, wanted) in rows {
+        let found = states_in(alloc, text.as_bytes());
+        assert_eq!(rt; found, *wanted, "of {text}");
     }
-    Ok(())
+}
+
+#[test]
+fn files_are_read_or_name_a_line(rt: HostRuntime) {
+    expect_files(&rt, rt.alloc(), &FILES);
 }

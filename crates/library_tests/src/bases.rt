@@ -5,6 +5,7 @@ use base_k::base_k::{BaseK, GREATEST_BASE, LEAST_BASE};
 use digit_tuple::direction::Direction;
 use num_system::num_system::NumSystem;
 use std::alloc::Global;
+use std::process::Abort;
 
 // A system, a word that spells 5, 7 and 12 in it, and one that spells 5, 7 and 13. The letter of the digits x, y and z
 // in base k is k * k * x + k * y + z.
@@ -52,27 +53,47 @@ fn adder_takes(alloc: Global, system: &BaseK, word: &[u32]) -> Result<bool, RowF
     Ok(system.adder(alloc)?.accepts(word))
 }
 
-#[test]
-fn five_and_seven_are_twelve(rt: HostRuntime) -> Result<(), RowFault> {
-    for (base, direction, right, wrong) in SUMS {
-        assert!(rt; adds(rt.alloc(), base, direction, right)?, "in base {base}");
-        assert!(rt;
-            !adds(rt.alloc(), base, direction, wrong)?,
-            "in base {base}"
-        );
+// Asserts that the one word of each row is a sum, and the other not.
+fn expect_sums(
+    rt: &impl Abort,
+    alloc: Global,
+    rows: &[(u32, Direction, &[u32], &[u32])],
+) -> Result<(), RowFault> {
+    for (base, direction, right, wrong) in rows {
+        assert!(rt; adds(alloc, *base, *direction, right)?, "in base {base}");
+        assert!(rt; !adds(alloc, *base, *direction, wrong)?, "in base {base}");
     }
     Ok(())
 }
 
 #[test]
-fn bases_are_2_to_40(rt: HostRuntime) {
-    for (base, there) in [
-        (LEAST_BASE - 1, false),
-        (2, true),
-        (40, true),
-        (GREATEST_BASE + 1, false),
-    ] {
-        assert_eq!(rt; BaseK::new(base, Direction::Msd).is_some(), there);
-        assert_eq!(rt; BaseK::new(base, Direction::Lsd).is_some(), there);
+fn five_and_seven_are_twelve(rt: HostRuntime) -> Result<(), RowFault> {
+    expect_sums(&rt, rt.alloc(), &SUMS)
+}
+
+// Whether there is a base of this number in both directions, or in none.
+fn is_base(number: u32) -> Option<bool> {
+    let msd = BaseK::new(number, Direction::Msd).is_some();
+    let lsd = BaseK::new(number, Direction::Lsd).is_some();
+    if msd == lsd { Some(msd) } else { None }
+}
+
+// Numbers, and whether there is a base of each.
+static BASES: [(u32, bool); 4] = [
+    (LEAST_BASE - 1, false),
+    (2, true),
+    (40, true),
+    (GREATEST_BASE + 1, false),
+];
+
+// Asserts that there are bases of these numbers, and not of the others.
+fn expect_bases(rt: &impl Abort, rows: &[(u32, bool)]) {
+    for (number, there) in rows {
+        assert_eq!(rt; is_base(*number), Some(*there));
     }
+}
+
+#[test]
+fn bases_are_2_to_40(rt: HostRuntime) {
+    expect_bases(&rt, &BASES);
 }

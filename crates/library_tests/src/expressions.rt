@@ -1,6 +1,7 @@
 //! Texts of expressions, with their trees by hand, and texts that are none.
 
 use crate::headers::header_of;
+use crate::outcomes::expect;
 use crate::row_fault::RowFault;
 use digit_tuple::header::Header;
 use reference::words::{Word, all_words};
@@ -9,25 +10,36 @@ use regex_build::parse;
 use regex_build::postfix_symbol::PostfixSymbol;
 use regex_build::regex::Regex;
 use std::alloc::Global;
+use std::process::Abort;
 
-// Writes a symbol: a letter by its members, and `&` for one after the other.
-fn show_symbol(alloc: Global, symbol: &PostfixSymbol, text: &mut String) -> Result<(), RowFault> {
-    match symbol {
-        PostfixSymbol::Empty => text.push_str("()")?,
-        PostfixSymbol::Letter(letter) => {
-            for member in letter.members() {
-                let member = format!(in alloc; "'{member}")?;
-                text.push_str(&member)?;
-            }
-        }
-        PostfixSymbol::Any => text.push('.')?,
-        PostfixSymbol::Either => text.push('|')?,
-        PostfixSymbol::Follow => text.push('&')?,
-        PostfixSymbol::Star => text.push('*')?,
-        PostfixSymbol::Plus => text.push('+')?,
-        PostfixSymbol::Optional => text.push('?')?,
+// Writes the members of a letter.
+fn show_members(alloc: Global, members: &[i32], text: &mut String) -> Result<(), RowFault> {
+    for member in members {
+        text.push_str(&format!(in alloc; "'{member}")?)?;
     }
     Ok(())
+}
+
+// The sign of a symbol, but for a letter: `&` for one after the other.
+fn sign_of(symbol: &PostfixSymbol) -> &'static str {
+    match symbol {
+        PostfixSymbol::Empty => "()",
+        PostfixSymbol::Letter(_) => "",
+        PostfixSymbol::Any => ".",
+        PostfixSymbol::Either => "|",
+        PostfixSymbol::Follow => "&",
+        PostfixSymbol::Star => "*",
+        PostfixSymbol::Plus => "+",
+        PostfixSymbol::Optional => "?",
+    }
+}
+
+// Writes a symbol: a letter by its members, or its sign.
+fn show_symbol(alloc: Global, symbol: &PostfixSymbol, text: &mut String) -> Result<(), RowFault> {
+    match symbol {
+        PostfixSymbol::Letter(letter) => show_members(alloc, letter.members(), text),
+        _ => Ok(text.push_str(sign_of(symbol))?),
+    }
 }
 
 // The symbols in postfix order.
@@ -40,7 +52,7 @@ fn shown(alloc: Global, regex: &Regex) -> Result<String, RowFault> {
 }
 
 // Texts over the set of -1, 0, 1, 7 and 10, and their symbols in postfix order.
-const TREES: [(&str, &str); 11] = [
+static TREES: [(&str, &str); 11] = [
     ("0", "'0"),
     ("010", "'0'1&'0&"),
     ("0|1|0", "'0'1|'0|"),
@@ -54,27 +66,44 @@ const TREES: [(&str, &str); 11] = [
     ("[0]+", "'0+"),
 ];
 
-#[test]
-fn trees_over_one_set(rt: HostRuntime) -> Result<(), RowFault> {
-    let header = header_of(rt.alloc(), &[&[-1, 0, 1, 7, 10]])?;
-    for (text, symbols) in TREES {
-        let regex = parse(rt.alloc(), text.as_bytes(), &header)?;
-        assert_eq!(rt; shown(rt.alloc(), &regex)?.as_str(), symbols, "of {text}");
+// The symbols in postfix order of the expression of a text.
+fn tree(alloc: Global, header: &Header, text: &str) -> Result<String, RowFault> {
+    shown(alloc, &parse(alloc, text.as_bytes(), header)?)
+}
+
+// Asserts that each text has these symbols.
+fn expect_trees(
+    rt: &impl Abort,
+    alloc: Global,
+    header: &Header,
+    rows: &[(&str, &str)],
+) -> Result<(), RowFault> {
+    for (text, symbols) in rows {
+        expect(rt, text, &tree(alloc, header, text)?, symbols);
     }
     Ok(())
 }
 
 #[test]
+fn trees_over_one_set(rt: HostRuntime) -> Result<(), RowFault> {
+    let header = header_of(rt.alloc(), &[&[-1, 0, 1, 7, 10]])?;
+    expect_trees(&rt, rt.alloc(), &header, &TREES)
+}
+
+// A text over two sets, and its symbols in postfix order.
+static OVER_TWO_SETS: [(&str, &str); 1] = [(
+    "[0,-2147483648].|[1,2147483647]*",
+    "'0'-2147483648.&'1'2147483647*|",
+)];
+
+#[test]
 fn trees_over_two_sets(rt: HostRuntime) -> Result<(), RowFault> {
     let header = header_of(rt.alloc(), &[&[0, 1], &[-2147483648, 2147483647]])?;
-    let regex = parse(rt.alloc(), b"[0,-2147483648].|[1,2147483647]*", &header)?;
-    let made = shown(rt.alloc(), &regex)?;
-    assert_eq!(rt; made.as_str(), "'0'-2147483648.&'1'2147483647*|");
-    Ok(())
+    expect_trees(&rt, rt.alloc(), &header, &OVER_TWO_SETS)
 }
 
 // Sets, texts over them, and their faults.
-const FAULTS: [(&[&[i32]], &str, Option<RegexFault>); 30] = [
+static FAULTS: [(&[&[i32]], &str, Option<RegexFault>); 30] = [
     (&[&[0, 1]], "", Some(RegexFault::Syntax(0))),
     (&[&[0, 1]], " \t", Some(RegexFault::Syntax(2))),
     (&[&[0, 1]], "*0", Some(RegexFault::Syntax(0))),
@@ -111,32 +140,56 @@ const FAULTS: [(&[&[i32]], &str, Option<RegexFault>); 30] = [
     (&[&[0, 1], &[0]], "[1,0]", None),
 ];
 
-#[test]
-fn texts_have_these_faults(rt: HostRuntime) -> Result<(), RowFault> {
-    for (tracks, text, fault) in FAULTS {
-        let header = header_of(rt.alloc(), tracks)?;
-        let found = parse(rt.alloc(), text.as_bytes(), &header).err();
-        assert_eq!(rt; found, fault, "of {text}");
+// The fault of a text, if it has one.
+fn fault_of(alloc: Global, header: &Header, text: &[u8]) -> Option<RegexFault> {
+    parse(alloc, text, header).err()
+}
+
+// The fault of a text over sets, if it has one.
+fn fault_over(
+    alloc: Global,
+    tracks: &[&[i32]],
+    text: &str,
+) -> Result<Option<RegexFault>, RowFault> {
+    let header = header_of(alloc, tracks)?;
+    Ok(fault_of(alloc, &header, text.as_bytes()))
+}
+
+// Asserts that a row has this fault, or none.
+fn expect_fault(rt: &impl Abort, row: &str, found: Option<RegexFault>, wanted: Option<RegexFault>) {
+    assert_eq!(rt; found, wanted, "of {row}");
+}
+
+// Asserts that each text has its fault, or none.
+fn expect_faults(
+    rt: &impl Abort,
+    alloc: Global,
+    rows: &[(&[&[i32]], &str, Option<RegexFault>)],
+) -> Result<(), RowFault> {
+    for (tracks, text, fault) in rows {
+        expect_fault(rt, text, fault_over(alloc, tracks, text)?, *fault);
     }
     Ok(())
 }
 
-// So many parentheses in one another.
-fn nested(alloc: Global, depth: usize) -> Result<Vec<u8>, RowFault> {
-    let mut text = vec![in alloc; b'('; depth]?;
-    for _ in 0..depth {
-        text.push(b')')?;
-    }
-    Ok(text)
+#[test]
+fn texts_have_these_faults(rt: HostRuntime) -> Result<(), RowFault> {
+    expect_faults(&rt, rt.alloc(), &FAULTS)
+}
+
+// The fault of so many parentheses in one another, if they have one.
+fn fault_of_nesting(alloc: Global, depth: usize) -> Result<Option<RegexFault>, RowFault> {
+    let mut text = "(".repeat(alloc, depth)?;
+    text.push_str(&")".repeat(alloc, depth)?)?;
+    fault_over(alloc, &[&[0]], &text)
 }
 
 #[test]
 fn parentheses_nest_128_deep(rt: HostRuntime) -> Result<(), RowFault> {
-    let header = header_of(rt.alloc(), &[&[0]])?;
-    let most = parse(rt.alloc(), &nested(rt.alloc(), 128)?, &header);
-    assert_eq!(rt; most.err(), None);
-    let more = parse(rt.alloc(), &nested(rt.alloc(), 129)?, &header);
-    assert_eq!(rt; more.err(), Some(RegexFault::Depth(128)));
+    let most = fault_of_nesting(rt.alloc(), 128)?;
+    expect_fault(&rt, "128", most, None);
+    let more = fault_of_nesting(rt.alloc(), 129)?;
+    expect_fault(&rt, "129", more, Some(RegexFault::Depth(128)));
     Ok(())
 }
 
@@ -182,7 +235,7 @@ fn is_expression(alloc: Global, header: &Header, text: &[u8]) -> bool {
 
 // Sets, bytes, the longest texts over them, and how many of these are expressions, counted outside by a plain
 // recogniser that tries every way to read a text.
-const READ: [(&[&[i32]], &str, usize, usize); 5] = [
+static READ: [(&[&[i32]], &str, usize, usize); 5] = [
     (&[&[-1, 0, 1]], "01()|*", 5, 677),
     (&[&[-1, 0, 1]], "1.()+?", 5, 1077),
     (&[&[-1, 0, 1]], "[]1-, ", 5, 95),
@@ -190,12 +243,31 @@ const READ: [(&[&[i32]], &str, usize, usize); 5] = [
     (&[], "()|.*", 5, 137),
 ];
 
-#[test]
-fn expressions_are_counted(rt: HostRuntime) -> Result<(), RowFault> {
-    for (tracks, bytes, longest, count) in READ {
-        let header = header_of(rt.alloc(), tracks)?;
-        let found = read(rt.alloc(), &header, bytes.as_bytes(), longest)?;
-        assert_eq!(rt; found, count, "over {bytes}");
+// How many texts over these bytes have an expression over sets, up to a length.
+fn read_over(
+    alloc: Global,
+    tracks: &[&[i32]],
+    bytes: &str,
+    longest: usize,
+) -> Result<usize, RowFault> {
+    let header = header_of(alloc, tracks)?;
+    read(alloc, &header, bytes.as_bytes(), longest)
+}
+
+// Asserts that so many of each row's texts are expressions.
+fn expect_read(
+    rt: &impl Abort,
+    alloc: Global,
+    rows: &[(&[&[i32]], &str, usize, usize)],
+) -> Result<(), RowFault> {
+    for (tracks, bytes, longest, count) in rows {
+        let found = read_over(alloc, tracks, bytes, *longest)?;
+        assert_eq!(rt; found, *count, "over {bytes}");
     }
     Ok(())
+}
+
+#[test]
+fn expressions_are_counted(rt: HostRuntime) -> Result<(), RowFault> {
+    expect_read(&rt, rt.alloc(), &READ)
 }

@@ -4,22 +4,28 @@ ghost use Rattle.std.specs.Prelude.{◌<◌, ◌^◌, length};
 
 use crate::outcomes::expect;
 use command_head::{Alphabets, HeadFault, RegParts, first_word, named_parts, reg_parts};
+use digit_tuple::letter_set::LetterSet;
 use digit_tuple::name::Name;
-use digit_tuple::sets::Sets;
 use std::alloc::Global;
+use std::process::Abort;
 use std::test::Fail;
 
 // Writes sets, each in braces.
-fn show_sets(alloc: Global, sets: &Sets, text: &mut String) -> Result<(), Fail> {
-    for set in sets.as_slice() {
-        let mut before = "{";
-        for member in set.members() {
-            let member = format!(in alloc; "{before}{member}")?;
-            text.push_str(&member)?;
-            before = ",";
-        }
-        text.push('}')?;
+fn show_sets(alloc: Global, sets: &[LetterSet], text: &mut String) -> Result<(), Fail> {
+    for set in sets {
+        show_set(alloc, set.members(), text)?;
     }
+    Ok(())
+}
+
+// Writes a set in braces.
+fn show_set(alloc: Global, members: &[i32], text: &mut String) -> Result<(), Fail> {
+    let mut before = "{";
+    for member in members {
+        text.push_str(&format!(in alloc; "{before}{member}")?)?;
+        before = ",";
+    }
+    text.push('}')?;
     Ok(())
 }
 
@@ -36,7 +42,7 @@ fn show_names(names: &[Name], text: &mut String) -> Result<(), Fail> {
 fn shown(alloc: Global, parts: &RegParts<'_>) -> Result<String, Fail> {
     let mut text = String::from_str(alloc, parts.name.as_str())?;
     match &parts.alphabets {
-        Alphabets::Sets(sets) => show_sets(alloc, sets, &mut text)?,
+        Alphabets::Sets(sets) => show_sets(alloc, sets.as_slice(), &mut text)?,
         Alphabets::Systems(names) => show_names(names, &mut text)?,
     }
     text.push('=')?;
@@ -58,15 +64,15 @@ fn read(alloc: Global, text: &str) -> Result<Result<String, HeadFault>, Fail> {
 }
 
 // What a text has that has no fault.
-fn read_whole(alloc: Global, text: &str) -> Result<String, Fail> {
-    match read(alloc, text)? {
-        Ok(found) => Ok(found),
+fn whole(found: Result<String, HeadFault>) -> Result<String, Fail> {
+    match found {
+        Ok(text) => Ok(text),
         Err(_) => Err(Fail::from("a head")),
     }
 }
 
 // Texts and what they have.
-const HEADS: [(&str, &str); 10] = [
+static HEADS: [(&str, &str); 10] = [
     ("reg ab {0,1} \"0*1\"", "ab{0,1}=0*1"),
     ("reg a{ 7 , -3,2}\"\"\n", "a{-3,2,7}="),
     ("reg\tx_9 {007} \"a;b\n\" ", "x_9{7}=a;b\n"),
@@ -88,17 +94,21 @@ const HEADS: [(&str, &str); 10] = [
     ),
 ];
 
-#[test]
-fn heads_are_read(rt: HostRuntime) -> Result<(), Fail> {
-    for (text, wanted) in HEADS {
-        let found = read_whole(rt.alloc(), text)?;
-        expect(&rt, text, &found, wanted);
+// Asserts that each text has this.
+fn expect_heads(rt: &impl Abort, alloc: Global, rows: &[(&str, &str)]) -> Result<(), Fail> {
+    for (text, wanted) in rows {
+        expect(rt, text, &whole(read(alloc, text)?)?, wanted);
     }
     Ok(())
 }
 
+#[test]
+fn heads_are_read(rt: HostRuntime) -> Result<(), Fail> {
+    expect_heads(&rt, rt.alloc(), &HEADS)
+}
+
 // Texts and their first faults: of sets, of systems, and numbers out of 32 bits.
-const FAULTS: [(&str, HeadFault); 30] = [
+static FAULTS: [(&str, HeadFault); 30] = [
     ("rege a {0} \"0\"", HeadFault::Syntax(0)),
     ("reg", HeadFault::Syntax(3)),
     ("reg a  ", HeadFault::Syntax(7)),
@@ -137,15 +147,22 @@ const FAULTS: [(&str, HeadFault); 30] = [
     ),
 ];
 
-#[test]
-fn faults_are_the_first(rt: HostRuntime) -> Result<(), Fail> {
-    for (text, wanted) in FAULTS {
-        match read(rt.alloc(), text)? {
-            Ok(_) => assert!(rt; false, "accepted: {text}"),
-            Err(found) => assert_eq!(rt; found, wanted, "of {text}"),
-        }
+// Asserts that a row has this fault.
+fn expect_fault(rt: &impl Abort, row: &str, found: Option<HeadFault>, wanted: HeadFault) {
+    assert_eq!(rt; found, Some(wanted), "of {row}");
+}
+
+// Asserts that each text has its fault.
+fn expect_faults(rt: &impl Abort, alloc: Global, rows: &[(&str, HeadFault)]) -> Result<(), Fail> {
+    for (text, wanted) in rows {
+        expect_fault(rt, text, read(alloc, text)?.err(), *wanted);
     }
     Ok(())
+}
+
+#[test]
+fn faults_are_the_first(rt: HostRuntime) -> Result<(), Fail> {
+    expect_faults(&rt, rt.alloc(), &FAULTS)
 }
 
 // The name and after `=` the quoted text of a head with the word `def`, or its fault.
@@ -159,16 +176,8 @@ fn read_named(alloc: Global, text: &str) -> Result<Result<String, HeadFault>, Fa
     }
 }
 
-// What such a head has that has no fault.
-fn read_named_whole(alloc: Global, text: &str) -> Result<String, Fail> {
-    match read_named(alloc, text)? {
-        Ok(found) => Ok(found),
-        Err(_) => Err(Fail::from("a head")),
-    }
-}
-
 // Heads with the word `def`, and what they have.
-const NAMED: [(&str, &str); 4] = [
+static NAMED: [(&str, &str); 4] = [
     ("def a \"x\"", "a=x"),
     ("def\tab_1 \n \"E y\"\n", "ab_1=E y"),
     ("def a\"\"", "a="),
@@ -176,7 +185,7 @@ const NAMED: [(&str, &str); 4] = [
 ];
 
 // Texts that are no such heads, and their first faults.
-const NOT_NAMED: [(&str, HeadFault); 8] = [
+static NOT_NAMED: [(&str, HeadFault); 8] = [
     ("reg a \"x\"", HeadFault::Syntax(0)),
     ("def", HeadFault::Syntax(3)),
     ("def 1 \"x\"", HeadFault::Syntax(4)),
@@ -187,27 +196,47 @@ const NOT_NAMED: [(&str, HeadFault); 8] = [
     ("def a \"x\" y", HeadFault::Syntax(10)),
 ];
 
+// Asserts that each head has this.
+fn expect_named(rt: &impl Abort, alloc: Global, rows: &[(&str, &str)]) -> Result<(), Fail> {
+    for (text, wanted) in rows {
+        expect(rt, text, &whole(read_named(alloc, text)?)?, wanted);
+    }
+    Ok(())
+}
+
 #[test]
 fn named_heads_are_read(rt: HostRuntime) -> Result<(), Fail> {
-    for (text, wanted) in NAMED {
-        let found = read_named_whole(rt.alloc(), text)?;
-        expect(&rt, text, &found, wanted);
+    expect_named(&rt, rt.alloc(), &NAMED)
+}
+
+// Asserts that each text has its fault.
+fn expect_refused(rt: &impl Abort, alloc: Global, rows: &[(&str, HeadFault)]) -> Result<(), Fail> {
+    for (text, wanted) in rows {
+        expect_fault(rt, text, read_named(alloc, text)?.err(), *wanted);
     }
     Ok(())
 }
 
 #[test]
 fn other_heads_are_refused(rt: HostRuntime) -> Result<(), Fail> {
-    for (text, wanted) in NOT_NAMED {
-        let found = read_named(rt.alloc(), text)?.err();
-        assert_eq!(rt; found, Some(wanted), "of {text}");
+    expect_refused(&rt, rt.alloc(), &NOT_NAMED)
+}
+
+// Texts and their first words.
+static FIRST_WORDS: [(&str, &str); 3] = [
+    ("reg a", "reg"),
+    ("eval\"x\"", "eval"),
+    ("prove{a}\t", "prove{a}"),
+];
+
+// Asserts that each text has its first word.
+fn expect_first_words(rt: &impl Abort, rows: &[(&str, &str)]) {
+    for (text, wanted) in rows {
+        assert_eq!(rt; first_word(text.as_bytes()), wanted.as_bytes(), "of {text}");
     }
-    Ok(())
 }
 
 #[test]
 fn the_first_word_ends_at_a_blank_or_a_quote(rt: HostRuntime) {
-    assert_eq!(rt; first_word(b"reg a"), b"reg".as_slice());
-    assert_eq!(rt; first_word(b"eval\"x\""), b"eval".as_slice());
-    assert_eq!(rt; first_word(b"prove{a}\t"), b"prove{a}".as_slice());
+    expect_first_words(&rt, &FIRST_WORDS);
 }

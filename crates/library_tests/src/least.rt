@@ -1,6 +1,9 @@
 //! The subset construction, the reversal and the least automaton, worked by hand.
 
-use crate::outcomes::{expect, table_outcome, width_of};
+ghost use Rattle.std.specs.Prelude.{◌≡◌, ◌∷◌, [], IfOk};
+ghost use Rattle.digit_tuple.specs.Deterministic.{states_of};
+
+use crate::outcomes::{below_width_of, expect, table_outcome, width_of};
 use crate::row_fault::RowFault;
 use crate::table_texts::{language, line_of, listed, table, table_of, tracked};
 use determinise::reversal::reverse;
@@ -10,11 +13,11 @@ use digit_tuple::alphabet::Alphabet;
 use digit_tuple::dfa::Dfa;
 use digit_tuple::dfa_builder::DfaBuilder;
 use digit_tuple::name::Name;
-use digit_tuple::stepped::Stepped;
 use minimise::canonical::canonical;
 use minimise::comparison::{is_canonical, same};
 use minimise::tracked::Tracked;
 use std::alloc::Global;
+use std::process::Abort;
 
 // The words whose third letter from the end is 1.
 const THIRD: &str = "x:2 = / 0>0 1>0 1>1/ 0>2 1>2/ 0>3 1>3/!";
@@ -30,22 +33,26 @@ static SETS: [(&str, &str); 2] = [
     ("x:2 = /! 1>0", "2 /! 1>0"),
 ];
 
-// The subset construction under a limit.
-fn of_sets(alloc: Global, line: &str, limit: u32) -> Result<Stepped<Dfa>, RowFault> {
+// The subset construction under a limit, or why there is none.
+fn of_sets(alloc: Global, line: &str, limit: u32) -> Result<String, RowFault> {
     let table = table(alloc, line)?;
-    Ok(determinise(alloc, &table, limit)?)
+    table_outcome(alloc, determinise(alloc, &table, limit))
+}
+
+// Asserts that each automaton of sets is made at its width, and not below.
+fn expect_sets(rt: &impl Abort, alloc: Global, rows: &[(&str, &str)]) -> Result<(), RowFault> {
+    for (line, wanted) in rows {
+        let made = of_sets(alloc, line, width_of(wanted)?)?;
+        expect(rt, line, &made, wanted);
+        let narrow = of_sets(alloc, line, below_width_of(wanted)?)?;
+        expect(rt, line, &narrow, "States");
+    }
+    Ok(())
 }
 
 #[test]
 fn states_are_sets_of_states(rt: HostRuntime) -> Result<(), RowFault> {
-    for (line, wanted) in SETS {
-        let width = width_of(wanted)?;
-        let made = of_sets(rt.alloc(), line, width);
-        expect(&rt, line, &table_outcome(rt.alloc(), made)?, wanted);
-        let narrow = of_sets(rt.alloc(), line, width.saturating_sub(1));
-        expect(&rt, line, &table_outcome(rt.alloc(), narrow)?, "States");
-    }
-    Ok(())
+    expect_sets(&rt, rt.alloc(), &SETS)
 }
 
 // Tables, and the automata of the words in reverse.
@@ -56,22 +63,26 @@ static REVERSALS: [(&str, &str); 2] = [
     ("x:2 = /", "1 /"),
 ];
 
-// The reversal under a limit.
-fn turned(alloc: Global, line: &str, limit: u32) -> Result<Stepped<Dfa>, RowFault> {
+// The reversal under a limit, or why there is none.
+fn turned(alloc: Global, line: &str, limit: u32) -> Result<String, RowFault> {
     let dfa = listed(alloc, line)?;
-    Ok(reverse(alloc, &dfa, limit)?)
+    table_outcome(alloc, reverse(alloc, &dfa, limit))
+}
+
+// Asserts that each reversal is made at its width, and not below.
+fn expect_turned(rt: &impl Abort, alloc: Global, rows: &[(&str, &str)]) -> Result<(), RowFault> {
+    for (line, wanted) in rows {
+        let made = turned(alloc, line, width_of(wanted)?)?;
+        expect(rt, line, &made, wanted);
+        let narrow = turned(alloc, line, below_width_of(wanted)?)?;
+        expect(rt, line, &narrow, "States");
+    }
+    Ok(())
 }
 
 #[test]
 fn states_are_residuals_of_reversed_words(rt: HostRuntime) -> Result<(), RowFault> {
-    for (line, wanted) in REVERSALS {
-        let width = width_of(wanted)?;
-        let made = turned(rt.alloc(), line, width);
-        expect(&rt, line, &table_outcome(rt.alloc(), made)?, wanted);
-        let narrow = turned(rt.alloc(), line, width.saturating_sub(1));
-        expect(&rt, line, &table_outcome(rt.alloc(), narrow)?, "States");
-    }
-    Ok(())
+    expect_turned(&rt, rt.alloc(), &REVERSALS)
 }
 
 // Tables, and the least automata of their languages.
@@ -86,13 +97,22 @@ static LEAST: [(&str, &str); 4] = [
     ("x:2 = / 0>1 1>2/! 0>1/!", "/ 0>1 1>2/! 0>1/!"),
 ];
 
-#[test]
-fn states_are_residuals_that_are_not_empty(rt: HostRuntime) -> Result<(), RowFault> {
-    for (line, wanted) in LEAST {
-        let least = language(rt.alloc(), line)?;
-        expect(&rt, line, &table_of(rt.alloc(), &least)?, wanted);
+// The table of the least automaton of a line.
+fn least_table(alloc: Global, line: &str) -> Result<String, RowFault> {
+    table_of(alloc, &language(alloc, line)?)
+}
+
+// Asserts that each least automaton is this.
+fn expect_least(rt: &impl Abort, alloc: Global, rows: &[(&str, &str)]) -> Result<(), RowFault> {
+    for (line, wanted) in rows {
+        expect(rt, line, &least_table(alloc, line)?, wanted);
     }
     Ok(())
+}
+
+#[test]
+fn states_are_residuals_that_are_not_empty(rt: HostRuntime) -> Result<(), RowFault> {
+    expect_least(&rt, rt.alloc(), &LEAST)
 }
 
 // An automaton over two letters, of three states and three edges, each its state, letter and target.
@@ -131,12 +151,21 @@ static BUILT: [BuiltRow; 3] = [
     },
 ];
 
+// A builder over two letters with three states, of which these accept.
+fn three_states(alloc: Global, accepting: [bool; 3]) -> Result<DfaBuilder, RowFault>
+    ensures sizes { IfOk result (λ builder. builder.sizes ≡ 2 ∷ []) }
+    ensures states { IfOk result (λ builder. states_of builder ≡ 3) }
+{
+    let mut builder = DfaBuilder::new(alloc, Alphabet::new(alloc, &[2])?)?;
+    builder.add_state(accepting[0])?;
+    builder.add_state(accepting[1])?;
+    builder.add_state(accepting[2])?;
+    Ok(builder)
+}
+
 // The automaton of the row, its states as they were made.
 fn built(alloc: Global, row: &BuiltRow) -> Result<Dfa, RowFault> {
-    let mut builder = DfaBuilder::new(alloc, Alphabet::new(alloc, &[2])?)?;
-    builder.add_state(row.accepting[0])?;
-    builder.add_state(row.accepting[1])?;
-    builder.add_state(row.accepting[2])?;
+    let mut builder = three_states(alloc, row.accepting)?;
     let [[from, letter, to], second, third] = row.edges;
     builder.set(from % 3, letter % 2, to % 3)?;
     builder.set(second[0] % 3, second[1] % 2, second[2] % 3)?;
@@ -144,31 +173,45 @@ fn built(alloc: Global, row: &BuiltRow) -> Result<Dfa, RowFault> {
     Ok(builder.finish()?)
 }
 
-// The automaton without the states that no word leads to.
-fn trimmed_of(alloc: Global, dfa: &Dfa) -> Result<String, RowFault> {
+// The table of the automaton without the states that no word leads to.
+fn trimmed_table(alloc: Global, dfa: &Dfa) -> Result<String, RowFault> {
     table_of(alloc, &trimmed(alloc, dfa)?)
 }
 
-// The least automaton, if it is canonical and the automaton is not.
-fn least_of(alloc: Global, dfa: &Dfa) -> Result<Dfa, RowFault> {
+// The table of the least automaton, if that is canonical and the automaton is not.
+fn canonical_table(alloc: Global, dfa: &Dfa) -> Result<String, RowFault> {
     let least = canonical(alloc, dfa)?;
     if is_canonical(alloc, &least)? && !is_canonical(alloc, dfa)? {
-        Ok(least)
+        table_of(alloc, &least)
     } else {
         Err(RowFault::Form)
     }
 }
 
-#[test]
-fn states_are_numbered_by_first_words(rt: HostRuntime) -> Result<(), RowFault> {
-    for row in &BUILT {
-        let dfa = built(rt.alloc(), row)?;
-        expect(&rt, row.table, &table_of(rt.alloc(), &dfa)?, row.table);
-        expect(&rt, row.table, &trimmed_of(rt.alloc(), &dfa)?, row.trimmed);
-        let least = least_of(rt.alloc(), &dfa)?;
-        expect(&rt, row.table, &table_of(rt.alloc(), &least)?, row.least);
+// Asserts that an automaton is that of its row, and so are those without states and with the least ones.
+fn expect_tables(
+    rt: &impl Abort,
+    alloc: Global,
+    dfa: &Dfa,
+    row: &BuiltRow,
+) -> Result<(), RowFault> {
+    expect(rt, row.table, &table_of(alloc, dfa)?, row.table);
+    expect(rt, row.table, &trimmed_table(alloc, dfa)?, row.trimmed);
+    expect(rt, row.table, &canonical_table(alloc, dfa)?, row.least);
+    Ok(())
+}
+
+// Asserts that the automaton of each row is so.
+fn expect_built(rt: &impl Abort, alloc: Global, rows: &[BuiltRow]) -> Result<(), RowFault> {
+    for row in rows {
+        expect_tables(rt, alloc, &built(alloc, row)?, row)?;
     }
     Ok(())
+}
+
+#[test]
+fn states_are_numbered_by_first_words(rt: HostRuntime) -> Result<(), RowFault> {
+    expect_built(&rt, rt.alloc(), &BUILT)
 }
 
 // Lines, and whether they have one language.
@@ -189,12 +232,21 @@ fn are_same(alloc: Global, one: &str, other: &str) -> Result<bool, RowFault> {
     }
 }
 
-#[test]
-fn canonical_automata_of_one_language_are_equal(rt: HostRuntime) -> Result<(), RowFault> {
-    for (one, other, wanted) in SAME {
-        assert_eq!(rt; are_same(rt.alloc(), one, other)?, wanted, "of {one}");
+// Asserts that each two lines have one language, or not.
+fn expect_same(
+    rt: &impl Abort,
+    alloc: Global,
+    rows: &[(&str, &str, bool)],
+) -> Result<(), RowFault> {
+    for (one, other, wanted) in rows {
+        assert_eq!(rt; are_same(alloc, one, other)?, *wanted, "of {one}");
     }
     Ok(())
+}
+
+#[test]
+fn canonical_automata_of_one_language_are_equal(rt: HostRuntime) -> Result<(), RowFault> {
+    expect_same(&rt, rt.alloc(), &SAME)
 }
 
 // The line of a table's least automaton with its track under a name, if it has one track.

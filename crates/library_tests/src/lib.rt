@@ -85,6 +85,14 @@ mod single_steps;
 #[cfg(test)]
 mod automaton_texts;
 
+// automaton files that are read, and files that break at a line
+#[cfg(test)]
+mod hostile_files;
+
+// the branching automata of files, and the steps of their relations
+#[cfg(test)]
+mod reading_steps;
+
 // scripts and their items
 #[cfg(test)]
 mod scripts;

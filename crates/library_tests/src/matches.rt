@@ -1,6 +1,6 @@
 //! The tables of expressions, and which words match them.
 
-use crate::outcomes::{expect, table_outcome, width_of};
+use crate::outcomes::{below_width_of, expect, table_outcome, width_of};
 use crate::row_fault::RowFault;
 use crate::table_texts::{branches_of, sets_of};
 use digit_tuple::alphabet::Alphabet;
@@ -19,6 +19,7 @@ use regex_build::postfix_symbol::PostfixSymbol;
 use regex_build::regex::Regex;
 use regex_build::{parse, positions};
 use std::alloc::Global;
+use std::process::Abort;
 
 // The letter of one track with this member.
 fn letter_of(alloc: Global, member: i32) -> Result<LetterTuple, RowFault> {
@@ -65,7 +66,7 @@ fn positions_of(alloc: Global, regex: &Regex) -> Result<Nfa, RowFault> {
 }
 
 // Symbols in postfix order, and the table of their expression.
-const TABLES: [(&str, &str); 15] = [
+static TABLES: [(&str, &str); 15] = [
     ("_", "/!"),
     ("0", "/ 0>1/!"),
     (".", "/ 0>1 1>1/!"),
@@ -83,24 +84,41 @@ const TABLES: [(&str, &str); 15] = [
     ("0_|1,", "/ 0>1 1>2/ 1>2/!"),
 ];
 
+// Asserts that the expression of each row's symbols has its table.
+fn expect_tables(rt: &impl Abort, alloc: Global, rows: &[(&str, &str)]) -> Result<(), RowFault> {
+    for (text, table) in rows {
+        expect(rt, text, &symbols_table(alloc, &[2], text)?, table);
+    }
+    Ok(())
+}
+
 #[test]
 fn tables_of_small_expressions(rt: HostRuntime) -> Result<(), RowFault> {
-    for (text, table) in TABLES {
-        let made = symbols_table(rt.alloc(), &[2], text)?;
-        assert_eq!(rt; made.as_str(), table, "of {text}");
-    }
+    expect_tables(&rt, rt.alloc(), &TABLES)?;
     let made = symbols_table(rt.alloc(), &[2, 2], ".?")?;
-    assert_eq!(rt; made.as_str(), "/! 0>1 1>1 2>1 3>1/!");
+    expect(&rt, ".?", &made, "/! 0>1 1>1 2>1 3>1/!");
+    Ok(())
+}
+
+// Whether these symbols over one track are an expression.
+fn is_expression(alloc: Global, text: &str) -> Result<bool, RowFault> {
+    Ok(by_symbols(alloc, sets_of(alloc, &[2])?, text)?.is_some())
+}
+
+// Symbols that are no expression.
+static NO_EXPRESSIONS: [&str; 4] = ["", "00", "0|1", "02,"];
+
+// Asserts that these symbols are no expressions.
+fn expect_none(rt: &impl Abort, alloc: Global, texts: &[&str]) -> Result<(), RowFault> {
+    for text in texts {
+        assert!(rt; !is_expression(alloc, text)?, "of {text}");
+    }
     Ok(())
 }
 
 #[test]
 fn symbols_that_are_no_expression(rt: HostRuntime) -> Result<(), RowFault> {
-    for text in ["", "00", "0|1", "02,"] {
-        let sets = sets_of(rt.alloc(), &[2])?;
-        assert!(rt; by_symbols(rt.alloc(), sets, text)?.is_none(), "of {text}");
-    }
-    Ok(())
+    expect_none(&rt, rt.alloc(), &NO_EXPRESSIONS)
 }
 
 // The expression over tracks of these sizes.
@@ -109,34 +127,49 @@ fn regex_of(alloc: Global, sizes: &[u32], text: &str) -> Result<Regex, RowFault>
     Ok(parse(alloc, text.as_bytes(), &header)?)
 }
 
-// The automaton of an expression's matches, under a limit.
-fn built(alloc: Global, sizes: &[u32], text: &str, limit: u32) -> Result<Stepped<Dfa>, RowFault> {
+// The automaton of an expression's matches, under a limit, or why there is none.
+fn built(alloc: Global, sizes: &[u32], text: &str, limit: u32) -> Result<String, RowFault> {
     let regex = regex_of(alloc, sizes, text)?;
-    Ok(build(alloc, &regex, limit)?)
+    table_outcome(alloc, build(alloc, &regex, limit))
 }
 
 // Expressions and their automata. The width counts the empty word, and a word after which none is accepted.
-const WIDTHS: [(&str, &str); 3] = [
+static WIDTHS: [(&str, &str); 3] = [
     ("()", "2 /!"),
     ("0*1", "4 / 0>0 1>1/!"),
     ("01|10", "6 / 0>1 1>2/ 1>3/ 0>3/!"),
 ];
 
-#[test]
-fn widths_are_those_worked_out(rt: HostRuntime) -> Result<(), RowFault> {
-    for (text, wanted) in WIDTHS {
-        let width = width_of(wanted)?;
-        let made = built(rt.alloc(), &[2], text, width);
-        expect(&rt, text, &table_outcome(rt.alloc(), made)?, wanted);
-        let narrow = built(rt.alloc(), &[2], text, width.saturating_sub(1));
-        expect(&rt, text, &table_outcome(rt.alloc(), narrow)?, "States");
+// Asserts that each automaton is made at its width, and not below.
+fn expect_widths(rt: &impl Abort, alloc: Global, rows: &[(&str, &str)]) -> Result<(), RowFault> {
+    for (text, wanted) in rows {
+        let made = built(alloc, &[2], text, width_of(wanted)?)?;
+        expect(rt, text, &made, wanted);
+        let narrow = built(alloc, &[2], text, below_width_of(wanted)?)?;
+        expect(rt, text, &narrow, "States");
     }
     Ok(())
 }
 
+#[test]
+fn widths_are_those_worked_out(rt: HostRuntime) -> Result<(), RowFault> {
+    expect_widths(&rt, rt.alloc(), &WIDTHS)
+}
+
+// An automaton of a row, under a limit.
+fn automaton_of(
+    alloc: Global,
+    sizes: &[u32],
+    text: &str,
+    limit: u32,
+) -> Result<Stepped<Dfa>, RowFault> {
+    let regex = regex_of(alloc, sizes, text)?;
+    Ok(build(alloc, &regex, limit)?)
+}
+
 // The width of an expression's matches under a limit, and how many states their automaton has.
 fn width_and_states(alloc: Global, text: &str, limit: u32) -> Result<(u32, u32), RowFault> {
-    let made = built(alloc, &[2], text, limit)?;
+    let made = automaton_of(alloc, &[2], text, limit)?;
     Ok((made.width, made.result.states()))
 }
 
@@ -145,21 +178,22 @@ fn width_and_states(alloc: Global, text: &str, limit: u32) -> Result<(u32, u32),
 fn the_empty_word_counts(rt: HostRuntime) -> Result<(), RowFault> {
     let text = "(0|1)*1(0|1)(0|1)(0|1)(0|1)";
     assert_eq!(rt; width_and_states(rt.alloc(), text, 33)?, (33, 32));
-    let narrow = built(rt.alloc(), &[2], text, 32);
-    expect(&rt, text, &table_outcome(rt.alloc(), narrow)?, "States");
+    let narrow = built(rt.alloc(), &[2], text, 32)?;
+    expect(&rt, text, &narrow, "States");
     Ok(())
 }
 
 // How many letters the automaton of the empty word has over so many tracks.
 fn letters_over(alloc: Global, sizes: &[u32]) -> Result<u32, RowFault> {
-    Ok(built(alloc, sizes, "()", 2)?.result.alphabet().letters())
+    let made = automaton_of(alloc, sizes, "()", 2)?;
+    Ok(made.result.alphabet().letters())
 }
 
 #[test]
 fn seventeen_tracks_are_too_many(rt: HostRuntime) -> Result<(), RowFault> {
     assert_eq!(rt; letters_over(rt.alloc(), &[2; 16])?, 65536);
-    let more = built(rt.alloc(), &[2; 17], "()", 0);
-    expect(&rt, "()", &table_outcome(rt.alloc(), more)?, "Letters");
+    let more = built(rt.alloc(), &[2; 17], "()", 0)?;
+    expect(&rt, "()", &more, "Letters");
     Ok(())
 }
 
@@ -184,8 +218,18 @@ fn matching_of(alloc: Global, regex: &Regex, length: usize) -> Result<usize, Row
     Ok(count)
 }
 
+// How many words up to a length match the expression of a text.
+fn matching_text(
+    alloc: Global,
+    sizes: &[u32],
+    text: &str,
+    longest: usize,
+) -> Result<usize, RowFault> {
+    matching(alloc, &regex_of(alloc, sizes, text)?, longest)
+}
+
 // Sizes of tracks, an expression, the longest words, and how many up to that length match.
-const MATCHES: [(&[u32], &str, usize, usize); 21] = [
+static MATCHES: [(&[u32], &str, usize, usize); 21] = [
     (&[2], "()", 4, 1),
     (&[2], "01", 4, 1),
     (&[2], "0|1", 4, 2),
@@ -209,11 +253,20 @@ const MATCHES: [(&[u32], &str, usize, usize); 21] = [
     (&[2, 2], "[1,1]?.+|[0,0]", 3, 84),
 ];
 
-#[test]
-fn matching_words_are_counted(rt: HostRuntime) -> Result<(), RowFault> {
-    for (sizes, text, longest, count) in MATCHES {
-        let regex = regex_of(rt.alloc(), sizes, text)?;
-        assert_eq!(rt; matching(rt.alloc(), &regex, longest)?, count, "of {text}");
+// Asserts that so many words match each expression.
+fn expect_matching(
+    rt: &impl Abort,
+    alloc: Global,
+    rows: &[(&[u32], &str, usize, usize)],
+) -> Result<(), RowFault> {
+    for (sizes, text, longest, count) in rows {
+        let found = matching_text(alloc, sizes, text, *longest)?;
+        assert_eq!(rt; found, *count, "of {text}");
     }
     Ok(())
+}
+
+#[test]
+fn matching_words_are_counted(rt: HostRuntime) -> Result<(), RowFault> {
+    expect_matching(&rt, rt.alloc(), &MATCHES)
 }

@@ -2,46 +2,40 @@
 
 ghost use Rattle.std.specs.Prelude.{◌≡◌, ◌<◌, length};
 
-use crate::outcomes::{expect, table_outcome, width_of};
+use crate::outcomes::{below_width_of, expect, table_outcome, width_of};
 use crate::row_fault::RowFault;
 use crate::table_texts::{language, table_of};
-use digit_tuple::dfa::Dfa;
 use digit_tuple::direction::Direction;
-use digit_tuple::stepped::Stepped;
 use number_order::order::{equality_of, order_of};
 use number_order::zero::zero_of;
 use std::alloc::Global;
+use std::process::Abort;
 
 // All words of two digits, and those without two 1s in a row.
 const BINARY: &str = "x:2 = .*";
 
 const SPARSE: &str = "x:2 = (0|10)*1?";
 
-// The order of a language's numbers under a limit, if it has one track.
+// The order of a language's numbers under a limit, if it has one track, or why there is none.
 fn ordered(
     alloc: Global,
     line: &str,
     direction: Direction,
     limit: u32,
-) -> Result<Stepped<Dfa>, RowFault> {
+) -> Result<String, RowFault> {
     let language = language(alloc, line)?;
     if language.alphabet().sizes().len() == 1 {
-        Ok(order_of(alloc, &language, direction, limit)?)
+        table_outcome(alloc, order_of(alloc, &language, direction, limit))
     } else {
         Err(RowFault::Form)
     }
 }
 
-// The equality of a language's numbers under a limit, if it has one track.
-fn equal(
-    alloc: Global,
-    line: &str,
-    direction: Direction,
-    limit: u32,
-) -> Result<Stepped<Dfa>, RowFault> {
+// The equality of a language's numbers under a limit, if it has one track, or why there is none.
+fn equal(alloc: Global, line: &str, direction: Direction, limit: u32) -> Result<String, RowFault> {
     let language = language(alloc, line)?;
     if language.alphabet().sizes().len() == 1 {
-        Ok(equality_of(alloc, &language, direction, limit)?)
+        table_outcome(alloc, equality_of(alloc, &language, direction, limit))
     } else {
         Err(RowFault::Form)
     }
@@ -75,37 +69,53 @@ static ORDERS: [(&str, Direction, &str, &str); 4] = [
     ),
 ];
 
-#[test]
-fn orders_are_those_worked_out(rt: HostRuntime) -> Result<(), RowFault> {
-    for (line, direction, order, _) in ORDERS {
-        let width = width_of(order)?;
-        let made = ordered(rt.alloc(), line, direction, width);
-        expect(&rt, line, &table_outcome(rt.alloc(), made)?, order);
-        let narrow = ordered(rt.alloc(), line, direction, width.saturating_sub(1));
-        expect(&rt, line, &table_outcome(rt.alloc(), narrow)?, "States");
+// Asserts that each order is made at its width, and not below.
+fn expect_orders(
+    rt: &impl Abort,
+    alloc: Global,
+    rows: &[(&str, Direction, &str, &str)],
+) -> Result<(), RowFault> {
+    for (line, direction, order, _) in rows {
+        let made = ordered(alloc, line, *direction, width_of(order)?)?;
+        expect(rt, line, &made, order);
+        let narrow = ordered(alloc, line, *direction, below_width_of(order)?)?;
+        expect(rt, line, &narrow, "States");
+    }
+    Ok(())
+}
+
+// Asserts that each equality is made at its width, and not below.
+fn expect_equalities(
+    rt: &impl Abort,
+    alloc: Global,
+    rows: &[(&str, Direction, &str, &str)],
+) -> Result<(), RowFault> {
+    for (line, direction, _, equality) in rows {
+        let made = equal(alloc, line, *direction, width_of(equality)?)?;
+        expect(rt, line, &made, equality);
+        let narrow = equal(alloc, line, *direction, below_width_of(equality)?)?;
+        expect(rt, line, &narrow, "States");
     }
     Ok(())
 }
 
 #[test]
+fn orders_are_those_worked_out(rt: HostRuntime) -> Result<(), RowFault> {
+    expect_orders(&rt, rt.alloc(), &ORDERS)
+}
+
+#[test]
 fn equalities_are_those_worked_out(rt: HostRuntime) -> Result<(), RowFault> {
-    for (line, direction, _, equality) in ORDERS {
-        let width = width_of(equality)?;
-        let made = equal(rt.alloc(), line, direction, width);
-        expect(&rt, line, &table_outcome(rt.alloc(), made)?, equality);
-        let narrow = equal(rt.alloc(), line, direction, width.saturating_sub(1));
-        expect(&rt, line, &table_outcome(rt.alloc(), narrow)?, "States");
-    }
-    Ok(())
+    expect_equalities(&rt, rt.alloc(), &ORDERS)
 }
 
 #[test]
 fn two_tracks_of_300_digits_are_too_large(rt: HostRuntime) -> Result<(), RowFault> {
     let line = "x:300 = /! 0>0";
-    let order = ordered(rt.alloc(), line, Direction::Msd, 0);
-    expect(&rt, line, &table_outcome(rt.alloc(), order)?, "Letters");
-    let equality = equal(rt.alloc(), line, Direction::Msd, 0);
-    expect(&rt, line, &table_outcome(rt.alloc(), equality)?, "Letters");
+    let order = ordered(rt.alloc(), line, Direction::Msd, 0)?;
+    expect(&rt, line, &order, "Letters");
+    let equality = equal(rt.alloc(), line, Direction::Msd, 0)?;
+    expect(&rt, line, &equality, "Letters");
     Ok(())
 }
 

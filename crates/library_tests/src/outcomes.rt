@@ -10,39 +10,36 @@ use minimise::tracked::Tracked;
 use std::alloc::Global;
 use std::process::Abort;
 
-/// The width and the line of an automaton with names, or the fault.
-pub fn outcome(
-    alloc: Global,
-    made: Result<Stepped<Tracked>, RowFault>,
-) -> Result<String, RowFault> {
+/// The width and the line of an automaton with names, or why there is none.
+pub fn outcome(alloc: Global, made: Result<Stepped<Tracked>, OpFault>) -> Result<String, RowFault> {
     match made {
-        Ok(stepped) => with_width(alloc, stepped.width, line_of(alloc, &stepped.result)?),
+        Ok(stepped) => with_width(alloc, stepped.width, &line_of(alloc, &stepped.result)?),
         Err(fault) => refusal(alloc, fault),
     }
 }
 
-/// The width and the table of an automaton, or the fault.
+/// The width and the table of an automaton, or why there is none.
 pub fn table_outcome(
     alloc: Global,
-    made: Result<Stepped<Dfa>, RowFault>,
+    made: Result<Stepped<Dfa>, OpFault>,
 ) -> Result<String, RowFault> {
     match made {
-        Ok(stepped) => with_width(alloc, stepped.width, table_of(alloc, &stepped.result)?),
+        Ok(stepped) => with_width(alloc, stepped.width, &table_of(alloc, &stepped.result)?),
         Err(fault) => refusal(alloc, fault),
     }
 }
 
 // A width and a text.
-fn with_width(alloc: Global, width: u32, text: String) -> Result<String, RowFault> {
+fn with_width(alloc: Global, width: u32, text: &str) -> Result<String, RowFault> {
     Ok(format!(in alloc; "{width} {text}")?)
 }
 
 // The text of a refusal.
-fn refusal(alloc: Global, fault: RowFault) -> Result<String, RowFault> {
+fn refusal(alloc: Global, fault: OpFault) -> Result<String, RowFault> {
     match fault {
-        RowFault::Call(OpFault::States) => Ok(String::from_str(alloc, "States")?),
-        RowFault::Call(OpFault::Letters) => Ok(String::from_str(alloc, "Letters")?),
-        _ => Err(fault),
+        OpFault::States => Ok(String::from_str(alloc, "States")?),
+        OpFault::Letters => Ok(String::from_str(alloc, "Letters")?),
+        OpFault::Memory => Err(RowFault::Call(fault)),
     }
 }
 
@@ -50,6 +47,11 @@ fn refusal(alloc: Global, fault: RowFault) -> Result<String, RowFault> {
 pub fn width_of(text: &str) -> Result<u32, RowFault> {
     let (width, _) = text.split_once(' ').ok_or(RowFault::Form)?;
     Ok(width.parse()?)
+}
+
+/// The limit that this width is just past.
+pub fn below_width_of(text: &str) -> Result<u32, RowFault> {
+    Ok(width_of(text)?.saturating_sub(1))
 }
 
 /// The lines of steps, each its kind, its width and its size.

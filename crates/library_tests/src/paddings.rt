@@ -1,13 +1,12 @@
 //! Closures under padding, worked by hand.
 
-use crate::outcomes::{expect, table_outcome, width_of};
+use crate::outcomes::{below_width_of, expect, table_outcome, width_of};
 use crate::row_fault::RowFault;
 use crate::table_texts::language;
-use digit_tuple::dfa::Dfa;
 use digit_tuple::direction::Direction;
-use digit_tuple::stepped::Stepped;
 use project_close::padding::pad;
 use std::alloc::Global;
+use std::process::Abort;
 
 // Automata and directions, and their closures.
 static PADDINGS: [(&str, Direction, &str); 8] = [
@@ -25,25 +24,28 @@ static PADDINGS: [(&str, Direction, &str); 8] = [
     ("x:2 = /", Direction::Lsd, "1 /"),
 ];
 
-// The closure under a limit.
-fn padded(
-    alloc: Global,
-    line: &str,
-    direction: Direction,
-    limit: u32,
-) -> Result<Stepped<Dfa>, RowFault> {
+// The closure under a limit, or why there is none.
+fn padded(alloc: Global, line: &str, direction: Direction, limit: u32) -> Result<String, RowFault> {
     let a = language(alloc, line)?;
-    Ok(pad(alloc, &a, direction, limit)?)
+    table_outcome(alloc, pad(alloc, &a, direction, limit))
+}
+
+// Asserts that each closure is made at its width, and not below.
+fn expect_closures(
+    rt: &impl Abort,
+    alloc: Global,
+    rows: &[(&str, Direction, &str)],
+) -> Result<(), RowFault> {
+    for (line, direction, wanted) in rows {
+        let made = padded(alloc, line, *direction, width_of(wanted)?)?;
+        expect(rt, line, &made, wanted);
+        let narrow = padded(alloc, line, *direction, below_width_of(wanted)?)?;
+        expect(rt, line, &narrow, "States");
+    }
+    Ok(())
 }
 
 #[test]
 fn closures_are_those_worked_out(rt: HostRuntime) -> Result<(), RowFault> {
-    for (line, direction, wanted) in PADDINGS {
-        let width = width_of(wanted)?;
-        let made = table_outcome(rt.alloc(), padded(rt.alloc(), line, direction, width));
-        expect(&rt, line, &made?, wanted);
-        let narrow = padded(rt.alloc(), line, direction, width.saturating_sub(1));
-        expect(&rt, line, &table_outcome(rt.alloc(), narrow)?, "States");
-    }
-    Ok(())
+    expect_closures(&rt, rt.alloc(), &PADDINGS)
 }

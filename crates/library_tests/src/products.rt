@@ -6,10 +6,12 @@ ghost use Rattle.product_op.specs.Connectives.{among_valid};
 ghost use Rattle.product_op.specs.Tracks.{joint_sizes};
 ghost use Rattle.product_op.specs.Validity.{AreLanguages};
 
-use crate::outcomes::{expect, outcome, width_of};
+use crate::outcomes::{below_width_of, expect, outcome, width_of};
 use crate::row_fault::RowFault;
 use crate::table_texts::{languages, tracked};
 use digit_tuple::dfa::Dfa;
+use digit_tuple::faults::OpFault;
+use digit_tuple::name::Name;
 use digit_tuple::names::joint_names;
 use digit_tuple::stepped::Stepped;
 use minimise::tracked::Tracked;
@@ -20,6 +22,7 @@ use product_op::product::product;
 use product_op::validity::{complement_in, valid_part};
 use reference::words::all_words;
 use std::alloc::Global;
+use std::process::Abort;
 use std::rc::Rc;
 
 // Words with an even number of 1s, words that end in 1, and words without two 1s in a row.
@@ -103,24 +106,24 @@ static PRODUCTS: [ProductRow; 6] = [
     },
 ];
 
-// The product under a limit, if the arguments go together.
-fn joined(alloc: Global, row: &ProductRow, limit: u32) -> Result<Stepped<Tracked>, RowFault> {
+// The product of a row's automata under a limit, if these go together, or why there is none.
+fn joined(alloc: Global, row: &ProductRow, limit: u32) -> Result<String, RowFault> {
     let a = tracked(alloc, row.a)?;
     let b = tracked(alloc, row.b)?;
     let valid = languages(alloc, row.valid)?;
-    product_of(alloc, (&a, &b), row.op, &valid, limit)
+    product_text(alloc, (&a, &b), row.op, &valid, limit)
 }
 
-// The product of two under a limit, if they go together.
-fn product_of(
+// The product of two under a limit, if they go together, or why there is none.
+fn product_text(
     alloc: Global,
     (a, b): (&Tracked, &Tracked),
     op: Op,
     valid: &[Rc<Dfa>],
     limit: u32,
-) -> Result<Stepped<Tracked>, RowFault> {
+) -> Result<String, RowFault> {
     if agree_on_shared(a, b) && have_languages(alloc, a, b, op, valid)? {
-        Ok(product(alloc, a, b, op, valid, limit)?)
+        outcome(alloc, product(alloc, a, b, op, valid, limit))
     } else {
         Err(RowFault::Form)
     }
@@ -164,41 +167,51 @@ fn joint_sizes_of(alloc: Global, a: &Tracked, b: &Tracked) -> Result<Vec<u32>, R
     Ok(sizes_of_names(alloc, &names, a, b)?)
 }
 
-#[test]
-fn products_are_those_worked_out(rt: HostRuntime) -> Result<(), RowFault> {
-    for row in &PRODUCTS {
-        let width = width_of(row.made)?;
-        let made = outcome(rt.alloc(), joined(rt.alloc(), row, width))?;
-        expect(&rt, row.a, &made, row.made);
-        let narrow = joined(rt.alloc(), row, width.saturating_sub(1));
-        expect(&rt, row.a, &outcome(rt.alloc(), narrow)?, "States");
+// Asserts that each product is made at its width, and not below.
+fn expect_products(rt: &impl Abort, alloc: Global, rows: &[ProductRow]) -> Result<(), RowFault> {
+    for row in rows {
+        let made = joined(alloc, row, width_of(row.made)?)?;
+        expect(rt, row.a, &made, row.made);
+        let narrow = joined(alloc, row, below_width_of(row.made)?)?;
+        expect(rt, row.a, &narrow, "States");
     }
     Ok(())
 }
 
+#[test]
+fn products_are_those_worked_out(rt: HostRuntime) -> Result<(), RowFault> {
+    expect_products(&rt, rt.alloc(), &PRODUCTS)
+}
+
 // Automata over seventeen tracks together, and over 257 times 256 letters.
-static LARGE: [(&str, &str); 2] = [
-    (
-        "a:1 b:1 c:1 d:1 e:1 f:1 g:1 h:1 i:1 = ()",
-        "j:1 k:1 l:1 m:1 n:1 o:1 p:1 q:1 = ()",
-    ),
-    ("x:257 = ()", "y:256 = ()"),
+static LARGE: [ProductRow; 2] = [
+    ProductRow {
+        a: "a:1 b:1 c:1 d:1 e:1 f:1 g:1 h:1 i:1 = ()",
+        b: "j:1 k:1 l:1 m:1 n:1 o:1 p:1 q:1 = ()",
+        op: Op::And,
+        valid: &[],
+        made: "Letters",
+    },
+    ProductRow {
+        a: "x:257 = ()",
+        b: "y:256 = ()",
+        op: Op::And,
+        valid: &[],
+        made: "Letters",
+    },
 ];
+
+// Asserts that each product is refused so.
+fn expect_refused(rt: &impl Abort, alloc: Global, rows: &[ProductRow]) -> Result<(), RowFault> {
+    for row in rows {
+        expect(rt, row.a, &joined(alloc, row, 1000)?, row.made);
+    }
+    Ok(())
+}
 
 #[test]
 fn joint_tracks_have_an_alphabet(rt: HostRuntime) -> Result<(), RowFault> {
-    for (a, b) in LARGE {
-        let row = ProductRow {
-            a,
-            b,
-            op: Op::And,
-            valid: &[],
-            made: "Letters",
-        };
-        let made = outcome(rt.alloc(), joined(rt.alloc(), &row, 1000))?;
-        expect(&rt, row.a, &made, row.made);
-    }
-    Ok(())
+    expect_refused(&rt, rt.alloc(), &LARGE)
 }
 
 // Two automata, a language for each track, the longest words, and how many words up to that length are in their product
@@ -255,153 +268,245 @@ static COUNTS: [CountRow; 5] = [
 fn accepted(alloc: Global, dfa: &Dfa, longest: usize) -> Result<usize, RowFault> {
     let mut count: usize = 0;
     for length in 0..=longest {
-        for word in &all_words(alloc, dfa.alphabet().letters(), length)? {
-            count = count.saturating_add(usize::from(dfa.accepts(word.letters())));
-        }
+        count = count.saturating_add(accepted_of(alloc, dfa, length)?);
     }
     Ok(count)
 }
 
+// How many words of a length it accepts.
+fn accepted_of(alloc: Global, dfa: &Dfa, length: usize) -> Result<usize, RowFault> {
+    let mut count: usize = 0;
+    for word in &all_words(alloc, dfa.alphabet().letters(), length)? {
+        count = count.saturating_add(usize::from(dfa.accepts(word.letters())));
+    }
+    Ok(count)
+}
+
+// How many words up to a length an automaton that was made accepts.
+fn accepted_in(
+    alloc: Global,
+    made: Result<Stepped<Tracked>, OpFault>,
+    longest: usize,
+) -> Result<usize, RowFault> {
+    match made {
+        Ok(stepped) => accepted(alloc, stepped.result.dfa(), longest),
+        Err(fault) => Err(RowFault::Call(fault)),
+    }
+}
+
 // How many words up to the row's length are in its product by a connective.
 fn joined_count(alloc: Global, row: &CountRow, op: Op) -> Result<usize, RowFault> {
-    let product = ProductRow {
-        a: row.a,
-        b: row.b,
-        op,
-        valid: row.valid,
-        made: "",
-    };
-    let made = joined(alloc, &product, 1000)?;
-    accepted(alloc, made.result.dfa(), row.longest)
+    let a = tracked(alloc, row.a)?;
+    let b = tracked(alloc, row.b)?;
+    let valid = languages(alloc, row.valid)?;
+    product_count(alloc, (&a, &b), op, &valid, row.longest)
 }
 
-// How many are in it by each connective of `OPS`.
-fn joined_counts(alloc: Global, row: &CountRow) -> Result<Vec<usize>, RowFault> {
-    let mut counts = Vec::new(alloc);
-    for op in OPS {
-        counts.push(joined_count(alloc, row, op)?)?;
+// How many words up to a length are in the product of two, if they go together.
+fn product_count(
+    alloc: Global,
+    (a, b): (&Tracked, &Tracked),
+    op: Op,
+    valid: &[Rc<Dfa>],
+    longest: usize,
+) -> Result<usize, RowFault> {
+    if agree_on_shared(a, b) && have_languages(alloc, a, b, op, valid)? {
+        accepted_in(alloc, product(alloc, a, b, op, valid, 1000), longest)
+    } else {
+        Err(RowFault::Form)
     }
-    Ok(counts)
 }
 
-#[test]
-fn words_in_products_are_counted(rt: HostRuntime) -> Result<(), RowFault> {
-    for row in &COUNTS {
-        let counts = joined_counts(rt.alloc(), row)?;
-        assert_eq!(rt; counts.as_slice(), row.counts.as_slice(), "of {}", row.a);
+// Asserts that so many are in it by each connective of `OPS`.
+fn expect_row_counts(rt: &impl Abort, alloc: Global, row: &CountRow) -> Result<(), RowFault> {
+    for (op, wanted) in OPS.iter().zip(&row.counts) {
+        expect_count(rt, row.a, joined_count(alloc, row, *op)?, *wanted);
     }
     Ok(())
 }
 
-// The complement under a limit, if there is a language for each track.
-fn complement(
-    alloc: Global,
-    line: &str,
-    valid: &[&str],
-    limit: u32,
-) -> Result<Stepped<Tracked>, RowFault> {
-    let a = tracked(alloc, line)?;
-    let languages = languages(alloc, valid)?;
-    if are_languages(alloc, a.dfa().alphabet().sizes(), &languages)? {
-        Ok(complement_in(alloc, &a, &languages, limit)?)
-    } else {
-        Err(RowFault::Form)
-    }
+// Asserts that there are as many words as wanted.
+fn expect_count(rt: &impl Abort, row: &str, found: usize, wanted: usize) {
+    assert_eq!(rt; found, wanted, "of {row}");
 }
 
-// The valid part under a limit, if there is a language for each track.
-fn part(
-    alloc: Global,
-    line: &str,
-    valid: &[&str],
-    limit: u32,
-) -> Result<Stepped<Tracked>, RowFault> {
-    let a = tracked(alloc, line)?;
-    let languages = languages(alloc, valid)?;
-    if are_languages(alloc, a.dfa().alphabet().sizes(), &languages)? {
-        Ok(valid_part(alloc, &a, &languages, limit)?)
-    } else {
-        Err(RowFault::Form)
+// Asserts that so many words are in each row's products.
+fn expect_counts(rt: &impl Abort, alloc: Global, rows: &[CountRow]) -> Result<(), RowFault> {
+    for row in rows {
+        expect_row_counts(rt, alloc, row)?;
     }
+    Ok(())
 }
 
-// The text of the complement under a limit.
+#[test]
+fn words_in_products_are_counted(rt: HostRuntime) -> Result<(), RowFault> {
+    expect_counts(&rt, rt.alloc(), &COUNTS)
+}
+
+// The complement under a limit, if there is a language for each track, or why there is none.
+fn complement(alloc: Global, line: &str, valid: &[&str], limit: u32) -> Result<String, RowFault> {
+    let a = tracked(alloc, line)?;
+    let languages = languages(alloc, valid)?;
+    complement_text(alloc, &a, &languages, limit)
+}
+
+// The complement of an automaton under a limit, if there is a language for each track, or why there is none.
 fn complement_text(
     alloc: Global,
-    line: &str,
-    valid: &[&str],
+    a: &Tracked,
+    languages: &[Rc<Dfa>],
     limit: u32,
 ) -> Result<String, RowFault> {
-    outcome(alloc, complement(alloc, line, valid, limit))
+    if are_languages(alloc, a.dfa().alphabet().sizes(), languages)? {
+        outcome(alloc, complement_in(alloc, a, languages, limit))
+    } else {
+        Err(RowFault::Form)
+    }
 }
 
-// The text of the valid part under a limit.
-fn part_text(alloc: Global, line: &str, valid: &[&str], limit: u32) -> Result<String, RowFault> {
-    outcome(alloc, part(alloc, line, valid, limit))
+// The valid part under a limit, if there is a language for each track, or why there is none.
+fn part(alloc: Global, line: &str, valid: &[&str], limit: u32) -> Result<String, RowFault> {
+    let a = tracked(alloc, line)?;
+    let languages = languages(alloc, valid)?;
+    part_text(alloc, &a, &languages, limit)
+}
+
+// The valid part of an automaton under a limit, if there is a language for each track, or why there is none.
+fn part_text(
+    alloc: Global,
+    a: &Tracked,
+    languages: &[Rc<Dfa>],
+    limit: u32,
+) -> Result<String, RowFault> {
+    if are_languages(alloc, a.dfa().alphabet().sizes(), languages)? {
+        outcome(alloc, valid_part(alloc, a, languages, limit))
+    } else {
+        Err(RowFault::Form)
+    }
 }
 
 #[test]
 fn complements_and_parts_have_valid_words_alone(rt: HostRuntime) -> Result<(), RowFault> {
-    let others = complement_text(rt.alloc(), ENDS, &[SPARSE], 4)?;
+    let others = complement(rt.alloc(), ENDS, &[SPARSE], 4)?;
     expect(&rt, ENDS, &others, "4 x:2 = /! 0>0 1>1/ 0>0");
-    let narrow = complement_text(rt.alloc(), ENDS, &[SPARSE], 3)?;
+    let narrow = complement(rt.alloc(), ENDS, &[SPARSE], 3)?;
     expect(&rt, ENDS, &narrow, "States");
-    let some = part_text(rt.alloc(), ENDS, &[SPARSE], 4)?;
+    let some = part(rt.alloc(), ENDS, &[SPARSE], 4)?;
     expect(&rt, ENDS, &some, "4 x:2 = / 0>0 1>1/! 0>0");
-    let narrow = part_text(rt.alloc(), ENDS, &[SPARSE], 3)?;
+    let narrow = part(rt.alloc(), ENDS, &[SPARSE], 3)?;
     expect(&rt, ENDS, &narrow, "States");
     Ok(())
 }
 
 // An automaton, a language for each track, the longest words, and how many words up to that length are in the
 // complement and in the valid part.
-static VALID_WORDS: [(&str, &[&str], usize, [usize; 2]); 3] = [
-    (ENDS, &[SPARSE], 5, [20, 12]),
-    ("y:3 x:2 = ([0,1]|[2,0])*.", &[PAIRED, SPARSE], 2, [12, 8]),
+static VALID_WORDS: [(&str, &[&str], usize, usize, usize); 3] = [
+    (ENDS, &[SPARSE], 5, 20, 12),
+    ("y:3 x:2 = ([0,1]|[2,0])*.", &[PAIRED, SPARSE], 2, 12, 8),
     (
         "x:2 y:3 z:2 = ([0,0,0]|[1,2,1])*",
         &[SPARSE, PAIRED, RISING],
         2,
-        [51, 3],
+        51,
+        3,
     ),
 ];
 
-// How many words up to a length the automaton that was made accepts.
-fn accepted_of(
+// How many words up to a length are in the complement, if there is a language for each track.
+fn complement_count(
     alloc: Global,
-    made: Result<Stepped<Tracked>, RowFault>,
+    line: &str,
+    valid: &[&str],
     longest: usize,
 ) -> Result<usize, RowFault> {
-    accepted(alloc, made?.result.dfa(), longest)
+    let a = tracked(alloc, line)?;
+    let languages = languages(alloc, valid)?;
+    complement_size(alloc, &a, &languages, longest)
+}
+
+// How many words up to a length are in the complement of an automaton, if there is a language for each track.
+fn complement_size(
+    alloc: Global,
+    a: &Tracked,
+    languages: &[Rc<Dfa>],
+    longest: usize,
+) -> Result<usize, RowFault> {
+    if are_languages(alloc, a.dfa().alphabet().sizes(), languages)? {
+        accepted_in(alloc, complement_in(alloc, a, languages, 1000), longest)
+    } else {
+        Err(RowFault::Form)
+    }
+}
+
+// How many words up to a length are in the valid part, if there is a language for each track.
+fn part_count(
+    alloc: Global,
+    line: &str,
+    valid: &[&str],
+    longest: usize,
+) -> Result<usize, RowFault> {
+    let a = tracked(alloc, line)?;
+    let languages = languages(alloc, valid)?;
+    part_size(alloc, &a, &languages, longest)
+}
+
+// How many words up to a length are in the valid part of an automaton, if there is a language for each track.
+fn part_size(
+    alloc: Global,
+    a: &Tracked,
+    languages: &[Rc<Dfa>],
+    longest: usize,
+) -> Result<usize, RowFault> {
+    if are_languages(alloc, a.dfa().alphabet().sizes(), languages)? {
+        accepted_in(alloc, valid_part(alloc, a, languages, 1000), longest)
+    } else {
+        Err(RowFault::Form)
+    }
+}
+
+// Asserts that so many words are in each complement and in each valid part.
+fn expect_valid_words(
+    rt: &impl Abort,
+    alloc: Global,
+    rows: &[(&str, &[&str], usize, usize, usize)],
+) -> Result<(), RowFault> {
+    for (line, valid, longest, others, some) in rows {
+        let found = complement_count(alloc, line, valid, *longest)?;
+        expect_count(rt, line, found, *others);
+        let found = part_count(alloc, line, valid, *longest)?;
+        expect_count(rt, line, found, *some);
+    }
+    Ok(())
 }
 
 #[test]
 fn valid_words_are_counted(rt: HostRuntime) -> Result<(), RowFault> {
-    for (line, valid, longest, [others, some]) in VALID_WORDS {
-        let found = accepted_of(
-            rt.alloc(),
-            complement(rt.alloc(), line, valid, 1000),
-            longest,
-        )?;
-        assert_eq!(rt; found, others, "of {line}");
-        let found = accepted_of(rt.alloc(), part(rt.alloc(), line, valid, 1000), longest)?;
-        assert_eq!(rt; found, some, "of {line}");
-    }
-    Ok(())
+    expect_valid_words(&rt, rt.alloc(), &VALID_WORDS)
 }
 
 // The tracks of two automata as one list, where they agree on those of one name.
 fn joint(alloc: Global, a: &str, b: &str) -> Result<String, RowFault> {
     let a = tracked(alloc, a)?;
     let b = tracked(alloc, b)?;
-    let mut text = String::new(alloc);
     if agree_on_shared(&a, &b) {
-        let joint = joint_tracks(alloc, &a, &b)?;
-        let sizes = sizes_of_names(alloc, &joint.names, &a, &b)?;
-        for (name, size) in joint.names.iter().zip(&sizes) {
-            text.push_str(name.as_str())?;
-            text.push_str(&format!(in alloc; ":{size} ")?)?;
-        }
+        joint_text(alloc, &a, &b)
+    } else {
+        Ok(String::new(alloc))
+    }
+}
+
+// The tracks of two automata as one list, each its name and its size.
+fn joint_text(alloc: Global, a: &Tracked, b: &Tracked) -> Result<String, RowFault> {
+    let joint = joint_tracks(alloc, a, b)?;
+    let sizes = sizes_of_names(alloc, &joint.names, a, b)?;
+    track_texts(alloc, &joint.names, &sizes)
+}
+
+// Names and sizes as a text.
+fn track_texts(alloc: Global, names: &[Name], sizes: &[u32]) -> Result<String, RowFault> {
+    let mut text = String::new(alloc);
+    for (name, size) in names.iter().zip(sizes) {
+        text.push_str(&format!(in alloc; "{}:{size} ", name.as_str())?)?;
     }
     Ok(text)
 }
@@ -414,12 +519,21 @@ static JOINT: [(&str, &str, &str); 4] = [
     ("x:2 = .", "x:0 = ()", ""),
 ];
 
-#[test]
-fn tracks_of_one_name_are_one_track(rt: HostRuntime) -> Result<(), RowFault> {
-    for (a, b, wanted) in JOINT {
-        expect(&rt, a, &joint(rt.alloc(), a, b)?, wanted);
+// Asserts that each two have these joint tracks.
+fn expect_joint(
+    rt: &impl Abort,
+    alloc: Global,
+    rows: &[(&str, &str, &str)],
+) -> Result<(), RowFault> {
+    for (a, b, wanted) in rows {
+        expect(rt, a, &joint(alloc, a, b)?, wanted);
     }
     Ok(())
+}
+
+#[test]
+fn tracks_of_one_name_are_one_track(rt: HostRuntime) -> Result<(), RowFault> {
+    expect_joint(&rt, rt.alloc(), &JOINT)
 }
 
 // An automaton, languages, and whether these are one for each track.
@@ -437,13 +551,22 @@ fn has_languages(alloc: Global, line: &str, valid: &[&str]) -> Result<bool, RowF
     Ok(are_languages(alloc, a.dfa().alphabet().sizes(), &languages)?)
 }
 
-#[test]
-fn each_track_has_a_language(rt: HostRuntime) -> Result<(), RowFault> {
-    for (line, valid, wanted) in LANGUAGES {
-        let found = has_languages(rt.alloc(), line, valid)?;
-        assert_eq!(rt; found, wanted, "of {line}");
+// Asserts that each row has a language for each track, or not.
+fn expect_languages(
+    rt: &impl Abort,
+    alloc: Global,
+    rows: &[(&str, &[&str], bool)],
+) -> Result<(), RowFault> {
+    for (line, valid, wanted) in rows {
+        let found = has_languages(alloc, line, valid)?;
+        assert_eq!(rt; found, *wanted, "of {line}");
     }
     Ok(())
+}
+
+#[test]
+fn each_track_has_a_language(rt: HostRuntime) -> Result<(), RowFault> {
+    expect_languages(&rt, rt.alloc(), &LANGUAGES)
 }
 
 // What the connectives say of false and false, false and true, true and false, and true and true, and whether they are
@@ -457,16 +580,25 @@ static TRUTH: [(Op, [bool; 4], bool); 6] = [
     (Op::Iff, [true, false, false, true], true),
 ];
 
+// What a connective says of false and false, false and true, true and false, and true and true.
+fn truth_of(op: Op) -> [bool; 4] {
+    [
+        op.holds(false, false),
+        op.holds(false, true),
+        op.holds(true, false),
+        op.holds(true, true),
+    ]
+}
+
+// Asserts that the connectives say this.
+fn expect_truth(rt: &impl Abort, rows: &[(Op, [bool; 4], bool)]) {
+    for (op, wanted, among_valid) in rows {
+        assert_eq!(rt; truth_of(*op), *wanted, "of {op:?}");
+        assert_eq!(rt; op.is_among_valid(), *among_valid, "of {op:?}");
+    }
+}
+
 #[test]
 fn connectives_are_those_of_truth_values(rt: HostRuntime) {
-    for (op, wanted, among_valid) in TRUTH {
-        let found = [
-            op.holds(false, false),
-            op.holds(false, true),
-            op.holds(true, false),
-            op.holds(true, true),
-        ];
-        assert_eq!(rt; found, wanted, "of {op:?}");
-        assert_eq!(rt; op.is_among_valid(), among_valid, "of {op:?}");
-    }
+    expect_truth(&rt, &TRUTH);
 }

@@ -1,16 +1,15 @@
 //! Projections, worked by hand, and the states that zeros lead to.
 
-use crate::outcomes::{expect, outcome, width_of};
+use crate::outcomes::{below_width_of, expect, outcome, width_of};
 use crate::row_fault::RowFault;
 use crate::table_texts::{table, tracked};
 use digit_tuple::direction::Direction;
 use digit_tuple::name::Name;
 use digit_tuple::names::find_name;
-use digit_tuple::stepped::Stepped;
-use minimise::tracked::Tracked;
 use project_close::projection::project;
 use project_close::zero_closure::{flagged, zero_closure};
 use std::alloc::Global;
+use std::process::Abort;
 
 // The pairs of x and y = 2 * x in base 2. With the most significant digit first a digit of y is the next digit of x;
 // else it is the one before.
@@ -47,41 +46,49 @@ static PROJECTIONS: [(&str, &str, Direction, &str); 8] = [
     ),
 ];
 
-// The projection under a limit, if the track is there.
+// The projection under a limit, if the track is there, or why there is none.
 fn dropped(
     alloc: Global,
     line: &str,
     track: &str,
     direction: Direction,
     limit: u32,
-) -> Result<Stepped<Tracked>, RowFault> {
+) -> Result<String, RowFault> {
     let a = tracked(alloc, line)?;
     let track = Name::new(alloc, track)?;
     if find_name(a.names(), &track).is_some() {
-        Ok(project(alloc, &a, &track, direction, limit)?)
+        outcome(alloc, project(alloc, &a, &track, direction, limit))
     } else {
         Err(RowFault::Form)
     }
 }
 
-#[test]
-fn projections_are_those_worked_out(rt: HostRuntime) -> Result<(), RowFault> {
-    for (line, track, direction, wanted) in PROJECTIONS {
-        let width = width_of(wanted)?;
-        let made = dropped(rt.alloc(), line, track, direction, width);
-        expect(&rt, line, &outcome(rt.alloc(), made)?, wanted);
-        let narrow = dropped(rt.alloc(), line, track, direction, width.saturating_sub(1));
-        expect(&rt, line, &outcome(rt.alloc(), narrow)?, "States");
+// Asserts that each projection is made at its width, and not below.
+fn expect_projections(
+    rt: &impl Abort,
+    alloc: Global,
+    rows: &[(&str, &str, Direction, &str)],
+) -> Result<(), RowFault> {
+    for (line, track, direction, wanted) in rows {
+        let made = dropped(alloc, line, track, *direction, width_of(wanted)?)?;
+        expect(rt, line, &made, wanted);
+        let narrow = dropped(alloc, line, track, *direction, below_width_of(wanted)?)?;
+        expect(rt, line, &narrow, "States");
     }
     Ok(())
+}
+
+#[test]
+fn projections_are_those_worked_out(rt: HostRuntime) -> Result<(), RowFault> {
+    expect_projections(&rt, rt.alloc(), &PROJECTIONS)
 }
 
 // A track without digits leaves no letter, and dropping it leaves 90,000. That is looked at before the limit.
 #[test]
 fn too_many_letters_may_stay(rt: HostRuntime) -> Result<(), RowFault> {
     let line = "x:300 y:300 z:0 = /!";
-    let made = dropped(rt.alloc(), line, "z", Direction::Msd, 0);
-    expect(&rt, line, &outcome(rt.alloc(), made)?, "Letters");
+    let made = dropped(rt.alloc(), line, "z", Direction::Msd, 0)?;
+    expect(&rt, line, &made, "Letters");
     Ok(())
 }
 
@@ -98,18 +105,36 @@ fn after_zeros(alloc: Global, line: &str) -> Result<Vec<u32>, RowFault> {
     Ok(zero_closure(alloc, &table)?)
 }
 
-#[test]
-fn zeros_lead_to_these_states(rt: HostRuntime) -> Result<(), RowFault> {
-    for (line, wanted) in AFTER_ZEROS {
-        let found = after_zeros(rt.alloc(), line)?;
-        assert_eq!(rt; found.as_slice(), wanted, "of {line}");
+// Asserts that these states are listed.
+fn expect_states(rt: &impl Abort, row: &str, found: &[u32], wanted: &[u32]) {
+    assert_eq!(rt; found, wanted, "of {row}");
+}
+
+// Asserts that zeros lead to the states of each row.
+fn expect_after_zeros(
+    rt: &impl Abort,
+    alloc: Global,
+    rows: &[(&str, &[u32])],
+) -> Result<(), RowFault> {
+    for (line, wanted) in rows {
+        expect_states(rt, line, &after_zeros(alloc, line)?, wanted);
     }
     Ok(())
 }
 
 #[test]
+fn zeros_lead_to_these_states(rt: HostRuntime) -> Result<(), RowFault> {
+    expect_after_zeros(&rt, rt.alloc(), &AFTER_ZEROS)
+}
+
+// The states of these flags.
+fn states_of(alloc: Global, flags: &[bool; 3]) -> Result<Vec<u32>, RowFault> {
+    Ok(flagged(alloc, flags)?)
+}
+
+#[test]
 fn flagged_states_are_listed(rt: HostRuntime) -> Result<(), RowFault> {
-    let found = flagged(rt.alloc(), &[true, false, true])?;
-    assert_eq!(rt; found.as_slice(), [0, 2].as_slice());
+    let found = states_of(rt.alloc(), &[true, false, true])?;
+    expect_states(&rt, "flags", &found, &[0, 2]);
     Ok(())
 }

@@ -7,6 +7,7 @@ use crate::sealed_systems::sealed;
 use digit_tuple::direction::Direction;
 use digit_tuple::name::Name;
 use digit_tuple::names::{are_distinct, find_name};
+use digit_tuple::step_fault::StepFault;
 use digit_tuple::steps::Steps;
 use num_system::system::System;
 use number_relations::comparison::Comparison;
@@ -16,6 +17,7 @@ use number_relations::multiple::{MultipleNames, multiple_steps};
 use number_relations::projection::project_step;
 use number_relations::relation::Relation;
 use std::alloc::Global;
+use std::process::Abort;
 use std::rc::Rc;
 
 // Some bases, each in both directions.
@@ -221,15 +223,35 @@ fn is_right(alloc: Global, shared: &Shared, made: Made) -> Result<bool, RowFault
     Ok(right)
 }
 
-#[test]
-fn relations_hold_of_the_numbers_of_arithmetic(rt: HostRuntime) -> Result<(), RowFault> {
-    for (base, direction) in BASES {
-        let shared = shared_base(rt.alloc(), base, direction)?;
-        for made in MADE {
-            assert!(rt; is_right(rt.alloc(), &shared, made)?, "of {made:?}");
-        }
+// Asserts that each relation holds in a base as arithmetic has it.
+fn expect_made(
+    rt: &impl Abort,
+    alloc: Global,
+    shared: &Shared,
+    rows: &[Made],
+) -> Result<(), RowFault> {
+    for made in rows {
+        assert!(rt; is_right(alloc, shared, *made)?, "of {made:?}");
     }
     Ok(())
+}
+
+// Asserts that each relation does so in each base.
+fn expect_in_bases(
+    rt: &impl Abort,
+    alloc: Global,
+    bases: &[(u32, Direction)],
+) -> Result<(), RowFault> {
+    for (base, direction) in bases {
+        let shared = shared_base(alloc, *base, *direction)?;
+        expect_made(rt, alloc, &shared, &MADE)?;
+    }
+    Ok(())
+}
+
+#[test]
+fn relations_hold_of_the_numbers_of_arithmetic(rt: HostRuntime) -> Result<(), RowFault> {
+    expect_in_bases(&rt, rt.alloc(), &BASES)
 }
 
 // A relation that is made of another one, or by a step alone.
@@ -251,17 +273,26 @@ fn changed_in(alloc: Global, shared: &Shared, changed: Changed) -> Result<Relati
     }
 }
 
+// The relation that a step made.
+fn by_a_step(made: Result<Relation, StepFault>) -> Result<Relation, RowFault> {
+    match made {
+        Ok(relation) => Ok(relation),
+        Err(fault) => Err(RowFault::Step(fault)),
+    }
+}
+
 // One number alone.
 fn constant(alloc: Global, shared: &Shared, number: u64, a: &str) -> Result<Relation, RowFault> {
     let mut steps = Steps::new(alloc, 1000);
     let name = Name::new(alloc, a)?;
-    Ok(constant_step(alloc, &shared.system, number, &name, &mut steps)?)
+    let made = constant_step(alloc, &shared.system, number, &name, &mut steps);
+    by_a_step(made)
 }
 
 // The numbers of which the relation does not hold.
 fn complement(alloc: Global, relation: &Relation) -> Result<Relation, RowFault> {
     let mut steps = Steps::new(alloc, 1000);
-    Ok(complement_step(alloc, relation, &mut steps)?)
+    by_a_step(complement_step(alloc, relation, &mut steps))
 }
 
 // The relation without a track, if it is there.
@@ -269,7 +300,7 @@ fn projected(alloc: Global, relation: &Relation, a: &str) -> Result<Relation, Ro
     let mut steps = Steps::new(alloc, 1000);
     let name = Name::new(alloc, a)?;
     if find_name(relation.names(), &name).is_some() {
-        Ok(project_step(alloc, relation, &name, &mut steps)?)
+        by_a_step(project_step(alloc, relation, &name, &mut steps))
     } else {
         Err(RowFault::Form)
     }
@@ -345,18 +376,38 @@ fn is_changed_right(alloc: Global, shared: &Shared, changed: Changed) -> Result<
     Ok(right)
 }
 
-#[test]
-fn changed_relations_hold_of_the_numbers_of_arithmetic(rt: HostRuntime) -> Result<(), RowFault> {
-    for (base, direction) in BASES {
-        let shared = shared_base(rt.alloc(), base, direction)?;
-        for changed in CHANGED {
-            assert!(rt;
-                is_changed_right(rt.alloc(), &shared, changed)?,
-                "of {changed:?}"
-            );
-        }
+// Asserts that each changed relation holds in a base as arithmetic has it.
+fn expect_changed(
+    rt: &impl Abort,
+    alloc: Global,
+    shared: &Shared,
+    rows: &[Changed],
+) -> Result<(), RowFault> {
+    for changed in rows {
+        assert!(rt;
+            is_changed_right(alloc, shared, *changed)?,
+            "of {changed:?}"
+        );
     }
     Ok(())
+}
+
+// Asserts that each changed relation does so in each base.
+fn expect_changed_in_bases(
+    rt: &impl Abort,
+    alloc: Global,
+    bases: &[(u32, Direction)],
+) -> Result<(), RowFault> {
+    for (base, direction) in bases {
+        let shared = shared_base(alloc, *base, *direction)?;
+        expect_changed(rt, alloc, &shared, &CHANGED)?;
+    }
+    Ok(())
+}
+
+#[test]
+fn changed_relations_hold_of_the_numbers_of_arithmetic(rt: HostRuntime) -> Result<(), RowFault> {
+    expect_changed_in_bases(&rt, rt.alloc(), &BASES)
 }
 
 // Whether the relation is true, if it has no track.
@@ -372,12 +423,21 @@ static VERDICTS: [(Made, Option<bool>); 3] = [
     (Made::Number("x"), None),
 ];
 
-#[test]
-fn sentences_are_true_or_false(rt: HostRuntime) -> Result<(), RowFault> {
-    for (made, wanted) in VERDICTS {
-        assert_eq!(rt; verdict(rt.alloc(), made)?, wanted, "of {made:?}");
+// Asserts that each relation has this verdict.
+fn expect_verdicts(
+    rt: &impl Abort,
+    alloc: Global,
+    rows: &[(Made, Option<bool>)],
+) -> Result<(), RowFault> {
+    for (made, wanted) in rows {
+        assert_eq!(rt; verdict(alloc, *made)?, *wanted, "of {made:?}");
     }
     Ok(())
+}
+
+#[test]
+fn sentences_are_true_or_false(rt: HostRuntime) -> Result<(), RowFault> {
+    expect_verdicts(&rt, rt.alloc(), &VERDICTS)
 }
 
 // The relation that y is so many times x, by the next steps.
@@ -395,7 +455,7 @@ fn multiple(
                 multiple,
                 between,
             };
-            Ok(multiple_steps(alloc, &shared.system, factor, names, steps)?)
+            by_a_step(multiple_steps(alloc, &shared.system, factor, names, steps))
         }
         _ => Err(RowFault::Form),
     }
@@ -428,15 +488,19 @@ fn multiplies(alloc: Global, shared: &Shared, factor: u32) -> Result<bool, RowFa
     Ok(right)
 }
 
-#[test]
-fn multiples_are_those_of_multiplication(rt: HostRuntime) -> Result<(), RowFault> {
-    for direction in [Direction::Msd, Direction::Lsd] {
-        let shared = shared_base(rt.alloc(), 2, direction)?;
-        for factor in 0..=100 {
-            assert!(rt; multiplies(rt.alloc(), &shared, factor)?, "by {factor}");
-        }
+// Asserts that numbers are multiplied in base 2 by all factors up to 100.
+fn expect_multiples(rt: &impl Abort, alloc: Global, direction: Direction) -> Result<(), RowFault> {
+    let shared = shared_base(alloc, 2, direction)?;
+    for factor in 0..=100 {
+        assert!(rt; multiplies(alloc, &shared, factor)?, "by {factor}");
     }
     Ok(())
+}
+
+#[test]
+fn multiples_are_those_of_multiplication(rt: HostRuntime) -> Result<(), RowFault> {
+    expect_multiples(&rt, rt.alloc(), Direction::Msd)?;
+    expect_multiples(&rt, rt.alloc(), Direction::Lsd)
 }
 
 // The lines of the steps of a multiple in base 2.
@@ -459,10 +523,19 @@ static MULTIPLES: [(u64, &str, &str); 4] = [
     ),
 ];
 
-#[test]
-fn multiples_have_these_steps(rt: HostRuntime) -> Result<(), RowFault> {
-    for (factor, row, wanted) in MULTIPLES {
-        expect(&rt, row, &multiple_lines(rt.alloc(), factor)?, wanted);
+// Asserts that each multiple has these steps.
+fn expect_steps(
+    rt: &impl Abort,
+    alloc: Global,
+    rows: &[(u64, &str, &str)],
+) -> Result<(), RowFault> {
+    for (factor, row, wanted) in rows {
+        expect(rt, row, &multiple_lines(alloc, *factor)?, wanted);
     }
     Ok(())
+}
+
+#[test]
+fn multiples_have_these_steps(rt: HostRuntime) -> Result<(), RowFault> {
+    expect_steps(&rt, rt.alloc(), &MULTIPLES)
 }

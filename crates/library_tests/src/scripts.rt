@@ -3,6 +3,7 @@
 use crate::outcomes::expect;
 use script_cut::{Cut, CutFault, Cutter, SCRIPT_LIMIT, TEXT_LIMIT};
 use std::alloc::{AllocError, Global};
+use std::process::Abort;
 use std::test::Fail;
 use wal_outside::MemSource;
 
@@ -76,7 +77,7 @@ fn items_of(alloc: Global, script: &[u8], length: usize) -> Result<String, Alloc
 }
 
 // Scripts and their items.
-const SCRIPTS: [(&str, &str); 30] = [
+static SCRIPTS: [(&str, &str); 30] = [
     ("", ""),
     (" \t\r\n", ""),
     (" ;\n;", ""),
@@ -111,15 +112,27 @@ const SCRIPTS: [(&str, &str); 30] = [
     ("#", ""),
 ];
 
-#[test]
-fn scripts_have_these_items_in_pieces_of_any_length(rt: HostRuntime) -> Result<(), Fail> {
-    for (script, items) in SCRIPTS {
-        for length in [1, 2, 3, 7, 100] {
-            let found = items_of(rt.alloc(), script.as_bytes(), length)?;
-            expect(&rt, script, &found, items);
-        }
+// Asserts that each script has its items in pieces of a length.
+fn expect_items(
+    rt: &impl Abort,
+    alloc: Global,
+    length: usize,
+    rows: &[(&str, &str)],
+) -> Result<(), Fail> {
+    for (script, items) in rows {
+        let found = items_of(alloc, script.as_bytes(), length)?;
+        expect(rt, script, &found, items);
     }
     Ok(())
+}
+
+#[test]
+fn scripts_have_these_items_in_pieces_of_any_length(rt: HostRuntime) -> Result<(), Fail> {
+    expect_items(&rt, rt.alloc(), 1, &SCRIPTS)?;
+    expect_items(&rt, rt.alloc(), 2, &SCRIPTS)?;
+    expect_items(&rt, rt.alloc(), 3, &SCRIPTS)?;
+    expect_items(&rt, rt.alloc(), 7, &SCRIPTS)?;
+    expect_items(&rt, rt.alloc(), 100, &SCRIPTS)
 }
 
 // The text of the next item.
@@ -134,18 +147,33 @@ fn next_text(
     Ok(text)
 }
 
+// Asserts that the next items are these.
+fn expect_next(
+    rt: &impl Abort,
+    alloc: Global,
+    cutter: &mut Cutter,
+    source: &mut MemSource,
+    items: &[&str],
+) -> Result<(), AllocError> {
+    for item in items {
+        expect(rt, "the script", &next_text(alloc, cutter, source)?, item);
+    }
+    Ok(())
+}
+
+// A source that gives all of a script at once, and then fails.
+fn failing(alloc: Global, script: &[u8]) -> Result<MemSource, AllocError> {
+    let bytes = Vec::from_slice(alloc, script)?;
+    Ok(MemSource::new(bytes, vec![in alloc; 5]?, vec![in alloc; 2]?))
+}
+
 #[test]
 fn a_command_is_given_without_a_further_read(rt: HostRuntime) -> Result<(), Fail> {
-    let bytes = Vec::from_slice(rt.alloc(), b"a;b::c")?;
-    let mut source = MemSource::new(bytes, vec![in rt.alloc(); 5]?, vec![in rt.alloc(); 2]?);
+    let mut source = failing(rt.alloc(), b"a;b::c")?;
     let mut cutter = Cutter::new(rt.alloc());
-    let first = next_text(rt.alloc(), &mut cutter, &mut source)?;
-    expect(&rt, "the first item", &first, "1;a|");
-    let second = next_text(rt.alloc(), &mut cutter, &mut source)?;
-    expect(&rt, "the second item", &second, "1:b|");
+    expect_next(&rt, rt.alloc(), &mut cutter, &mut source, &["1;a|", "1:b|"])?;
     assert_eq!(rt; source.calls(), 1);
-    let third = next_text(rt.alloc(), &mut cutter, &mut source)?;
-    expect(&rt, "the third item", &third, "failed|");
+    expect_next(&rt, rt.alloc(), &mut cutter, &mut source, &["failed|"])?;
     Ok(())
 }
 
@@ -174,12 +202,13 @@ fn a_long_command_is_passed_over(rt: HostRuntime) -> Result<(), Fail> {
     let mut source = in_pieces(rt.alloc(), &script, 5000)?;
     let mut cutter = Cutter::new(rt.alloc());
     assert_eq!(rt; length_of(next_item(&mut cutter, &mut source)), TEXT_LIMIT);
-    let second = next_text(rt.alloc(), &mut cutter, &mut source)?;
-    expect(&rt, "the second item", &second, "2*|");
-    let third = next_text(rt.alloc(), &mut cutter, &mut source)?;
-    expect(&rt, "the third item", &third, "2;z|");
-    let last = next_text(rt.alloc(), &mut cutter, &mut source)?;
-    expect(&rt, "the end", &last, "");
+    expect_next(
+        &rt,
+        rt.alloc(),
+        &mut cutter,
+        &mut source,
+        &["2*|", "2;z|", ""],
+    )?;
     Ok(())
 }
 
@@ -189,10 +218,7 @@ fn the_limit_counts_what_is_spent(rt: HostRuntime) -> Result<(), Fail> {
     let mut cutter = Cutter::new(rt.alloc());
     assert!(rt; cutter.spend(SCRIPT_LIMIT as u64 - 4));
     assert!(rt; !cutter.spend(5));
-    let first = next_text(rt.alloc(), &mut cutter, &mut source)?;
-    expect(&rt, "the first item", &first, "1;a|");
-    let second = next_text(rt.alloc(), &mut cutter, &mut source)?;
-    expect(&rt, "the second item", &second, "2#|");
+    expect_next(&rt, rt.alloc(), &mut cutter, &mut source, &["1;a|", "2#|"])?;
     Ok(())
 }
 

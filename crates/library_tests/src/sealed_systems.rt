@@ -4,7 +4,7 @@ ghost use Rattle.std.specs.Prelude.{◌≡◌, ℕ, ◌∷◌, [], IfOk, IsTrue}
 ghost use Rattle.num_system.specs.SuccessorSteps.{name_u, name_x, name_y};
 
 use crate::bases::{SUMS, base_of};
-use crate::outcomes::{expect, outcome, table_outcome, width_of};
+use crate::outcomes::{below_width_of, expect, outcome, table_outcome, width_of};
 use crate::row_fault::RowFault;
 use crate::table_texts::{language, table_of};
 use base_k::base_k::{BaseK, GREATEST_BASE, LEAST_BASE};
@@ -12,12 +12,12 @@ use digit_tuple::dfa::Dfa;
 use digit_tuple::direction::Direction;
 use digit_tuple::faults::OpFault;
 use digit_tuple::name::Name;
-use digit_tuple::stepped::Stepped;
 use minimise::tracked::Tracked;
 use num_system::seal::{seal, seal_built_in};
 use num_system::successor::{between_of, chain_of, next_of, successor_of};
 use num_system::system::System;
 use std::alloc::Global;
+use std::process::Abort;
 
 // A limit that every base keeps to.
 const LIMIT: u32 = 1024;
@@ -113,31 +113,40 @@ fn say_of_lengths(alloc: Global, number: u32, direction: Direction) -> Result<bo
     Ok(right)
 }
 
-#[test]
-fn relations_are_those_of_numbers(rt: HostRuntime) -> Result<(), RowFault> {
-    for number in [2, 3, 10] {
-        for direction in DIRECTIONS {
-            let right = say_of_lengths(rt.alloc(), number, direction)?;
-            assert!(rt; right, "of base {number}");
-        }
+// Asserts that they do so in a base, in both directions.
+fn expect_said(rt: &impl Abort, alloc: Global, number: u32) -> Result<(), RowFault> {
+    for direction in DIRECTIONS {
+        let right = say_of_lengths(alloc, number, direction)?;
+        assert!(rt; right, "of base {number}");
     }
     Ok(())
 }
 
-// How many digits a sealed system has, and its direction.
-fn form_of(system: &System) -> (u32, Direction) {
-    (system.digits(), system.direction())
+#[test]
+fn relations_are_those_of_numbers(rt: HostRuntime) -> Result<(), RowFault> {
+    expect_said(&rt, rt.alloc(), 2)?;
+    expect_said(&rt, rt.alloc(), 3)?;
+    expect_said(&rt, rt.alloc(), 10)
+}
+
+// Whether a base is sealed with its digits and its direction.
+fn is_sealed(alloc: Global, number: u32, direction: Direction) -> Result<bool, RowFault> {
+    let system = sealed(alloc, number, direction, LIMIT)?;
+    Ok(system.digits() == number && system.direction() == direction)
+}
+
+// Asserts that each base is sealed so.
+fn expect_sealed(rt: &impl Abort, alloc: Global, direction: Direction) -> Result<(), RowFault> {
+    for number in LEAST_BASE..=GREATEST_BASE {
+        assert!(rt; is_sealed(alloc, number, direction)?, "of base {number}");
+    }
+    Ok(())
 }
 
 #[test]
 fn every_base_is_sealed(rt: HostRuntime) -> Result<(), RowFault> {
-    for number in LEAST_BASE..=GREATEST_BASE {
-        for direction in DIRECTIONS {
-            let system = sealed(rt.alloc(), number, direction, LIMIT)?;
-            assert_eq!(rt; form_of(&system), (number, direction));
-        }
-    }
-    Ok(())
+    expect_sealed(&rt, rt.alloc(), Direction::Msd)?;
+    expect_sealed(&rt, rt.alloc(), Direction::Lsd)
 }
 
 // Whether base 2 is sealed under a limit, and not refused by it.
@@ -152,32 +161,48 @@ fn is_sealed_under(alloc: Global, limit: u32) -> Result<bool, RowFault> {
 // The order has the width 3, and the first step of its successor the width 9.
 #[test]
 fn the_order_and_its_successor_keep_to_the_limit(rt: HostRuntime) -> Result<(), RowFault> {
-    for (limit, fits) in [(2, false), (8, false), (9, true)] {
-        assert_eq!(rt; is_sealed_under(rt.alloc(), limit)?, fits, "under {limit}");
+    assert!(rt; !is_sealed_under(rt.alloc(), 2)?);
+    assert!(rt; !is_sealed_under(rt.alloc(), 8)?);
+    assert!(rt; is_sealed_under(rt.alloc(), 9)?);
+    Ok(())
+}
+
+// Whether the language and the adder have as many states, and the adder accepts the one word and not the other.
+fn is_right_adder(system: &System, right: &[u32], wrong: &[u32]) -> bool {
+    system.language().states() == 1
+        && system.adder().states() == 2
+        && system.adder().accepts(right)
+        && !system.adder().accepts(wrong)
+}
+
+// Whether they are so in a base.
+fn adds_rightly(
+    alloc: Global,
+    number: u32,
+    direction: Direction,
+    right: &[u32],
+    wrong: &[u32],
+) -> Result<bool, RowFault> {
+    let system = sealed(alloc, number, direction, LIMIT)?;
+    Ok(is_right_adder(&system, right, wrong))
+}
+
+// Asserts that they are so in each row's base.
+fn expect_adders(
+    rt: &impl Abort,
+    alloc: Global,
+    rows: &[(u32, Direction, &[u32], &[u32])],
+) -> Result<(), RowFault> {
+    for (number, direction, right, wrong) in rows {
+        let found = adds_rightly(alloc, *number, *direction, right, wrong)?;
+        assert!(rt; found, "in base {number}");
     }
     Ok(())
 }
 
-// How many states the language and the adder have.
-fn states_in(system: &System) -> (u32, u32) {
-    (system.language().states(), system.adder().states())
-}
-
-// Whether the adder accepts a word.
-fn adds(system: &System, word: &[u32]) -> bool {
-    system.adder().accepts(word)
-}
-
-// The language and the adder have as many states, and the adder accepts the one word and not the other.
 #[test]
 fn adders_have_a_state_for_each_carry(rt: HostRuntime) -> Result<(), RowFault> {
-    for (number, direction, right, wrong) in SUMS {
-        let system = sealed(rt.alloc(), number, direction, LIMIT)?;
-        assert_eq!(rt; states_in(&system), (1, 2));
-        assert!(rt; adds(&system, right), "in base {number}");
-        assert!(rt; !adds(&system, wrong), "in base {number}");
-    }
-    Ok(())
+    expect_adders(&rt, rt.alloc(), &SUMS)
 }
 
 // Base 2, sealed without a limit.
@@ -189,14 +214,14 @@ fn built_in(alloc: Global) -> Result<System, RowFault> {
     Ok(seal_built_in(alloc, &system)?)
 }
 
-// The table of a system's order.
-fn order_in(alloc: Global, system: &System) -> Result<String, RowFault> {
-    table_of(alloc, system.less())
+// The table of the order of base 2, sealed without a limit.
+fn order_in(alloc: Global) -> Result<String, RowFault> {
+    table_of(alloc, built_in(alloc)?.less())
 }
 
 #[test]
 fn systems_of_the_program_are_sealed_without_a_limit(rt: HostRuntime) -> Result<(), RowFault> {
-    let less = order_in(rt.alloc(), &built_in(rt.alloc())?)?;
+    let less = order_in(rt.alloc())?;
     expect(&rt, "the order", &less, "/ 0>0 1>1 3>0/! 0>1 1>1 2>1 3>1");
     Ok(())
 }
@@ -217,11 +242,11 @@ fn is_triple(dfa: &Dfa) -> bool
     sizes.len() == 3 && sizes[0] == sizes[1] && sizes[1] == sizes[2]
 }
 
-// The first step of the successor under a limit, from an order.
-fn chain(alloc: Global, order: &str, limit: u32) -> Result<Stepped<Tracked>, RowFault> {
+// The first step of the successor under a limit, from an order, or why there is none.
+fn chain(alloc: Global, order: &str, limit: u32) -> Result<String, RowFault> {
     let less = language(alloc, order)?;
     if is_pair(&less) {
-        Ok(chain_of(alloc, &less, limit)?)
+        outcome(alloc, chain_of(alloc, &less, limit))
     } else {
         Err(RowFault::Form)
     }
@@ -241,17 +266,17 @@ fn triples(alloc: Global, line: &str) -> Result<Tracked, RowFault>
     Ok(Tracked::of_canonical(dfa, vec![in alloc; u, x, y]?))
 }
 
-// The second step under a limit, from the triples of the first.
+// The second step under a limit, from the triples of the first, or why there is none.
 fn between(
     alloc: Global,
     line: &str,
     direction: Direction,
     limit: u32,
-) -> Result<Stepped<Tracked>, RowFault> {
+) -> Result<String, RowFault> {
     let chain = triples(alloc, line)?;
     let _tracks = chain.dfa().alphabet().tracks();
     if is_triple(chain.dfa()) {
-        Ok(between_of(alloc, &chain, direction, limit)?)
+        outcome(alloc, between_of(alloc, &chain, direction, limit))
     } else {
         Err(RowFault::Form)
     }
@@ -270,13 +295,13 @@ fn pairs(alloc: Global, line: &str) -> Result<Tracked, RowFault>
     Ok(Tracked::of_canonical(dfa, vec![in alloc; x, y]?))
 }
 
-// The third step under a limit, from the order and the pairs of the second.
-fn next(alloc: Global, order: &str, line: &str, limit: u32) -> Result<Stepped<Dfa>, RowFault> {
+// The third step under a limit, from the order and the pairs of the second, or why there is none.
+fn next(alloc: Global, order: &str, line: &str, limit: u32) -> Result<String, RowFault> {
     let less = language(alloc, order)?;
     let between = pairs(alloc, line)?;
     let _tracks = less.alphabet().tracks();
     if is_pair(&less) && between.dfa().alphabet().sizes() == less.alphabet().sizes() {
-        Ok(next_of(alloc, &less, &between, limit)?)
+        table_outcome(alloc, next_of(alloc, &less, &between, limit))
     } else {
         Err(RowFault::Form)
     }
@@ -332,50 +357,61 @@ static SUCCESSORS: [SuccessorRow; 3] = [
     },
 ];
 
+// Asserts that each first step is made at its width, and not below.
+fn expect_chains(rt: &impl Abort, alloc: Global, rows: &[SuccessorRow]) -> Result<(), RowFault> {
+    for row in rows {
+        let made = chain(alloc, row.order, width_of(row.chain)?)?;
+        expect(rt, row.order, &made, row.chain);
+        let narrow = chain(alloc, row.order, below_width_of(row.chain)?)?;
+        expect(rt, row.order, &narrow, "States");
+    }
+    Ok(())
+}
+
 #[test]
 fn chains_are_those_worked_out(rt: HostRuntime) -> Result<(), RowFault> {
-    for row in &SUCCESSORS {
-        let width = width_of(row.chain)?;
-        let made = chain(rt.alloc(), row.order, width);
-        expect(&rt, row.order, &outcome(rt.alloc(), made)?, row.chain);
-        let narrow = chain(rt.alloc(), row.order, width.saturating_sub(1));
-        expect(&rt, row.order, &outcome(rt.alloc(), narrow)?, "States");
+    expect_chains(&rt, rt.alloc(), &SUCCESSORS)
+}
+
+// Asserts that each second step is made at its width, and not below.
+fn expect_between(rt: &impl Abort, alloc: Global, rows: &[SuccessorRow]) -> Result<(), RowFault> {
+    for row in rows {
+        let made = between(alloc, row.chain, row.direction, width_of(row.between)?)?;
+        expect(rt, row.order, &made, row.between);
+        let limit = below_width_of(row.between)?;
+        let narrow = between(alloc, row.chain, row.direction, limit)?;
+        expect(rt, row.order, &narrow, "States");
     }
     Ok(())
 }
 
 #[test]
 fn pairs_with_a_number_between_are_those_worked_out(rt: HostRuntime) -> Result<(), RowFault> {
-    for row in &SUCCESSORS {
-        let width = width_of(row.between)?;
-        let made = between(rt.alloc(), row.chain, row.direction, width);
-        expect(&rt, row.order, &outcome(rt.alloc(), made)?, row.between);
-        let narrow = between(
-            rt.alloc(),
-            row.chain,
-            row.direction,
-            width.saturating_sub(1),
-        );
-        expect(&rt, row.order, &outcome(rt.alloc(), narrow)?, "States");
+    expect_between(&rt, rt.alloc(), &SUCCESSORS)
+}
+
+// Asserts that each third step is made at its width, and not below.
+fn expect_next(rt: &impl Abort, alloc: Global, rows: &[SuccessorRow]) -> Result<(), RowFault> {
+    for row in rows {
+        let made = next(alloc, row.order, row.between, width_of(row.next)?)?;
+        expect(rt, row.order, &made, row.next);
+        let narrow = next(alloc, row.order, row.between, below_width_of(row.next)?)?;
+        expect(rt, row.order, &narrow, "States");
+    }
+    Ok(())
+}
+
+// Asserts that each successor is what its third step makes.
+fn expect_whole(rt: &impl Abort, alloc: Global, rows: &[SuccessorRow]) -> Result<(), RowFault> {
+    for row in rows {
+        let whole = successor(alloc, row.order, row.direction, 1000)?;
+        assert!(rt; row.next.ends_with(whole.as_str()), "of {}", row.order);
     }
     Ok(())
 }
 
 #[test]
 fn successors_are_those_worked_out(rt: HostRuntime) -> Result<(), RowFault> {
-    for row in &SUCCESSORS {
-        let width = width_of(row.next)?;
-        let made = next(rt.alloc(), row.order, row.between, width);
-        expect(&rt, row.order, &table_outcome(rt.alloc(), made)?, row.next);
-        let narrow = next(rt.alloc(), row.order, row.between, width.saturating_sub(1));
-        expect(
-            &rt,
-            row.order,
-            &table_outcome(rt.alloc(), narrow)?,
-            "States",
-        );
-        let whole = successor(rt.alloc(), row.order, row.direction, 1000)?;
-        assert!(rt; row.next.ends_with(whole.as_str()), "of {}", row.order);
-    }
-    Ok(())
+    expect_next(&rt, rt.alloc(), &SUCCESSORS)?;
+    expect_whole(&rt, rt.alloc(), &SUCCESSORS)
 }

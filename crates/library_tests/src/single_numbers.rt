@@ -1,16 +1,15 @@
 //! The words of single numbers in some bases, and their automata.
 
-use crate::outcomes::{expect, table_outcome, width_of};
+use crate::outcomes::{below_width_of, expect, table_outcome, width_of};
 use crate::row_fault::RowFault;
 use crate::sealed_systems::sealed;
 use constants::constant::constant;
 use constants::representation::representation;
-use digit_tuple::dfa::Dfa;
 use digit_tuple::direction::Direction;
 use digit_tuple::faults::OpFault;
-use digit_tuple::stepped::Stepped;
 use num_system::system::System;
 use std::alloc::Global;
+use std::process::Abort;
 
 static DIRECTIONS: [Direction; 2] = [Direction::Msd, Direction::Lsd];
 
@@ -47,14 +46,19 @@ fn gives_word(alloc: Global, system: &System, base: u32, number: u64) -> Result<
     Ok(stands_for(&word, base, number))
 }
 
-#[test]
-fn words_have_their_positional_values(rt: HostRuntime) -> Result<(), RowFault> {
-    for base in [2, 3, 10] {
-        for direction in DIRECTIONS {
-            assert!(rt; gives_words(rt.alloc(), base, direction)?, "in base {base}");
-        }
+// Asserts that numbers are given their words in a base.
+fn expect_words(rt: &impl Abort, alloc: Global, base: u32) -> Result<(), RowFault> {
+    for direction in DIRECTIONS {
+        assert!(rt; gives_words(alloc, base, direction)?, "in base {base}");
     }
     Ok(())
+}
+
+#[test]
+fn words_have_their_positional_values(rt: HostRuntime) -> Result<(), RowFault> {
+    expect_words(&rt, rt.alloc(), 2)?;
+    expect_words(&rt, rt.alloc(), 3)?;
+    expect_words(&rt, rt.alloc(), 10)
 }
 
 // Numbers, lengths, and the words in base 2, if they are no longer.
@@ -66,32 +70,69 @@ static WORDS: [(u64, u32, Option<&[u32]>); 5] = [
     (1, 0, None),
 ];
 
-#[test]
-fn longer_words_are_refused(rt: HostRuntime) -> Result<(), RowFault> {
-    for direction in DIRECTIONS {
-        let system = sealed(rt.alloc(), 2, direction, 1000)?;
-        for (number, longest, wanted) in WORDS {
-            match word(rt.alloc(), &system, number, longest) {
-                Ok(word) => assert_eq!(rt; Some(word.as_slice()), wanted, "of {number}"),
-                Err(RowFault::Call(OpFault::States)) => assert!(rt; wanted.is_none()),
-                Err(fault) => return Err(fault),
-            }
-        }
+// The word of a number, if it is no longer.
+fn short_word(
+    alloc: Global,
+    system: &System,
+    number: u64,
+    longest: u32,
+) -> Result<Option<Vec<u32>>, RowFault> {
+    let language = system.language();
+    match representation(alloc, language, system.direction(), number, longest) {
+        Ok(word) => Ok(Some(word)),
+        Err(OpFault::States) => Ok(None),
+        Err(fault) => Err(RowFault::Call(fault)),
+    }
+}
+
+// Whether the word of a number is this, if it is no longer.
+fn is_word(
+    alloc: Global,
+    system: &System,
+    number: u64,
+    longest: u32,
+    wanted: Option<&[u32]>,
+) -> Result<bool, RowFault> {
+    Ok(short_word(alloc, system, number, longest)?.as_deref() == wanted)
+}
+
+// Asserts that each number is given its word in base 2, or none.
+fn expect_short_words(
+    rt: &impl Abort,
+    alloc: Global,
+    direction: Direction,
+    rows: &[(u64, u32, Option<&[u32]>)],
+) -> Result<(), RowFault> {
+    let system = sealed(alloc, 2, direction, 1000)?;
+    for (number, longest, wanted) in rows {
+        assert!(rt;
+            is_word(alloc, &system, *number, *longest, *wanted)?,
+            "of {number}"
+        );
     }
     Ok(())
 }
 
-// The automaton of a number in a base, under a limit.
+#[test]
+fn longer_words_are_refused(rt: HostRuntime) -> Result<(), RowFault> {
+    expect_short_words(&rt, rt.alloc(), Direction::Msd, &WORDS)?;
+    expect_short_words(&rt, rt.alloc(), Direction::Lsd, &WORDS)
+}
+
+// The automaton of a number in a base, under a limit, or why there is none.
 fn number_in(
     alloc: Global,
     base: u32,
     direction: Direction,
     number: u64,
     limit: u32,
-) -> Result<Stepped<Dfa>, RowFault> {
+) -> Result<String, RowFault> {
     let system = sealed(alloc, base, direction, 1000)?;
     let language = system.language();
-    Ok(constant(alloc, language, system.direction(), number, limit)?)
+    table_outcome(
+        alloc,
+        constant(alloc, language, system.direction(), number, limit),
+    )
 }
 
 // Bases, directions and numbers, and their automata.
@@ -106,14 +147,22 @@ static NUMBERS: [(u32, Direction, u64, &str); 8] = [
     (10, Direction::Lsd, 80, "4 / 0>1/ 8>2/! 0>2"),
 ];
 
-#[test]
-fn single_numbers_are_those_worked_out(rt: HostRuntime) -> Result<(), RowFault> {
-    for (base, direction, number, wanted) in NUMBERS {
-        let width = width_of(wanted)?;
-        let made = number_in(rt.alloc(), base, direction, number, width);
-        expect(&rt, wanted, &table_outcome(rt.alloc(), made)?, wanted);
-        let narrow = number_in(rt.alloc(), base, direction, number, width.saturating_sub(1));
-        expect(&rt, wanted, &table_outcome(rt.alloc(), narrow)?, "States");
+// Asserts that the automaton of each number is made at its width, and not below.
+fn expect_numbers(
+    rt: &impl Abort,
+    alloc: Global,
+    rows: &[(u32, Direction, u64, &str)],
+) -> Result<(), RowFault> {
+    for (base, direction, number, wanted) in rows {
+        let made = number_in(alloc, *base, *direction, *number, width_of(wanted)?)?;
+        expect(rt, wanted, &made, wanted);
+        let narrow = number_in(alloc, *base, *direction, *number, below_width_of(wanted)?)?;
+        expect(rt, wanted, &narrow, "States");
     }
     Ok(())
+}
+
+#[test]
+fn single_numbers_are_those_worked_out(rt: HostRuntime) -> Result<(), RowFault> {
+    expect_numbers(&rt, rt.alloc(), &NUMBERS)
 }

@@ -2,7 +2,6 @@
 
 ghost use Rattle.std.specs.Prelude.{◌≡◌, ◌<◌, length};
 
-use crate::outcomes::expect;
 use crate::products::have_languages;
 use crate::row_fault::RowFault;
 use crate::sealed_systems::sealed;
@@ -16,6 +15,7 @@ use automaton_steps::read_step::read_step;
 use automaton_steps::reverse_step::reverse_step;
 use automaton_steps::valid_step::valid_step;
 use constants::constant_step::constant_step;
+use digit_tuple::dfa::Dfa;
 use digit_tuple::direction::Direction;
 use digit_tuple::name::Name;
 use digit_tuple::names::find_name;
@@ -26,6 +26,8 @@ use product_op::joint_tracks::agree_on_shared;
 use product_op::languages::are_languages;
 use product_op::op::Op;
 use std::alloc::Global;
+use std::process::Abort;
+use std::rc::Rc;
 
 // A step on automata of lines.
 #[derive(Clone, Copy)]
@@ -57,14 +59,30 @@ fn done(alloc: Global, step: Step, steps: &mut Steps) -> Result<String, RowFault
     }
 }
 
+// The table that a step made.
+fn made_table(alloc: Global, made: Result<Dfa, StepFault>) -> Result<String, RowFault> {
+    match made {
+        Ok(dfa) => table_of(alloc, &dfa),
+        Err(fault) => Err(RowFault::Step(fault)),
+    }
+}
+
+// The line of the automaton that a step made.
+fn made_line(alloc: Global, made: Result<Tracked, StepFault>) -> Result<String, RowFault> {
+    match made {
+        Ok(a) => line_of(alloc, &a),
+        Err(fault) => Err(RowFault::Step(fault)),
+    }
+}
+
 fn read(alloc: Global, line: &str, steps: &mut Steps) -> Result<String, RowFault> {
     let listed = table(alloc, line)?;
-    table_of(alloc, &read_step(alloc, &listed, steps)?)
+    made_table(alloc, read_step(alloc, &listed, steps))
 }
 
 fn reverse(alloc: Global, line: &str, steps: &mut Steps) -> Result<String, RowFault> {
     let a = language(alloc, line)?;
-    table_of(alloc, &reverse_step(alloc, &a, steps)?)
+    made_table(alloc, reverse_step(alloc, &a, steps))
 }
 
 fn pad(
@@ -74,7 +92,7 @@ fn pad(
     steps: &mut Steps,
 ) -> Result<String, RowFault> {
     let a = language(alloc, line)?;
-    table_of(alloc, &pad_step(alloc, &a, direction, steps)?)
+    made_table(alloc, pad_step(alloc, &a, direction, steps))
 }
 
 fn valid_part(
@@ -85,8 +103,18 @@ fn valid_part(
 ) -> Result<String, RowFault> {
     let a = tracked(alloc, line)?;
     let languages = languages(alloc, valid)?;
-    if are_languages(alloc, a.dfa().alphabet().sizes(), &languages)? {
-        line_of(alloc, &valid_step(alloc, &a, &languages, steps)?)
+    valid_part_of(alloc, &a, &languages, steps)
+}
+
+// The valid part, if there is a language for each track.
+fn valid_part_of(
+    alloc: Global,
+    a: &Tracked,
+    languages: &[Rc<Dfa>],
+    steps: &mut Steps,
+) -> Result<String, RowFault> {
+    if are_languages(alloc, a.dfa().alphabet().sizes(), languages)? {
+        made_line(alloc, valid_step(alloc, a, languages, steps))
     } else {
         Err(RowFault::Form)
     }
@@ -100,7 +128,7 @@ fn order(
 ) -> Result<String, RowFault> {
     let language = language(alloc, line)?;
     if language.alphabet().sizes().len() == 1 {
-        table_of(alloc, &order_step(alloc, &language, direction, steps)?)
+        made_table(alloc, order_step(alloc, &language, direction, steps))
     } else {
         Err(RowFault::Form)
     }
@@ -114,8 +142,8 @@ fn number_in(
 ) -> Result<String, RowFault> {
     let system = sealed(alloc, 2, direction, 1000)?;
     let language = system.language();
-    let made = constant_step(alloc, language, system.direction(), number, steps)?;
-    table_of(alloc, &made)
+    let made = constant_step(alloc, language, system.direction(), number, steps);
+    made_table(alloc, made)
 }
 
 // The product of the two, of which the valid words are all those of their digits.
@@ -127,7 +155,7 @@ fn product(alloc: Global, op: Op, a: &str, b: &str, steps: &mut Steps) -> Result
         op,
         languages: &languages,
     };
-    line_of(alloc, &joined(alloc, &a, &b, joining, steps)?)
+    joined(alloc, &a, &b, joining, steps)
 }
 
 // The product, if the arguments go together.
@@ -137,9 +165,9 @@ fn joined(
     b: &Tracked,
     joining: Joining<'_>,
     steps: &mut Steps,
-) -> Result<Tracked, RowFault> {
+) -> Result<String, RowFault> {
     if agree_on_shared(a, b) && have_languages(alloc, a, b, joining.op, joining.languages)? {
-        Ok(join_step(alloc, a, b, joining, steps)?)
+        made_line(alloc, join_step(alloc, a, b, joining, steps))
     } else {
         Err(RowFault::Form)
     }
@@ -153,8 +181,18 @@ fn complement(
 ) -> Result<String, RowFault> {
     let a = tracked(alloc, line)?;
     let languages = languages(alloc, valid)?;
-    if are_languages(alloc, a.dfa().alphabet().sizes(), &languages)? {
-        line_of(alloc, &complement_step(alloc, &a, &languages, steps)?)
+    complement_of(alloc, &a, &languages, steps)
+}
+
+// The complement, if there is a language for each track.
+fn complement_of(
+    alloc: Global,
+    a: &Tracked,
+    languages: &[Rc<Dfa>],
+    steps: &mut Steps,
+) -> Result<String, RowFault> {
+    if are_languages(alloc, a.dfa().alphabet().sizes(), languages)? {
+        made_line(alloc, complement_step(alloc, a, languages, steps))
     } else {
         Err(RowFault::Form)
     }
@@ -170,7 +208,7 @@ fn project(
     let a = tracked(alloc, line)?;
     let track = Name::new(alloc, track)?;
     if find_name(a.names(), &track).is_some() {
-        line_of(alloc, &project_step(alloc, &a, &track, direction, steps)?)
+        made_line(alloc, project_step(alloc, &a, &track, direction, steps))
     } else {
         Err(RowFault::Form)
     }
@@ -300,33 +338,54 @@ fn is_line_of(steps: &Steps, row: &Row) -> bool {
     line.kind.name() == row.kind && line.width == row.width && line.size == row.size
 }
 
-#[test]
-fn steps_have_these_lines(rt: HostRuntime) -> Result<(), RowFault> {
-    for row in &ROWS {
-        let mut steps = Steps::new(rt.alloc(), row.width);
-        let made = done(rt.alloc(), row.step, &mut steps)?;
-        expect(&rt, row.kind, &made, row.made);
-        assert!(rt; is_line_of(&steps, row), "of {}", row.kind);
+// Whether a row's step alone makes what it should, and has its line.
+fn is_made(alloc: Global, row: &Row) -> Result<bool, RowFault> {
+    let mut steps = Steps::new(alloc, row.width);
+    let made = done(alloc, row.step, &mut steps)?;
+    Ok(made.as_str() == row.made && is_line_of(&steps, row))
+}
+
+// Asserts that each step makes what it should, and has its line.
+fn expect_lines(rt: &impl Abort, alloc: Global, rows: &[Row]) -> Result<(), RowFault> {
+    for row in rows {
+        assert!(rt; is_made(alloc, row)?, "of {}: {}", row.kind, row.made);
     }
     Ok(())
+}
+
+#[test]
+fn steps_have_these_lines(rt: HostRuntime) -> Result<(), RowFault> {
+    expect_lines(&rt, rt.alloc(), &ROWS)
+}
+
+// Whether a step is done, or refused where it passes the limit, and then counts for none.
+fn keeps_to_the_limit(alloc: Global, row: &Row, steps: &mut Steps) -> bool {
+    let number = steps.next_number();
+    let refused = refusal(done(alloc, row.step, steps));
+    if row.width <= steps.limit() {
+        refused.is_none() && steps.count() == number
+    } else {
+        refused == Some(StepFault::States(number)) && steps.next_number() == number
+    }
+}
+
+// Asserts that the steps, one after the other, keep to one limit.
+fn expect_within(rt: &impl Abort, alloc: Global, limit: u32, rows: &[Row]) {
+    let mut steps = Steps::new(alloc, limit);
+    for row in rows {
+        assert!(rt;
+            keeps_to_the_limit(alloc, row, &mut steps),
+            "of {} under {limit}",
+            row.kind
+        );
+    }
 }
 
 // Under one limit the steps that pass it are refused, and count for none.
 #[test]
 fn steps_past_the_limit_are_refused(rt: HostRuntime) -> Result<(), RowFault> {
     for limit in 2..8 {
-        let mut steps = Steps::new(rt.alloc(), limit);
-        for row in &ROWS {
-            let number = steps.next_number();
-            let refused = refusal(done(rt.alloc(), row.step, &mut steps));
-            if row.width <= limit {
-                assert_eq!(rt; refused, None, "of {} under {limit}", row.kind);
-                assert_eq!(rt; steps.count(), number);
-            } else {
-                assert_eq!(rt; refused, Some(StepFault::States(number)), "of {}", row.kind);
-                assert_eq!(rt; steps.next_number(), number);
-            }
-        }
+        expect_within(&rt, rt.alloc(), limit, &ROWS);
     }
     Ok(())
 }
@@ -338,12 +397,21 @@ static LARGE: [Step; 3] = [
     Step::Order(Direction::Msd, "x:300 = /! 0>0"),
 ];
 
+// Whether a step is refused for its letters, and counts for none.
+fn has_too_many_letters(alloc: Global, step: Step) -> bool {
+    let mut steps = Steps::new(alloc, 0);
+    let refused = refusal(done(alloc, step, &mut steps));
+    refused == Some(StepFault::Letters(1)) && steps.count() == 0
+}
+
+// Asserts that the steps are refused so.
+fn expect_too_many_letters(rt: &impl Abort, alloc: Global, steps: &[Step]) {
+    for step in steps {
+        assert!(rt; has_too_many_letters(alloc, *step));
+    }
+}
+
 #[test]
 fn letters_are_looked_at_before_the_limit(rt: HostRuntime) {
-    for step in LARGE {
-        let mut steps = Steps::new(rt.alloc(), 0);
-        let refused = refusal(done(rt.alloc(), step, &mut steps));
-        assert_eq!(rt; refused, Some(StepFault::Letters(1)));
-        assert_eq!(rt; steps.count(), 0);
-    }
+    expect_too_many_letters(&rt, rt.alloc(), &LARGE);
 }

@@ -11,6 +11,7 @@ use digit_tuple::faults::OpFault;
 use digit_tuple::no_words::{no_words, no_words_within};
 use digit_tuple::reversed::reversed;
 use std::alloc::Global;
+use std::process::Abort;
 
 // Where the first and the last state accept: the words with an even number of 1s, each 0 after an odd number of these.
 const BOTH: &str = "x:2 = /! 1>1/ 0>1 1>2/! 1>1";
@@ -36,14 +37,23 @@ fn kept(alloc: Global, line: &str) -> Result<String, RowFault> {
     }
 }
 
-#[test]
-fn a_table_has_a_state_and_its_edges_in_order(rt: HostRuntime) -> Result<(), RowFault> {
-    for (line, is_table) in TABLES {
-        let text = kept(rt.alloc(), line)?;
-        assert_eq!(rt; !text.is_empty(), is_table, "of {line}");
-        assert!(rt; line.ends_with(text.as_str()), "of {line}");
+// Whether the text of the table of a line is what the line ends in, and there is one where there should be.
+fn is_kept(alloc: Global, line: &str, is_table: bool) -> Result<bool, RowFault> {
+    let text = kept(alloc, line)?;
+    Ok(text.is_empty() != is_table && line.ends_with(text.as_str()))
+}
+
+// Asserts that each line lists its table, or none.
+fn expect_kept(rt: &impl Abort, alloc: Global, rows: &[(&str, bool)]) -> Result<(), RowFault> {
+    for (line, is_table) in rows {
+        assert!(rt; is_kept(alloc, line, *is_table)?, "of {line}");
     }
     Ok(())
+}
+
+#[test]
+fn a_table_has_a_state_and_its_edges_in_order(rt: HostRuntime) -> Result<(), RowFault> {
+    expect_kept(&rt, rt.alloc(), &TABLES)
 }
 
 // Words, and whether the automaton of `BOTH` accepts them.
@@ -55,12 +65,16 @@ static WORDS: [(&[u32], bool); 5] = [
     (&[2], false),
 ];
 
+// Asserts that an automaton accepts each word, or not.
+fn expect_accepted(rt: &impl Abort, dfa: &Dfa, rows: &[(&[u32], bool)]) {
+    for (word, wanted) in rows {
+        assert_eq!(rt; dfa.accepts(word), *wanted, "of {word:?}");
+    }
+}
+
 #[test]
 fn a_table_accepts_where_its_path_ends(rt: HostRuntime) -> Result<(), RowFault> {
-    let made = listed(rt.alloc(), BOTH)?;
-    for (word, wanted) in WORDS {
-        assert_eq!(rt; made.accepts(word), wanted, "of {word:?}");
-    }
+    expect_accepted(&rt, &listed(rt.alloc(), BOTH)?, &WORDS);
     Ok(())
 }
 
@@ -77,44 +91,40 @@ fn row_of(alloc: Global, dfa: &Dfa) -> Result<Vec<Edge>, RowFault> {
     Ok(row)
 }
 
+// Whether a row has two edges in order, of which the second leads to the state 2.
+fn is_row_to_two(row: &[Edge]) -> bool {
+    match row {
+        [first, second] => first.is_before(second) && second.target == 2,
+        _ => false,
+    }
+}
+
 #[test]
 fn edges_of_a_state_are_written_into_a_row(rt: HostRuntime) -> Result<(), RowFault> {
     let made = listed(rt.alloc(), BOTH)?.copy(rt.alloc())?;
-    let row = row_of(rt.alloc(), &made)?;
-    assert_eq!(rt; row.len(), 2);
-    assert!(rt; row[0].is_before(&row[1]));
-    assert_eq!(rt; row[1].target, 2);
+    assert!(rt; is_row_to_two(&row_of(rt.alloc(), &made)?));
     Ok(())
 }
 
-// The flags of the accepting states.
-fn flags_of(alloc: Global, dfa: &Dfa) -> Result<Vec<bool>, RowFault> {
-    Ok(accepting_flags(alloc, dfa)?)
+// Whether the accepting states of a line's table have these flags and numbers.
+fn accept(alloc: Global, line: &str, flags: &[bool], states: &[u32]) -> Result<bool, RowFault> {
+    let dfa = listed(alloc, line)?;
+    let are_flags = accepting_flags(alloc, &dfa)?.as_slice() == flags;
+    Ok(are_flags && accepting_states(alloc, &dfa)?.as_slice() == states)
 }
 
-// The accepting states.
-fn accepting_in(alloc: Global, dfa: &Dfa) -> Result<Vec<u32>, RowFault> {
-    Ok(accepting_states(alloc, dfa)?)
+// Whether the first states of two tables differ, and that of the first has an edge.
+fn begin_apart(alloc: Global, one: &str, other: &str) -> Result<bool, RowFault> {
+    let one = listed(alloc, one)?;
+    let other = listed(alloc, other)?;
+    Ok(!one.is_same_state(&other, 0) && !one.is_bare(0))
 }
 
 #[test]
 fn states_are_compared_and_listed(rt: HostRuntime) -> Result<(), RowFault> {
-    let one = listed(rt.alloc(), BOTH)?;
-    let other = listed(rt.alloc(), LAST)?;
-    assert_eq!(rt;
-        flags_of(rt.alloc(), &one)?.as_slice(),
-        [true, false, true].as_slice()
-    );
-    assert_eq!(rt;
-        accepting_in(rt.alloc(), &one)?.as_slice(),
-        [0, 2].as_slice()
-    );
-    assert_eq!(rt;
-        accepting_in(rt.alloc(), &other)?.as_slice(),
-        [2].as_slice()
-    );
-    assert!(rt; !one.is_same_state(&other, 0));
-    assert!(rt; !one.is_bare(0));
+    assert!(rt; accept(rt.alloc(), BOTH, &[true, false, true], &[0, 2])?);
+    assert!(rt; accept(rt.alloc(), LAST, &[false, false, true], &[2])?);
+    assert!(rt; begin_apart(rt.alloc(), BOTH, LAST)?);
     Ok(())
 }
 
@@ -137,18 +147,21 @@ fn edges_are_turned_round(rt: HostRuntime) -> Result<(), RowFault> {
 
 // The automaton of no words, and whether it is made under a limit.
 fn nothing(alloc: Global, limit: u32) -> Result<bool, RowFault> {
-    let made = no_words_within(alloc, Alphabet::new(alloc, &[2])?, limit);
-    match made {
+    match no_words_within(alloc, Alphabet::new(alloc, &[2])?, limit) {
         Ok(stepped) => Ok(stepped.width == 1),
         Err(OpFault::States) => Ok(false),
         Err(fault) => Err(RowFault::Call(fault)),
     }
 }
 
+// The table of the automaton of no words.
+fn nothing_table(alloc: Global) -> Result<String, RowFault> {
+    table_of(alloc, &no_words(alloc, Alphabet::new(alloc, &[2])?)?)
+}
+
 #[test]
 fn the_automaton_of_no_words_has_one_state(rt: HostRuntime) -> Result<(), RowFault> {
-    let made = no_words(rt.alloc(), Alphabet::new(rt.alloc(), &[2])?)?;
-    expect(&rt, "nothing", &table_of(rt.alloc(), &made)?, "/");
+    expect(&rt, "nothing", &nothing_table(rt.alloc())?, "/");
     assert!(rt; nothing(rt.alloc(), 1)?);
     assert!(rt; !nothing(rt.alloc(), 0)?);
     Ok(())

@@ -1,0 +1,391 @@
+//! The branching automata of what files list, and the steps that make relations of them.
+
+ghost use Rattle.std.specs.Prelude.{◌≡◌, IsTrue, map};
+ghost use Rattle.std.specs.Rc.{rc_value};
+ghost use Rattle.numeration.specs.Spelling.{sizes_of};
+ghost use Rattle.number_relations.specs.Relations.{HaveOneWay, systems_of};
+
+use crate::row_fault::RowFault;
+use base_k::base_k::BaseK;
+use dfa_reading::{FileHeader, Listed, read_relation};
+use digit_tuple::direction::Direction;
+use digit_tuple::faults::OpFault;
+use digit_tuple::nfa::Nfa;
+use digit_tuple::step_fault::StepFault;
+use digit_tuple::steps::Steps;
+use fib_system::fib::Fib;
+use num_system::seal::seal;
+use num_system::system::System;
+use number_relations::reading::reading_steps;
+use number_relations::relation::Relation;
+use std::alloc::Global;
+use std::process::Abort;
+use std::rc::Rc;
+
+// The branching automaton of a short file, whose systems have so many digits.
+fn branching(alloc: Global, text: &[u8], digits: &[u32]) -> Result<Nfa, RowFault> {
+    if text.len() >= 1000 {
+        return Err(RowFault::Form);
+    }
+    let listed = read_relation(alloc, text)?;
+    with_digits(alloc, &listed, digits)
+}
+
+// The branching automaton of what is listed, if there is a number of digits for each system.
+fn with_digits(alloc: Global, listed: &Listed, digits: &[u32]) -> Result<Nfa, RowFault> {
+    if listed.states() == 0 {
+        return Err(RowFault::Form);
+    }
+    match listed.header() {
+        FileHeader::Systems(names) if names.len() != digits.len() => Err(RowFault::Form),
+        _ => Ok(listed.nfa(alloc, digits)?),
+    }
+}
+
+// How many edges the first state has, or None where there are too many letters.
+fn edges_of(alloc: Global, text: &[u8], digits: &[u32]) -> Result<Option<usize>, RowFault> {
+    match branching(alloc, text, digits) {
+        Ok(table) => Ok(Some(first_edges(&table))),
+        Err(RowFault::Call(OpFault::Letters)) => Ok(None),
+        Err(fault) => Err(fault),
+    }
+}
+
+// How many edges the first state of a table has.
+fn first_edges(table: &Nfa) -> usize {
+    if table.states() == 0 {
+        return 0;
+    }
+    table.edges(0).len()
+}
+
+// Files, the digits of their systems, and the edges of the first state, or None where there are too many letters.
+static EDGES: [(&[u8], &[u32], Option<usize>); 13] = [
+    (b"{5,-3,1}\n0 1\n* -> 0\n", &[], Some(3)),
+    (b"{5,-3,1}\n0 1\n5 -> 0\n", &[], Some(1)),
+    (b"{0,1} {4}\n0 1\n* * -> 0 1\n1 4\n", &[], Some(4)),
+    // an edge that is listed twice is one
+    (b"{0,1}\n0 1\n0 -> 0 0\n* -> 0\n", &[], Some(2)),
+    // the lines of a digit that the system has not are never taken
+    (
+        b"msd_X\n0 1\n2 -> 0\n3 -> 0\n4294967295 -> 0\n",
+        &[3],
+        Some(1),
+    ),
+    (
+        b"msd_X msd_X\n0 1\n* 1 -> 0\n* 2 -> 0\n1 * -> 0\n",
+        &[2, 2],
+        Some(3),
+    ),
+    // 16 tracks and 65,536 letters, and one more
+    (
+        b"msd_2 msd_2 msd_2 msd_2 msd_2 msd_2 msd_2 msd_2 msd_2 msd_2 msd_2 msd_2 msd_2 msd_2 msd_2 msd_2\n0 1\n0 0 0 0 0 0 0 0 1 1 1 1 1 1 1 * -> 0",
+        &[2, 2, 2, 2, 2, 2, 2, 2, 2, 2, 2, 2, 2, 2, 2, 2],
+        Some(2),
+    ),
+    (
+        b"msd_2 msd_2 msd_2 msd_2 msd_2 msd_2 msd_2 msd_2 msd_2 msd_2 msd_2 msd_2 msd_2 msd_2 msd_2 msd_2 msd_2\n0 1\n",
+        &[2, 2, 2, 2, 2, 2, 2, 2, 2, 2, 2, 2, 2, 2, 2, 2, 2],
+        None,
+    ),
+    (
+        b"{0}{0}{0}{0}{0}{0}{0}{0}{0}{0}{0}{0}{0}{0}{0}{0}\n0 1\n* * * * * * * * * * * * * * * * -> 0\n",
+        &[],
+        Some(1),
+    ),
+    (
+        b"{0}{0}{0}{0}{0}{0}{0}{0}{0}{0}{0}{0}{0}{0}{0}{0}{0}\n0 1\n",
+        &[],
+        None,
+    ),
+    (b"msd_X\n0 1\n* -> 0\n65535 -> 0\n", &[65536], Some(65536)),
+    (b"msd_X\n0 1\n0 -> 0\n", &[65537], None),
+    (b"msd_X msd_Y\n0 1\n65535 0 -> 0\n", &[65536, 1], Some(1)),
+];
+
+// Asserts that the first state of each file has so many edges.
+fn expect_edges(
+    rt: &impl Abort,
+    alloc: Global,
+    rows: &[(&[u8], &[u32], Option<usize>)],
+) -> Result<(), RowFault> {
+    for (row, (text, digits, edges)) in rows.iter().enumerate() {
+        assert_eq!(rt; edges_of(alloc, text, digits)?, *edges, "of row {row}");
+    }
+    Ok(())
+}
+
+#[test]
+fn files_have_these_edges(rt: HostRuntime) -> Result<(), RowFault> {
+    expect_edges(&rt, rt.alloc(), &EDGES)
+}
+
+// A system: the base of this number, or the Fibonacci system where it is None.
+type Numerals = Option<u32>;
+
+// The sealed system.
+fn sealed(alloc: Global, numerals: Numerals, direction: Direction) -> Result<System, RowFault> {
+    match numerals {
+        Some(base) => {
+            let system = BaseK::new(base, direction).ok_or(RowFault::Form)?;
+            Ok(seal(alloc, &system, 1000)?)
+        }
+        None => Ok(seal(alloc, &Fib::new(direction), 1000)?),
+    }
+}
+
+// A file over systems of one direction, the widths and the sizes of the steps read, pad and valid, and words that the relation
+// accepts, and words that it does not.
+struct Row {
+    text: &'static [u8],
+    direction: Direction,
+    systems: &'static [Numerals],
+    widths: [u32; 3],
+    sizes: [u32; 3],
+    accepted: &'static [&'static [u32]],
+    refused: &'static [&'static [u32]],
+}
+
+static ROWS: [Row; 11] = [
+    // any number, since some zeros before a word make it accepted
+    Row {
+        text: b"msd_2\n0 1\n0 -> 0\n0 -> 1\n1 -> 1\n1 0\n1 -> 0\n",
+        direction: Direction::Msd,
+        systems: &[Some(2)],
+        widths: [4, 4, 1],
+        sizes: [3, 1, 1],
+        accepted: &[&[], &[1], &[0, 1], &[1, 0]],
+        refused: &[],
+    },
+    Row {
+        text: b"msd_2\n# c\n7 1\n* -> 7\n",
+        direction: Direction::Msd,
+        systems: &[Some(2)],
+        widths: [1, 2, 1],
+        sizes: [1, 1, 1],
+        accepted: &[&[], &[0, 1, 1]],
+        refused: &[],
+    },
+    // pairs of equal numbers
+    Row {
+        text: b"lsd_3 lsd_3\n0 1\n0 0 -> 0\n1 1 -> 0\n2 2 -> 0\n",
+        direction: Direction::Lsd,
+        systems: &[Some(3), Some(3)],
+        widths: [2, 2, 2],
+        sizes: [1, 1, 1],
+        accepted: &[&[], &[0, 4, 8], &[8, 0]],
+        refused: &[&[1], &[4, 3]],
+    },
+    // any number, of which the words without 11 are valid
+    Row {
+        text: b"msd_fib\n0 1\n* -> 0\n",
+        direction: Direction::Msd,
+        systems: &[None],
+        widths: [1, 2, 3],
+        sizes: [1, 1, 2],
+        accepted: &[&[], &[1, 0, 1]],
+        refused: &[&[1, 1], &[0, 1, 1, 0]],
+    },
+    // the number 0, by its spelling 0 alone
+    Row {
+        text: b"lsd_2\n0 0\n0 -> 1\n1 1\n",
+        direction: Direction::Lsd,
+        systems: &[Some(2)],
+        widths: [3, 4, 2],
+        sizes: [2, 1, 1],
+        accepted: &[&[], &[0], &[0, 0]],
+        refused: &[&[1], &[0, 1]],
+    },
+    Row {
+        text: b"msd_2\r\n0 0\r\n0 -> 1\r\n1 1\r\n",
+        direction: Direction::Msd,
+        systems: &[Some(2)],
+        widths: [3, 2, 2],
+        sizes: [2, 1, 1],
+        accepted: &[&[], &[0], &[0, 0]],
+        refused: &[&[1], &[0, 1]],
+    },
+    // no number
+    Row {
+        text: b"msd_2\n\n0 0\n",
+        direction: Direction::Msd,
+        systems: &[Some(2)],
+        widths: [2, 2, 1],
+        sizes: [1, 1, 1],
+        accepted: &[],
+        refused: &[&[], &[0], &[1]],
+    },
+    // the number 1, by its spelling 01 alone, with an output below 0
+    Row {
+        text: b"msd_2\n0 0\n0 -> 1\n1 0\n1 -> 2\n2 -7\n",
+        direction: Direction::Msd,
+        systems: &[Some(2)],
+        widths: [4, 3, 3],
+        sizes: [3, 2, 2],
+        accepted: &[&[1], &[0, 1], &[0, 0, 1]],
+        refused: &[&[], &[0], &[1, 0], &[1, 1]],
+    },
+    // the numbers that are written with 3 alone, and 0
+    Row {
+        text: b"msd_10\n0 2\n3 -> 0\n",
+        direction: Direction::Msd,
+        systems: &[Some(10)],
+        widths: [2, 3, 3],
+        sizes: [1, 2, 2],
+        accepted: &[&[], &[3, 3], &[0, 3]],
+        refused: &[&[3, 0], &[2]],
+    },
+    // digits that the system has not: their remainders are not taken
+    Row {
+        text: b"lsd_X\n0 1\n0 -> 0\n3 -> 0\n4294967295 -> 0\n",
+        direction: Direction::Lsd,
+        systems: &[Some(2)],
+        widths: [2, 2, 2],
+        sizes: [1, 1, 1],
+        accepted: &[&[], &[0, 0]],
+        refused: &[&[1], &[0, 1]],
+    },
+    // pairs of equal numbers, of which words without 11 are valid
+    Row {
+        text: b"lsd_fib lsd_fib\n0 1\n1 1 -> 0\n0 0 -> 0\n",
+        direction: Direction::Lsd,
+        systems: &[None, None],
+        widths: [2, 2, 12],
+        sizes: [1, 1, 2],
+        accepted: &[&[], &[3, 0, 3]],
+        refused: &[&[3, 3], &[1], &[3, 0, 1]],
+    },
+];
+
+// The systems of a row, sealed.
+fn systems_for(alloc: Global, row: &Row) -> Result<Vec<Rc<System>>, RowFault> {
+    let mut systems = Vec::new(alloc);
+    for numerals in row.systems {
+        systems.push(Rc::new(alloc, sealed(alloc, *numerals, row.direction)?)?)?;
+    }
+    Ok(systems)
+}
+
+// How many digits each system has.
+fn digits_of(alloc: Global, systems: &[Rc<System>]) -> Result<Vec<u32>, RowFault> {
+    let mut digits = Vec::new(alloc);
+    for system in systems {
+        digits.push(system.as_ref().digits())?;
+    }
+    Ok(digits)
+}
+
+// Whether tracks of these sizes may stand over one or two systems of one direction.
+fn may_stand(sizes: &[u32], systems: &[Rc<System>]) -> bool
+    ensures sizes { IsTrue result → sizes.now ≡ sizes_of (systems_of (map rc_value systems.now)) }
+    ensures direction { IsTrue result → HaveOneWay (map rc_value systems.now) }
+{
+    match (sizes, systems) {
+        ([size], [only]) => only.as_ref().digits() == *size,
+        ([size, next], [first, second]) => {
+            first.as_ref().digits() == *size
+                && second.as_ref().digits() == *next
+                && first.as_ref().direction() == second.as_ref().direction()
+        }
+        _ => false,
+    }
+}
+
+// The relation of a row, by the next steps.
+fn relation_of(alloc: Global, row: &Row, steps: &mut Steps) -> Result<Relation, RowFault> {
+    let systems = systems_for(alloc, row)?;
+    let digits = digits_of(alloc, &systems)?;
+    let table = branching(alloc, row.text, &digits)?;
+    if may_stand(table.alphabet().sizes(), &systems) {
+        Ok(reading_steps(alloc, &table, &systems, steps)?)
+    } else {
+        Err(RowFault::Form)
+    }
+}
+
+// The step of this name, width and size has this number, counted from 0.
+fn is_line(steps: &Steps, number: u64, name: &str, width: u32, size: u32) -> bool {
+    if number >= steps.count() {
+        return false;
+    }
+    let line = steps.line(number);
+    line.kind.name() == name && line.width == width && line.size == size
+}
+
+// Whether the steps are read, pad and valid, with the row's widths and sizes.
+fn are_lines_of(steps: &Steps, row: &Row) -> bool {
+    let [first, second, third] = row.widths;
+    let [one, two, three] = row.sizes;
+    steps.count() == 3
+        && is_line(steps, 0, "read", first, one)
+        && is_line(steps, 1, "pad", second, two)
+        && is_line(steps, 2, "valid", third, three)
+}
+
+// Whether a relation accepts each of some words, or none of them.
+fn answers(relation: &Relation, words: &[&[u32]], wanted: bool) -> bool {
+    words
+        .iter()
+        .all(|word| relation.dfa().accepts(word) == wanted)
+}
+
+// Asserts that each file has its steps, and that its relation accepts the words that it is to accept.
+fn expect_rows(rt: &impl Abort, alloc: Global, rows: &[Row]) -> Result<(), RowFault> {
+    for (number, row) in rows.iter().enumerate() {
+        let mut steps = Steps::new(alloc, 1000);
+        let relation = relation_of(alloc, row, &mut steps)?;
+        assert!(rt; are_lines_of(&steps, row), "the lines of row {number}");
+        assert!(rt; answers(&relation, row.accepted, true), "of row {number}");
+        assert!(rt; answers(&relation, row.refused, false), "of row {number}");
+    }
+    Ok(())
+}
+
+#[test]
+fn files_have_these_steps(rt: HostRuntime) -> Result<(), RowFault> {
+    expect_rows(&rt, rt.alloc(), &ROWS)
+}
+
+// Why the steps of a row are refused under a limit, if they are.
+fn refusal(alloc: Global, row: &Row, limit: u32) -> Result<Option<StepFault>, RowFault> {
+    let mut steps = Steps::new(alloc, limit);
+    match relation_of(alloc, row, &mut steps) {
+        Ok(_) => Ok(None),
+        Err(RowFault::Step(fault)) => Ok(Some(fault)),
+        Err(fault) => Err(fault),
+    }
+}
+
+// The first of three steps with these widths that passes a limit.
+fn first_past(widths: [u32; 3], limit: u32) -> Option<StepFault> {
+    let [read, pad, valid] = widths;
+    if read > limit {
+        Some(StepFault::States(1))
+    } else if pad > limit {
+        Some(StepFault::States(2))
+    } else if valid > limit {
+        Some(StepFault::States(3))
+    } else {
+        None
+    }
+}
+
+// Asserts that the first step of each file that passes a limit is refused, under each limit up to 12.
+fn expect_refusals(rt: &impl Abort, alloc: Global, rows: &[Row]) -> Result<(), RowFault> {
+    for (number, row) in rows.iter().enumerate() {
+        for limit in 0..13 {
+            let found = refusal(alloc, row, limit)?;
+            assert_eq!(rt;
+                found,
+                first_past(row.widths, limit),
+                "of row {number} under {limit}"
+            );
+        }
+    }
+    Ok(())
+}
+
+#[test]
+fn the_first_step_past_the_limit_is_refused(rt: HostRuntime) -> Result<(), RowFault> {
+    expect_refusals(&rt, rt.alloc(), &ROWS)
+}
