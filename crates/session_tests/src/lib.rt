@@ -46,6 +46,10 @@ mod formula_places;
 #[cfg(test)]
 mod formula_limits;
 
+// formulas over the Fibonacci system, and theorems on its word
+#[cfg(test)]
+mod fibonacci_formulas;
+
 // calls of automata, and the files that they read
 #[cfg(test)]
 mod call_rows;
