@@ -1,8 +1,8 @@
 -- A table of a nondeterministic automaton is determined by its sizes, its number of states, and by what these accept and lead to.
-use Rattle.std.proofs.Common.{◌≡◌, ℕ, ◌<◌, List, [], ◌∷◌, length, ◌↔◌, ◌⊎◌, inl, inr, refl, sym, ap, ◌∙◌, subst, IsTrue, arith, ext_get_or}
+use Rattle.std.proofs.Common.{◌≡◌, ℕ, ◌<◌, List, [], ◌∷◌, ◌↔◌, ◌⊎◌, inl, inr, refl, sym, ap, ◌∙◌, subst, IsTrue, arith, ext_get_or}
 use Rattle.std.specs.List.{AllPairs, Contains}
 use Rattle.digit_tuple.specs.declared.edges.Edge.{Edge}
-use Rattle.digit_tuple.specs.Automaton.{Branch, Branching, IsBefore, IsBranchTable, Leads, accepting_of, branch_of, edges_of, letters_of, no_branch, states_of}
+use Rattle.digit_tuple.specs.Automaton.{Branching, IsBefore, IsBranchTable, Leads, accepting_of, branch_of, edges_of, letters_of, no_branch, states_of}
 use Rattle.digit_tuple.proofs.MemberLemmas.{AllPairs-head, AllPairs-tail, Contains-cases, Contains-head, Contains-none, Contains-tail}
 use Rattle.digit_tuple.proofs.TableLemmas.{IsRow-edges_of}
 use Rattle.numeration.proofs.RankLemmas.{same_tests}

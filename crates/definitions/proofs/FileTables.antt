@@ -1,10 +1,11 @@
--- What a file lists is a table: below a header that wants states there is one.
-use Rattle.std.proofs.Common.{◌≡◌, ◌≢◌, ℕ, ◌==◌, ◌&&◌, ◌<◌, Bool, true, false, cond, eqb, List, length, Option, None, Some, Result, Ok, Err, refl, sym, ap, ◌∙◌, subst, arith}
+-- What a file lists has a state below a header that wants one.
+use Rattle.std.proofs.Common.{◌≡◌, ◌≢◌, ℕ, ◌==◌, ◌&&◌, Bool, true, false, cond, List, length, Option, None, Some, Result, Ok, Err, refl, sym, ap, ◌∙◌, arith}
 use Rattle.std.proofs.lemmas.Bool.{eqb-false}
 use Rattle.dfa_reading.specs.Headers.{Header, has_states}
 use Rattle.dfa_reading.specs.Lines.{line_after, lines_of}
-use Rattle.dfa_reading.specs.Listed.{Listed, ListedLine}
-use Rattle.dfa_reading.specs.Reading.{Draft, add_lines, finish, finish_with, lists, no_draft, placed_lines, relation_of, then_read}
+use Rattle.dfa_reading.specs.Listed.{Listed}
+use Rattle.dfa_reading.specs.Reading.{Draft, add_lines, add_lines_by, finish, finish_with, lists, no_draft, placed_lines, relation_of, then_read}
+use Rattle.dfa_reading.specs.WordFiles.{add_word_line, word_of}
 use Rattle.definitions.specs.TableSteps.{IsTable}
 use Rattle.definitions.specs.TableLaws.{FilesAreTables}
 
@@ -41,4 +42,10 @@ pub file_is_table : FilesAreTables
 unfolding relation_of
 file_is_table text listed h =
     let found = then_ok (add_lines 1 no_draft (lines_of text)) (finish (line_after (lines_of text))) listed h in
+    finished_with (line_after (lines_of text)) found.0.header found.0 listed found.1
+
+pub word_has_states : (text : List ℕ) (listed : Listed) → word_of text ≡ Ok listed → IsTable listed
+unfolding word_of
+word_has_states text listed h =
+    let found = then_ok (add_lines_by add_word_line 1 no_draft (lines_of text)) (finish (line_after (lines_of text))) listed h in
     finished_with (line_after (lines_of text)) found.0.header found.0 listed found.1

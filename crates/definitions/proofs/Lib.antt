@@ -1,11 +1,11 @@
 pub mod NameLemmas
 pub mod FileNames
-pub mod ListedWords
 pub mod RegexTexts
 pub mod OneTexts
 pub mod TextMeanings
 pub mod AssignedLemmas
 pub mod SameMeanings
+pub mod WordTexts
 pub mod FileBindings
 pub mod TableSystems
 pub mod TableDone
@@ -14,3 +14,4 @@ pub mod TableWords
 pub mod TableRelations
 pub mod OneTable
 pub mod FileTables
+pub mod WordLetters

@@ -1,11 +1,11 @@
 -- The steps of a table have one outcome.
-use Rattle.std.proofs.Common.{◌≡◌, ◌≢◌, ◌⊎◌, inl, inr, ℕ, ◌+◌, Bool, List, [], ◌∷◌, ◌++◌, length, refl, sym, ap, ◌∙◌, subst, IsTrue, arith}
+use Rattle.std.proofs.Common.{◌≡◌, ◌≢◌, inl, inr, ℕ, ◌+◌, List, [], ◌∷◌, ◌++◌, length, sym, ap, ◌∙◌, subst, IsTrue, arith}
 use Rattle.std.proofs.lemmas.List.{length_push, length-append}
 use Rattle.digit_tuple.specs.Automaton.{Branching}
 use Rattle.digit_tuple.specs.Deterministic.{Automaton}
 use Rattle.digit_tuple.specs.Letters.{IsAlphabet, IsTooLarge}
 use Rattle.digit_tuple.specs.StepResults.{IsRefusedBy}
-use Rattle.digit_tuple.specs.Steps.{StepLog, with_line}
+use Rattle.digit_tuple.specs.Steps.{StepLog, with_line, with_lines}
 use Rattle.digit_tuple.specs.declared.direction.Direction.{Direction}
 use Rattle.digit_tuple.specs.declared.step_fault.StepFault.{StepFault}
 use Rattle.digit_tuple.specs.declared.step_fault.StepFault.TheVariants as faults
@@ -19,13 +19,13 @@ use Rattle.dfa_reading.specs.Headers.{Header, Truth, Systems, Sets}
 use Rattle.dfa_reading.specs.Listed.{Listed}
 use Rattle.num_system.specs.Sealed.{SystemValue}
 use Rattle.numeration.specs.Spelling.{sizes_of}
-use Rattle.number_relations.specs.Joins.{languages_of}
-use Rattle.number_relations.specs.Multiples.{with_lines}
+use Rattle.num_system.specs.Tracks.{languages_of, systems_of, way_of}
 use Rattle.number_relations.specs.Readings.{AreReadingSteps, IsPaddedReading, PassesAtPad, PassesAtValid, PassesReading}
-use Rattle.number_relations.specs.Relations.{RelationValue, named_of, systems_of, way_of}
+use Rattle.number_relations.specs.Relations.{RelationValue, named_of}
 use Rattle.number_relations.proofs.RelationLemmas.{one_relation}
 use Rattle.number_relations.proofs.StepOutcomes.{same_relation}
 use Rattle.definitions.specs.TableSteps.{AreForTracks, AreStepsBelow, AreSystemTableSteps, IsTableOver, PassesBelow, PassesSystems}
+use Rattle.num_system.proofs.LineLemmas.{only_memory, refused_letters, refused_states}
 use Rattle.definitions.specs.TableLaws.{TablesHaveOneOutcome}
 use Rattle.definitions.proofs.BranchTables.{same_branching}
 
@@ -33,18 +33,6 @@ use Rattle.definitions.proofs.BranchTables.{same_branching}
 not_too_large : (sizes : List ℕ) → IsAlphabet sizes → IsTooLarge sizes → ⊥
 not_too_large sizes are (inl many) = omega (arith, are.tracks, many)
 not_too_large sizes are (inr large) = omega (arith, are.letters, large)
-
--- a step that can't be refused for its letters was refused for its states, or memory ran out
-refused_states : (log : StepLog) (States : Type 0) (fault : StepFault) → IsRefusedBy log ⊥ States fault → fault ≢ faults.Memory → (fault ≡ faults.States (length log.lines + 1)) × States
-refused_states log States (faults.Letters step) refused other = absurd refused.1
-refused_states log States (faults.States step) refused other = (ap faults.States refused.0, refused.1)
-refused_states log States faults.Memory refused other = absurd (other refl)
-
--- and one that can't be refused for its states, for its letters
-refused_letters : (log : StepLog) (Letters : Type 0) (fault : StepFault) → IsRefusedBy log Letters ⊥ fault → fault ≢ faults.Memory → (fault ≡ faults.Letters (length log.lines + 1)) × Letters
-refused_letters log Letters (faults.Letters step) refused other = (ap faults.Letters refused.0, refused.1)
-refused_letters log Letters (faults.States step) refused other = absurd refused.1
-refused_letters log Letters faults.Memory refused other = absurd (other refl)
 
 -- a table over systems has one branching automaton
 pub one_branching : (systems : List SystemValue) (listed : Listed) (n m : Branching) → IsTableOver systems listed n → IsTableOver systems listed m → n ≡ m
@@ -188,12 +176,6 @@ module _ (old : StepLog) (systems : List SystemValue) (listed : Listed) where
   apart_below (Truth value) r lines fault apart steps passes = passes
   apart_below (Systems names) r lines fault apart steps passes = not_both r lines fault apart steps passes
   apart_below (Sets sets) r lines fault apart steps passes = passes
-
--- what is not done for a limit was refused, unless memory ran out
-only_memory : (fault : StepFault) → (fault ≢ faults.Memory → ⊥) → fault ≡ faults.Memory
-only_memory (faults.Letters step) none = absurd (none (λ is. cc))
-only_memory (faults.States step) none = absurd (none (λ is. cc))
-only_memory faults.Memory none = refl
 
 pub one_table : TablesHaveOneOutcome
 one_table old systems listed are = record {

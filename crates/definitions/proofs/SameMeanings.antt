@@ -9,10 +9,10 @@ use Rattle.definitions.specs.Laws.{BindTheSame, BindingsMatterByMeaning}
 -- names that are bound to the same mean the same
 pub same_meanings : (custom : Custom) (bindings others : Bindings) → BindTheSame custom bindings others → MeanTheSame (meanings_in custom bindings) (meanings_in custom others)
 same_meanings custom bindings others same = record {
-  holds_there = λ name ns. (same Automata name ns).0;
-  holds_back = λ name ns. (same Automata name ns).1;
-  letter_there = λ name ns letter none. none;
-  letter_back = λ name ns letter none. none;
+  holds_there = λ name ns. (same.holds Automata name ns).0;
+  holds_back = λ name ns. (same.holds Automata name ns).1;
+  letter_there = λ name ns letter. (same.letters name ns letter).0;
+  letter_back = λ name ns letter. (same.letters name ns letter).1;
 }
 
 pub bindings_matter : BindingsMatterByMeaning

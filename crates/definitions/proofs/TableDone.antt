@@ -1,21 +1,20 @@
 -- What the steps of a table come to, by its header.
-use Rattle.std.proofs.Common.{◌≡◌, ◌⊎◌, inl, inr, ℕ, ◌<◌, Bool, true, List, [], ◌++◌, length, Result, Ok, Err, MatchResult, refl, sym, ap, ◌∙◌, subst}
+use Rattle.std.proofs.Common.{◌≡◌, ◌⊎◌, inl, inr, ℕ, ◌<◌, Bool, List, [], length, Result, Ok, Err, refl, sym, ap, subst}
 use Rattle.std.proofs.lemmas.List.{append-nil}
 use Rattle.digit_tuple.specs.Automaton.{Branching}
 use Rattle.digit_tuple.specs.Letters.{IsTooLarge}
 use Rattle.digit_tuple.specs.StepResults.{IsRefusedBy}
-use Rattle.digit_tuple.specs.Steps.{StepLog}
+use Rattle.digit_tuple.specs.Steps.{StepLog, with_lines}
 use Rattle.digit_tuple.specs.declared.step_fault.StepFault.{StepFault}
 use Rattle.digit_tuple.specs.declared.step_fault.StepFault.TheVariants as faults
-use Rattle.digit_tuple.specs.declared.steps.StepLine.{StepLine}
 use Rattle.dfa_reading.specs.Headers.{Header, Truth, Systems, has_states}
 use Rattle.dfa_reading.specs.Listed.{Listed}
 use Rattle.num_system.specs.Sealed.{SystemValue}
 use Rattle.numeration.specs.Spelling.{sizes_of}
 use Rattle.number_relations.specs.Comparisons.{IsTruth}
-use Rattle.number_relations.specs.Multiples.{with_lines}
 use Rattle.number_relations.specs.Readings.{DoesReading, IsReadDone, PassesReading}
-use Rattle.number_relations.specs.Relations.{HaveOneWay, RelationValue, systems_of}
+use Rattle.num_system.specs.Tracks.{HaveOneWay, systems_of}
+use Rattle.number_relations.specs.Relations.{RelationValue}
 use Rattle.definitions.specs.TableSteps.{AreForTracks, AreStepsBelow, DoesTable, IsTable, IsTableDone, IsTableOver, PassesBelow, PassesTable}
 
 -- no more lines

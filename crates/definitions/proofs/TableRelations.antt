@@ -9,8 +9,9 @@ use Rattle.dfa_reading.specs.Listed.{Listed}
 use Rattle.num_system.specs.Sealed.{SystemValue, system_of, IsSealed}
 use Rattle.numeration.specs.Spelling.{sizes_of}
 use Rattle.number_relations.specs.Comparisons.{IsTruth}
-use Rattle.number_relations.specs.Relations.{IsRelation, RelationHolds, RelationValue, systems_of, way_of}
-use Rattle.number_relations.proofs.HoldLemmas.{spelled_count}
+use Rattle.num_system.specs.Tracks.{systems_of, way_of}
+use Rattle.number_relations.specs.Relations.{IsRelation, RelationHolds, RelationValue}
+use Rattle.num_system.proofs.HoldLemmas.{spelled_count}
 use Rattle.number_relations.proofs.ReadingLemmas.{reading_holds, reading_is}
 use Rattle.definitions.specs.TableSteps.{AreForTracks, AreStepsBelow, AreSystemTableSteps, HoldsBelowOver}
 use Rattle.definitions.specs.TableLaws.{TablesHold}

@@ -1,12 +1,12 @@
 -- The systems of a table give its tracks.
-use Rattle.std.proofs.Common.{◌≡◌, ℕ, List, [], length, refl, sym, ap, ◌∙◌}
+use Rattle.std.proofs.Common.{◌≡◌, List, refl, sym, ap, ◌∙◌}
 use Rattle.std.proofs.lemmas.List.{length-map}
 use Rattle.dfa_reading.specs.Branching.{AreGiven, sizes_in}
 use Rattle.dfa_reading.specs.Headers.{Header, Truth, Systems, Sets}
 use Rattle.num_system.specs.Sealed.{SystemValue, system_of}
 use Rattle.numeration.specs.Spelling.{sizes_of}
 use Rattle.numeration.specs.Systems.{System}
-use Rattle.number_relations.specs.Relations.{systems_of}
+use Rattle.num_system.specs.Tracks.{systems_of}
 use Rattle.definitions.specs.TableSteps.{AreForTracks}
 
 -- the sizes of the tracks are the digit counts of the systems

@@ -15,7 +15,8 @@ use Rattle.numeration.specs.Systems.{System}
 use Rattle.numeration.specs.Spelling as spelling
 use Rattle.numeration.specs.Spelling.{letters_in}
 use Rattle.numeration.specs.Relations.{HoldsOf}
-use Rattle.number_relations.proofs.HoldLemmas.{one_tuple, spelled_count, spelling_of}
+use Rattle.num_system.proofs.HoldLemmas.{one_tuple, spelled_count, spelling_of}
+use Rattle.word_output.proofs.TupleWords.{tuples_of, word_of_tuples}
 use Rattle.regex_build.specs.Expression.{Expression}
 use Rattle.reg_steps.specs.Relations.{HasMatch}
 use Rattle.dfa_reading.specs.Branching.{IsLetterOfDigits}
@@ -25,6 +26,7 @@ use Rattle.dfa_reading.specs.Reading.{relation_of, add_line}
 use Rattle.dfa_reading.specs.Lines.{is_passed}
 use Rattle.dfa_text.specs.Lists.{automaton_listed, IsAutomatonUnder}
 use Rattle.dfa_text.specs.RelationText.{relation_text}
+use Rattle.dfa_text.proofs.ListedPaths.{accepts_listed}
 use Rattle.dfa_text.proofs.PrintedRelations.{text_lists}
 use Rattle.definitions.specs.Tracks.{NamedSystem, Tracks, OverSets, OverSystems, names_of, systems_of, letter_sets, header_of}
 use Rattle.definitions.specs.Trees.{Variable, File, Regex, Formula, Bindings}
@@ -36,7 +38,6 @@ use Rattle.definitions.specs.Texts.{IsRegexText, IsSpelledText, IsTrackText}
 use Rattle.definitions.specs.Laws.{TextsMeanTheirTrees}
 use Rattle.definitions.proofs.NameLemmas.{named_are_systems, same_list, same_way}
 use Rattle.definitions.proofs.FileNames.{file_systems, track_names}
-use Rattle.definitions.proofs.ListedWords.{accepts_listed, tuples_of_word, word_of_tuples}
 
 -- over the digits of systems stand as many digits as the systems have
 pub system_sizes : (way : Direction) (named : List NamedSystem) → sizes_of (letter_sets (OverSystems way named)) ≡ spelling.sizes_of (systems_of named)
@@ -88,7 +89,7 @@ module _ (custom : Custom) (way : Direction) (named : List NamedSystem) (some : 
     listed_word : (ns : List ℕ) → length ns ≡ length named → holds ns → HasListedWord way ss listed ns
     listed_word ns count held =
         let found = spelling_of way ss ns (named_are_systems custom way named are) (count ∙ sym count_of) in
-        let tuples = tuples_of_word (spelling.sizes_of ss) found.0 found.1 in
+        let tuples = tuples_of (spelling.sizes_of ss) found.0 found.1 in
         let letters : AllZip (IsLetterOfDigits d.sizes) tuples.0 found.0 = subst (λ (sizes : List ℕ). AllZip (IsLetterOfDigits sizes) tuples.0 found.0) (sym relates.sizes) tuples.1 in
         let accepts : ListedAccepts d.sizes listed tuples.0 = (accepts_listed header d table tuples.0 found.0 letters).1 ((relates.accepts found.0 found.1).1 (ns, found.2, held)) in
         record {

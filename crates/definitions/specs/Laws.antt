@@ -1,14 +1,15 @@
 -- What holds of all definitions.
-use Rattle.std.specs.Prelude.{◌≡◌, ◌↔◌, ℕ, List}
+use Rattle.std.specs.Prelude.{◌≡◌, ◌↔◌, ℕ, ℤ, List}
 use Rattle.wal_outside.specs.declared.folder.Folder.{Folder}
-use Rattle.wal_outside.specs.declared.folder.Folder.TheVariants.{Bases}
+use Rattle.wal_outside.specs.declared.folder.Folder.TheVariants.{Bases, Words}
 use Rattle.wal_outside.specs.Files.{Files}
 use Rattle.formula_parse.specs.Trees as trees
 use Rattle.formula_resolve.specs.declared.file.File as formula_file
-use Rattle.definitions.specs.Trees.{Variable, Tree, Formula, Bindings, Entry, Ledger, ledger_of, bindings_of}
+use Rattle.definitions.specs.Trees.{Variable, Tree, Formula, Bindings, MayStandIn, Entry, Ledger, ledger_of, bindings_of}
 use Rattle.definitions.specs.Named.{Custom}
 use Rattle.definitions.specs.Files.{FileHolds}
-use Rattle.definitions.specs.TreeMeanings.{tree_holds, bound_holds}
+use Rattle.definitions.specs.WordFiles.{FileLetter}
+use Rattle.definitions.specs.TreeMeanings.{tree_holds, bound_holds, tree_letter, bound_letter}
 use Rattle.definitions.specs.Texts.{HasTreeText, HasText, Stores}
 
 -- an entry has at most one text
@@ -19,11 +20,16 @@ OneText = (custom : Custom) (entry : Entry) (text other : List ℕ) → HasText 
 abbrev pub TextsMeanTheirTrees : Type 0
 TextsMeanTheirTrees = (custom : Custom) (tree : Tree) (text : List ℕ) → HasTreeText custom tree text → (ns : List ℕ) → FileHolds custom text ns ↔ tree_holds custom tree ns
 
--- names are bound to what holds of the same numbers
-abbrev pub BindTheSame : Custom → Bindings → Bindings → Type 0
-BindTheSame custom bindings others = (folder : Folder) (name ns : List ℕ) → bound_holds custom bindings folder name ns ↔ bound_holds custom others folder name ns
+-- the text of a definition that may stand among words, read as a word's file, has the letters of the definition
+abbrev pub WordTextsMeanTheirTrees : Type 0
+WordTextsMeanTheirTrees = (custom : Custom) (tree : Tree) (text : List ℕ) → MayStandIn Words tree → HasTreeText custom tree text → (ns : List ℕ) (letter : ℤ) → FileLetter custom text ns letter ↔ tree_letter custom tree ns letter
 
--- a formula holds of the same numbers where its names are bound to what holds of the same numbers
+-- names are bound to what holds of the same numbers, and names of words to what has the same letters
+pub record BindTheSame (custom : Custom) (bindings others : Bindings) : Type 0 where
+  pub holds : (folder : Folder) (name ns : List ℕ) → bound_holds custom bindings folder name ns ↔ bound_holds custom others folder name ns
+  pub letters : (name ns : List ℕ) (letter : ℤ) → bound_letter custom bindings Words name ns letter ↔ bound_letter custom others Words name ns letter
+
+-- a formula holds of the same numbers where its names are bound to the same
 abbrev pub BindingsMatterByMeaning : Type 0
 BindingsMatterByMeaning = (custom : Custom) (variables : List Variable) (formula : trees.Formula) (bindings others : Bindings) → BindTheSame custom bindings others
     → (ns : List ℕ) → tree_holds custom (Formula variables formula bindings) ns ↔ tree_holds custom (Formula variables formula others) ns

@@ -2,9 +2,11 @@ pub mod Tracks
 pub mod Trees
 pub mod Named
 pub mod Files
+pub mod WordFiles
 pub mod TreeMeanings
 pub mod FormulaTexts
 pub mod Texts
 pub mod Laws
 pub mod TableSteps
 pub mod TableLaws
+pub mod WordLaws

@@ -3,7 +3,7 @@ use Rattle.std.specs.Prelude.{◌≡◌, ◌⊎◌, ℕ, ◌<◌, true, List, []
 use Rattle.digit_tuple.specs.Automaton.{Branching, IsBranchTable, letters_of}
 use Rattle.digit_tuple.specs.Letters.{IsAlphabet, IsTooLarge}
 use Rattle.digit_tuple.specs.StepResults.{IsRefusedBy}
-use Rattle.digit_tuple.specs.Steps.{StepLog}
+use Rattle.digit_tuple.specs.Steps.{StepLog, with_lines}
 use Rattle.digit_tuple.specs.declared.step_fault.StepFault.{StepFault}
 use Rattle.digit_tuple.specs.declared.step_fault.StepFault.TheVariants as faults
 use Rattle.digit_tuple.specs.declared.steps.StepLine.{StepLine}
@@ -13,9 +13,9 @@ use Rattle.dfa_reading.specs.Listed.{Listed}
 use Rattle.num_system.specs.Sealed.{SystemValue}
 use Rattle.numeration.specs.Spelling.{sizes_of}
 use Rattle.number_relations.specs.Comparisons.{IsTruth}
-use Rattle.number_relations.specs.Multiples.{with_lines}
 use Rattle.number_relations.specs.Readings.{AreReadingSteps, PassesReading}
-use Rattle.number_relations.specs.Relations.{RelationValue, HaveOneWay, systems_of, way_of}
+use Rattle.num_system.specs.Tracks.{HaveOneWay, systems_of, way_of}
+use Rattle.number_relations.specs.Relations.{RelationValue}
 use Rattle.definitions.specs.Files.{HasListedWord}
 
 -- a table that a file may list: it has a state, unless it is a truth value

@@ -9,12 +9,13 @@ use Rattle.regex_build.specs.Matches.{Matches}
 use Rattle.regex_build.specs.Patterns.{AreMembers}
 use Rattle.dfa_text.specs.Meaning.{FileAccepts, AreTrackSets}
 use Rattle.dfa_text.specs.RelationText.{relation_text}
+use Rattle.wal_outside.specs.declared.folder.Folder.{Folder}
 use Rattle.wal_outside.specs.declared.folder.Folder.TheVariants.{Bases}
 use Rattle.wal_outside.specs.Files.{Files}
 use Rattle.reg_steps.specs.RegexSteps.{IsRegexAutomaton}
 use Rattle.reg_steps.specs.Relations.{IsRelation}
 use Rattle.definitions.specs.Tracks.{NamedSystem, systems_of, Tracks, OverSets, OverSystems, letter_sets, header_of}
-use Rattle.definitions.specs.Trees.{Tree, File, Regex, Formula, Entry, Bytes, Defined, Ledger}
+use Rattle.definitions.specs.Trees.{Tree, File, Regex, Formula, MayStandIn, Entry, Bytes, Defined, Ledger, tree_of}
 use Rattle.definitions.specs.Named.{Custom, AreNamed}
 use Rattle.definitions.specs.FormulaTexts.{IsFormulaText}
 
@@ -52,13 +53,17 @@ abbrev pub HasText : Custom → Entry → List ℕ → Type 0
 HasText custom (Bytes bytes) text = text ≡ bytes
 HasText custom (Defined tree) text = HasTreeText custom tree text
 
+-- the text of an entry that may stand in the folder
+abbrev pub HasTextIn : Custom → Folder → Entry → List ℕ → Type 0
+HasTextIn custom folder entry text = MayStandIn folder (tree_of entry) × HasText custom entry text
+
 -- a text where there is an entry, and no other
-abbrev pub HasTextAt : Custom → Option Entry → Option (List ℕ) → Type 0
-HasTextAt custom None None = ⊤
-HasTextAt custom None (Some text) = ⊥
-HasTextAt custom (Some entry) None = ⊥
-HasTextAt custom (Some entry) (Some text) = HasText custom entry text
+abbrev pub HasTextAt : Custom → Folder → Option Entry → Option (List ℕ) → Type 0
+HasTextAt custom folder None None = ⊤
+HasTextAt custom folder None (Some text) = ⊥
+HasTextAt custom folder (Some entry) None = ⊥
+HasTextAt custom folder (Some entry) (Some text) = HasTextIn custom folder entry text
 
 -- the files are the texts of the ledger, name by name
 abbrev pub Stores : Ledger → Files → Type 0
-Stores ledger files = (folder : _) (name : List ℕ) → HasTextAt (ledger Bases) (ledger folder name) (files folder name)
+Stores ledger files = (folder : _) (name : List ℕ) → HasTextAt (ledger Bases) folder (ledger folder name) (files folder name)

@@ -1,7 +1,7 @@
--- Of which numbers a definition holds.
+-- Of which numbers a definition holds, and which letters it has as a word.
 use Rattle.std.specs.Prelude.{◌≡◌, ℕ, ℤ, Bool, true, false, List, [], ◌∷◌, length}
 use Rattle.wal_outside.specs.declared.folder.Folder.{Folder}
-use Rattle.wal_outside.specs.declared.folder.Folder.TheVariants.{Automata}
+use Rattle.wal_outside.specs.declared.folder.Folder.TheVariants.{Automata, Words}
 use Rattle.wal_outside.specs.Files.{same_file}
 use Rattle.formula_truth.specs.Assignments.{Assignment, with_value}
 use Rattle.formula_truth.specs.Truth.{Meanings, Holds}
@@ -11,6 +11,7 @@ use Rattle.definitions.specs.Tracks.{Tracks, OverSets, OverSystems, systems_of, 
 use Rattle.definitions.specs.Trees.{Variable, Tree, File, Regex, Formula, Bindings, unbound, bound}
 use Rattle.definitions.specs.Named.{Custom}
 use Rattle.definitions.specs.Files.{FileHolds}
+use Rattle.definitions.specs.WordFiles.{FileLetter}
 
 -- the numbers under the names of variables, and 0 under every other name
 abbrev pub assigned : List Variable → List ℕ → Assignment
@@ -34,13 +35,24 @@ abbrev mutual
   pub tree_holds : Custom → Tree → List ℕ → Type 0
   tree_holds custom (File bytes) ns = FileHolds custom bytes ns
   tree_holds custom (Regex tracks expression) ns = RegexHolds tracks expression ns
-  tree_holds custom (Formula variables formula bindings) ns = (length ns ≡ length variables) × Holds (record { holds_of = λ name ms. bound_holds custom bindings Automata name ms; has_letter = λ name ms letter. ⊥ }) formula (assigned variables ns)
+  tree_holds custom (Formula variables formula bindings) ns = (length ns ≡ length variables) × Holds (record { holds_of = λ name ms. bound_holds custom bindings Automata name ms; has_letter = λ name ms letter. bound_letter custom bindings Words name ms letter }) formula (assigned variables ns)
 
   -- what a name is bound to holds of the numbers
   pub bound_holds : Custom → Bindings → Folder → List ℕ → List ℕ → Type 0
   bound_holds custom unbound folder name ns = ⊥
   bound_holds custom (bound bindings at under tree) folder name ns = chosen (same_file at under folder name) (tree_holds custom tree ns) (bound_holds custom bindings folder name ns)
 
--- what names mean that are bound so; no word has a letter
+  -- a file has the letters that it lists; an expression and a formula are no words
+  pub tree_letter : Custom → Tree → List ℕ → ℤ → Type 0
+  tree_letter custom (File bytes) ns letter = FileLetter custom bytes ns letter
+  tree_letter custom (Regex tracks expression) ns letter = ⊥
+  tree_letter custom (Formula variables formula bindings) ns letter = ⊥
+
+  -- what a name is bound to has this letter at the place
+  pub bound_letter : Custom → Bindings → Folder → List ℕ → List ℕ → ℤ → Type 0
+  bound_letter custom unbound folder name ns letter = ⊥
+  bound_letter custom (bound bindings at under tree) folder name ns letter = chosen (same_file at under folder name) (tree_letter custom tree ns letter) (bound_letter custom bindings folder name ns letter)
+
+-- what names mean that are bound so: an automaton's among automata, and a word's among words
 abbrev pub meanings_in : Custom → Bindings → Meanings
-meanings_in custom bindings = record { holds_of = λ name ms. bound_holds custom bindings Automata name ms; has_letter = λ name ms letter. ⊥ }
+meanings_in custom bindings = record { holds_of = λ name ms. bound_holds custom bindings Automata name ms; has_letter = λ name ms letter. bound_letter custom bindings Words name ms letter }

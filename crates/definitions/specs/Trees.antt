@@ -1,5 +1,5 @@
 -- Definitions that commands make, and the ledger of what stands under each name.
-use Rattle.std.specs.Prelude.{ℕ, ℤ, List, Option, None, Some, if◌then◌else◌}
+use Rattle.std.specs.Prelude.{◌≢◌, ℕ, ℤ, List, Option, None, Some, ⊤, if◌then◌else◌}
 use Rattle.std.specs.List.{fold}
 use Rattle.std.specs.Option.{option_map}
 use Rattle.wal_outside.specs.declared.folder.Folder.{Folder}
@@ -30,6 +30,12 @@ mutual
   pub data Bindings : Type 0 where
     unbound : Bindings
     bound : Bindings → Folder → List ℕ → Tree → Bindings
+
+-- A definition may stand in the folder. An expression and a formula are no words, and stand elsewhere.
+abbrev pub MayStandIn : Folder → Tree → Type 0
+MayStandIn folder (File bytes) = ⊤
+MayStandIn folder (Regex tracks expression) = folder ≢ Words
+MayStandIn folder (Formula variables formula bindings) = folder ≢ Words
 
 -- what stands under a name: bytes, or a definition
 pub data Entry : Type 0 where

@@ -1,6 +1,6 @@
 //! Laws of definitions, each a call that does nothing.
 
-ghost use Rattle.definitions.specs.Laws.{OneText, TextsMeanTheirTrees, BindingsMatterByMeaning, FilesBindAsTheirLedger};
+ghost use Rattle.definitions.specs.Laws.{OneText, TextsMeanTheirTrees, WordTextsMeanTheirTrees, BindingsMatterByMeaning, FilesBindAsTheirLedger};
 
 /// An entry has at most one text.
 pub fn one_text()
@@ -12,7 +12,13 @@ pub fn texts_mean_their_trees()
     ensures { TextsMeanTheirTrees }
 {}
 
-/// A formula holds of the same numbers where its names are bound to what holds of the same numbers.
+/// The text of a definition that may stand among words, read as a word's file, has the letters of the definition.
+pub fn word_texts_mean_their_trees()
+    ensures { WordTextsMeanTheirTrees }
+{}
+
+/// A formula holds of the same numbers where its names are bound to what holds of the same numbers, and those of words to what has
+/// the same letters.
 pub fn bindings_matter_by_meaning()
     ensures { BindingsMatterByMeaning }
 {}

@@ -3,7 +3,8 @@
 //! A definition (`Tree` in `specs/Trees.antt`) is the bytes of a file, an expression over tracks, or a formula with the
 //! definitions that its names stand for. `tree_holds` (`specs/TreeMeanings.antt`) says of which numbers it holds, `HasText`
 //! (`specs/Texts.antt`) which text stores it. The text of a definition, read as a file, holds of what the definition holds of,
-//! so that a command means the same under the definitions of names and under the files that stand for them.
+//! so that a command means the same under the definitions of names and under the files that stand for them. Among words stand
+//! files alone; `tree_letter` says which letter a file has at a place.
 #![tactic(auto)]
 
 /// Laws of definitions.
@@ -12,7 +13,12 @@ mod laws;
 /// The relation of what a file lists.
 mod table;
 
+/// Laws of words that are read of files.
+mod words;
+
 pub use laws::{
     bindings_matter_by_meaning, files_bind_as_their_ledger, one_text, texts_mean_their_trees,
+    word_texts_mean_their_trees,
 };
 pub use table::{files_are_tables, table_relation, tables_have_one_outcome, tables_hold};
+pub use words::{files_are_words, words_have_file_letters};

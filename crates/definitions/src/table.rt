@@ -5,16 +5,17 @@ ghost use Rattle.std.specs.Rc.{rc_value};
 ghost use Rattle.digit_tuple.specs.Letters.{IsTooLarge};
 ghost use Rattle.digit_tuple.specs.StepResults.{IsRefusedBy};
 ghost use Rattle.numeration.specs.Spelling.{sizes_of};
-ghost use Rattle.number_relations.specs.Relations.{systems_of};
+ghost use Rattle.num_system.specs.Tracks.{systems_of};
 ghost use Rattle.definitions.specs.TableSteps.{IsTable, AreForTracks, IsTableOver, DoesTable};
 ghost use Rattle.definitions.specs.TableLaws.{TablesHold, TablesHaveOneOutcome, FilesAreTables};
 
 use dfa_reading::{FileHeader, Listed};
-use digit_tuple::faults::{OpFault, OutOfMemory};
+use digit_tuple::faults::OpFault;
 use digit_tuple::nfa::Nfa;
 use digit_tuple::step_fault::StepFault;
 use digit_tuple::steps::Steps;
 use num_system::system::System;
+use num_system::tracks::digits_of;
 use number_relations::reading::reading_steps;
 use number_relations::relation::Relation;
 use std::alloc::Global;
@@ -66,17 +67,6 @@ fn branching_of(
         Err(OpFault::States) => unreachable!(),
         Err(OpFault::Memory) => Err(StepFault::Memory),
     }
-}
-
-// How many digits each system has.
-fn digits_of(alloc: Global, systems: &[Rc<System>]) -> Result<Vec<u32>, OutOfMemory>
-    ensures { IfOk result (λ digits. digits.items ≡ sizes_of (systems_of (map rc_value systems.now))) }
-{
-    let mut digits = Vec::with_capacity(alloc, systems.len())?;
-    for system in systems {
-        digits.push(system.as_ref().digits())?;
-    }
-    Ok(digits)
 }
 
 /// The steps of a table make the relation that holds of the numbers of which the table does. It does nothing.

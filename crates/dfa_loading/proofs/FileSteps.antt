@@ -1,37 +1,31 @@
 -- What files list, and why they don't, as one more is known.
-use Rattle.std.proofs.Common.{◌≡◌, ℕ, Bool, true, false, ◌||◌, List, [], ◌∷◌, ◌++◌, Result, Ok, Err, refl, sym, ap, subst, ◌∙◌, inl, inr}
+use Rattle.std.proofs.Common.{◌≡◌, ℕ, Bool, true, false, ◌||◌, List, [], ◌∷◌, ◌++◌, Result, Ok, Err, refl, sym, subst, ◌∙◌, inl, inr}
 use Rattle.std.proofs.lemmas.Bool.{false≢true}
 use Rattle.std.specs.Option.{IfSome}
 use Rattle.std.specs.Result.{IsErrAnd}
 use Rattle.wal_outside.specs.Files.{Files}
 use Rattle.wal_outside.specs.Views.{StoreView}
 use Rattle.wal_outside.specs.declared.folder.Folder.{Folder}
-use Rattle.wal_outside.specs.declared.folder.Folder.TheVariants.{Words}
 use Rattle.formula_resolve.specs.FirstMentions.{has, is_same_file}
 use Rattle.formula_resolve.specs.declared.file.File.{File}
-use Rattle.formula_resolve.specs.declared.file.File.TheVariants.{Automaton, Word}
 use Rattle.dfa_loading.specs.declared.fault.LoadFault.{LoadFault}
 use Rattle.dfa_loading.specs.declared.fault.LoadFault.TheVariants as faults
 use Rattle.dfa_loading.specs.declared.loaded.Loaded.{Loaded}
-use Rattle.dfa_loading.specs.Loading.{IsListedBy, Refuses, IsReadAt, Fails, IsLoadedFile, AreListedBy, FirstRefuses, ReadsAt, FirstFails}
+use Rattle.dfa_loading.specs.Places.{IsListedBy, Refuses, IsReadAt, Fails, IsLoadedFile}
+use Rattle.dfa_loading.specs.Loading.{AreListedBy, FirstRefuses, ReadsAt, FirstFails}
 use Rattle.dfa_loading.proofs.ReadSteps.{nothing_refused}
 use Rattle.dfa_loading.proofs.PlaceSteps.{some_files}
 use Rattle.dfa_loading.proofs.FoundSteps.{at_file}
 
--- only what stands under its name counts
+-- only what stands at its place counts
 pub listed_moved : (found more : Files) (file : File) (table : Loaded) → at_file more file ≡ at_file found file → IsListedBy found file table → IsListedBy more file table
-listed_moved found more (Automaton name) table same listed = record { text = listed.text; there = same ∙ listed.there; short = listed.short; lists = listed.lists }
-listed_moved found more (Word name) table same listed = absurd listed
+listed_moved found more file table same listed = record { text = listed.text; there = same ∙ listed.there; short = listed.short; lists = listed.lists }
 
 pub fails_moved : (found more : Files) (file : File) (fault : LoadFault) → at_file more file ≡ at_file found file → Fails found file fault → Fails more file fault
-fails_moved found more (Automaton name) (faults.Unknown folder at) same fails = (fails.0, same ∙ fails.1)
-fails_moved found more (Automaton name) (faults.File folder at flaw) same fails = (fails.0, (fails.1.0, same ∙ fails.1.1, fails.1.2))
-fails_moved found more (Automaton name) (faults.Store folder at) same fails = fails
-fails_moved found more (Automaton name) faults.Memory same fails = tt
-fails_moved found more (Word name) (faults.Unknown folder at) same fails = fails
-fails_moved found more (Word name) (faults.File folder at flaw) same fails = fails
-fails_moved found more (Word name) (faults.Store folder at) same fails = fails
-fails_moved found more (Word name) faults.Memory same fails = tt
+fails_moved found more file (faults.Unknown folder at) same fails = (fails.0, same ∙ fails.1)
+fails_moved found more file (faults.File folder at flaw) same fails = (fails.0, (fails.1.0, same ∙ fails.1.1, fails.1.2))
+fails_moved found more file (faults.Store folder at) same fails = fails
+fails_moved found more file faults.Memory same fails = tt
 
 or_parts : (a b : Bool) → (a || b) ≡ false → (a ≡ false) × (b ≡ false)
 or_parts true b none = absurd (false≢true (sym none))
@@ -73,17 +67,6 @@ fails_first found named tables file rest (faults.Unknown folder at) are fails = 
 fails_first found named tables file rest (faults.File folder at flaw) are fails = refuses_first found named tables file rest (faults.File folder at flaw) are fails
 fails_first found named tables file rest (faults.Store folder at) are fails = reads_first found named tables file rest folder at are fails
 fails_first found named tables file rest faults.Memory are fails = tt
-
--- a word's name stands for nothing
-pub word_unknown : (file : File) (name copy : List ℕ) (store : StoreView) → file ≡ Word name → copy ≡ name → IsLoadedFile file store (Err (faults.Unknown Words copy)) store
-word_unknown file name copy store is same =
-    let some : (found : Files) × IfSome store.files (λ files. found ≡ files) = some_files store.files in
-    subst (λ (f : File). IsLoadedFile f store (Err (faults.Unknown Words copy)) store) (sym is) (record {
-      found = some.0;
-      told = some.1;
-      gives = ap (λ (n : List ℕ). faults.Unknown Words n) same;
-      has_read = nothing_refused store (faults.Unknown Words copy) refl;
-    })
 
 -- memory runs out before a file is read
 pub no_memory : (file : File) (store : StoreView) (result : Result Loaded LoadFault) → IsErrAnd result (λ e. e ≡ faults.Memory) → IsLoadedFile file store result store

@@ -8,15 +8,14 @@ use Rattle.wal_outside.specs.declared.folder.Folder.TheVariants.{Automata, Words
 use Rattle.formula_resolve.specs.FirstMentions.{is_same_file}
 use Rattle.formula_resolve.specs.declared.file.File.{File}
 use Rattle.formula_resolve.specs.declared.file.File.TheVariants.{Automaton, Word}
+use Rattle.dfa_loading.specs.Places.{place_of}
 
--- what stands under the name of a file
+-- what stands at the place of a file
 abbrev pub at_file : Files → File → Option (List ℕ)
-at_file files (Automaton name) = files Automata name
-at_file files (Word name) = files Words name
+at_file files file = files (place_of file).0 (place_of file).1
 
 abbrev is_under : File → Folder → List ℕ → Bool
-is_under (Automaton name) folder at = same_file folder at Automata name
-is_under (Word name) folder at = same_file folder at Words name
+is_under file folder at = same_file folder at (place_of file).0 (place_of file).1
 
 -- files with what stands in others under the name of one file
 abbrev with_file : Files → Files → File → Files

@@ -10,7 +10,8 @@ use Rattle.formula_resolve.specs.FirstMentions.{IsOnce}
 use Rattle.formula_resolve.specs.declared.file.File.{File}
 use Rattle.dfa_loading.specs.declared.fault.LoadFault.{LoadFault}
 use Rattle.dfa_loading.specs.declared.loaded.Loaded.{Loaded}
-use Rattle.dfa_loading.specs.Loading.{IsLoadedFile, IsLoaded, AreListedBy, FirstFails}
+use Rattle.dfa_loading.specs.Places.{IsLoadedFile}
+use Rattle.dfa_loading.specs.Loading.{IsLoaded, AreListedBy, FirstFails}
 use Rattle.dfa_loading.proofs.ReadSteps.{nothing_read, reads_both, reads_ok, reads_so}
 use Rattle.dfa_loading.proofs.PlaceSteps.{some_files}
 use Rattle.dfa_loading.proofs.FoundSteps.{IsMore, one_more_file}

@@ -1,4 +1,4 @@
--- A file of an automaton at a place, read.
+-- A file that a formula names, read at its place.
 use Rattle.std.specs.Prelude.{◌≡◌, ℕ, ◌<◌, ◌≤◌, List, length, None, Some, IfSome, Result, Ok, Err, MatchResult, ⊤}
 use Rattle.std.specs.Option.{option_map}
 use Rattle.wal_outside.specs.Causes.{Rose}
@@ -6,55 +6,70 @@ use Rattle.wal_outside.specs.Files.{Files}
 use Rattle.wal_outside.specs.Places.{Place}
 use Rattle.wal_outside.specs.Views.{StoreView}
 use Rattle.wal_outside.specs.declared.folder.Folder.{Folder}
+use Rattle.wal_outside.specs.declared.folder.Folder.TheVariants.{Automata, Words}
 use Rattle.wal_outside.specs.declared.store.TheConstants.{TEXT_LIMIT}
+use Rattle.dfa_reading.specs.Listed.{Listed}
 use Rattle.dfa_reading.specs.Reading.{relation_of}
+use Rattle.dfa_reading.specs.WordFiles.{word_of}
+use Rattle.formula_resolve.specs.declared.file.File.{File}
+use Rattle.formula_resolve.specs.declared.file.File.TheVariants.{Automaton, Word}
 use Rattle.dfa_loading.specs.declared.fault.FileFlaw.{FileFlaw}
 use Rattle.dfa_loading.specs.declared.fault.FileFlaw.TheVariants.{Line, TooLong}
 use Rattle.dfa_loading.specs.declared.fault.LoadFault.{LoadFault}
 use Rattle.dfa_loading.specs.declared.fault.LoadFault.TheVariants as faults
 use Rattle.dfa_loading.specs.declared.loaded.Loaded.{Loaded}
 
--- the text lists this table
-pub record ListsAs (name text : List ℕ) (table : Loaded) : Type 0 where
-  pub name_is : table.name ≡ name
-  pub lists : relation_of text ≡ Ok table.listed
+-- where a file stands: an automaton's among automata, a word's among words
+abbrev pub place_of : File → Place
+place_of (Automaton name) = (Automata, name)
+place_of (Word name) = (Words, name)
 
--- the text has this flaw: it is too long to be read, or breaks the format first at this line
-abbrev pub HasFlaw : List ℕ → FileFlaw → Type 0
-HasFlaw text (Line at) = (length text ≤ TEXT_LIMIT) × (relation_of text ≡ Err at)
-HasFlaw text TooLong = TEXT_LIMIT < length text
+-- what a text lists as a file of this kind, or the line of its first fault
+abbrev pub lists_of : File → List ℕ → Result Listed ℕ
+lists_of (Automaton name) text = relation_of text
+lists_of (Word name) text = word_of text
 
--- the place is under this name in this folder
-abbrev pub IsAt : Place → Folder → List ℕ → Type 0
-IsAt place folder name = (folder ≡ place.0) × (name ≡ place.1)
+-- the text, as that of the file, lists this
+pub record ListsAs (file : File) (text : List ℕ) (loaded : Loaded) : Type 0 where
+  pub file_is : loaded.file ≡ file
+  pub lists : lists_of file text ≡ Ok loaded.listed
 
--- a text that was read at a place lists no table, or memory ran out
-abbrev pub IsNotListed : Place → List ℕ → LoadFault → Type 0
-IsNotListed place text (faults.File folder name flaw) = IsAt place folder name × HasFlaw text flaw
-IsNotListed place text faults.Memory = ⊤
-IsNotListed place text (faults.Unknown folder name) = ⊥
-IsNotListed place text (faults.Store folder name) = ⊥
+-- the text, as that of the file, has this flaw: it is too long to be read, or breaks the format first at this line
+abbrev pub HasFlaw : File → List ℕ → FileFlaw → Type 0
+HasFlaw file text (Line at) = (length text ≤ TEXT_LIMIT) × (lists_of file text ≡ Err at)
+HasFlaw file text TooLong = TEXT_LIMIT < length text
 
--- the text at the place is short enough, and lists this table
-pub record IsListedAt (files : Files) (place : Place) (table : Loaded) : Type 0 where
+-- the file is read under this name in this folder
+abbrev pub IsReadAt : File → Folder → List ℕ → Type 0
+IsReadAt file folder name = (folder ≡ (place_of file).0) × (name ≡ (place_of file).1)
+
+-- the text of the file was read and breaks its format, or memory ran out
+abbrev pub IsNotListed : File → List ℕ → LoadFault → Type 0
+IsNotListed file text (faults.File folder name flaw) = IsReadAt file folder name × HasFlaw file text flaw
+IsNotListed file text faults.Memory = ⊤
+IsNotListed file text (faults.Unknown folder name) = ⊥
+IsNotListed file text (faults.Store folder name) = ⊥
+
+-- the text of the file is short enough, and lists this
+pub record IsListedBy (files : Files) (file : File) (loaded : Loaded) : Type 0 where
   pub text : List ℕ
-  pub there : files place.0 place.1 ≡ Some text
+  pub there : files (place_of file).0 (place_of file).1 ≡ Some text
   pub short : length text ≤ TEXT_LIMIT
-  pub lists : ListsAs place.1 text table
+  pub lists : ListsAs file text loaded
 
--- nothing stands at the place, or a text with a flaw
-abbrev pub RefusesAt : Files → Place → LoadFault → Type 0
-RefusesAt files place (faults.Unknown folder name) = IsAt place folder name × (files place.0 place.1 ≡ None)
-RefusesAt files place (faults.File folder name flaw) = IsAt place folder name × ((text : List ℕ) × (files place.0 place.1 ≡ Some text) × HasFlaw text flaw)
-RefusesAt files place (faults.Store folder name) = ⊥
-RefusesAt files place faults.Memory = ⊥
+-- nothing stands at the file's place, or a text with a flaw
+abbrev pub Refuses : Files → File → LoadFault → Type 0
+Refuses files file (faults.Unknown folder name) = IsReadAt file folder name × (files (place_of file).0 (place_of file).1 ≡ None)
+Refuses files file (faults.File folder name flaw) = IsReadAt file folder name × ((text : List ℕ) × (files (place_of file).0 (place_of file).1 ≡ Some text) × HasFlaw file text flaw)
+Refuses files file (faults.Store folder name) = ⊥
+Refuses files file faults.Memory = ⊥
 
--- why the place gives no table: by what stands there, or because the store failed, or for want of memory
-abbrev pub FailsAt : Files → Place → LoadFault → Type 0
-FailsAt files place (faults.Unknown folder name) = RefusesAt files place (faults.Unknown folder name)
-FailsAt files place (faults.File folder name flaw) = RefusesAt files place (faults.File folder name flaw)
-FailsAt files place (faults.Store folder name) = IsAt place folder name
-FailsAt files place faults.Memory = ⊤
+-- why the file is not loaded: by what stands there, or because the store failed, or for want of memory
+abbrev pub Fails : Files → File → LoadFault → Type 0
+Fails files file (faults.Unknown folder name) = Refuses files file (faults.Unknown folder name)
+Fails files file (faults.File folder name flaw) = Refuses files file (faults.File folder name flaw)
+Fails files file (faults.Store folder name) = IsReadAt file folder name
+Fails files file faults.Memory = ⊤
 
 -- the count of faults rose, and the last call that failed is the one at this place; or no call failed
 abbrev pub IsCausedBy : LoadFault → StoreView → StoreView → Type 0
@@ -73,9 +88,9 @@ pub record HasRead {X : Type 0} (old : StoreView) (result : Result X LoadFault) 
 abbrev pub AreTold : StoreView → Files → Type 0
 AreTold store found = IfSome store.files (λ files. found ≡ files)
 
--- what a place gives, by some files; where the store tells its files by these
-pub record IsLoadedAt (place : Place) (old : StoreView) (result : Result Loaded LoadFault) (new : StoreView) : Type 0 where
+-- the file was loaded, or not, by some files, which are the store's where it tells them
+pub record IsLoadedFile (file : File) (old : StoreView) (result : Result Loaded LoadFault) (new : StoreView) : Type 0 where
   pub found : Files
   pub told : AreTold old found
-  pub gives : MatchResult result (IsListedAt found place) (FailsAt found place)
+  pub gives : MatchResult result (IsListedBy found file) (Fails found file)
   pub has_read : HasRead old result new

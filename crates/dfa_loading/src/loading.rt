@@ -1,19 +1,22 @@
 //! The files of a formula, one after another.
 
 ghost use Rattle.formula_resolve.specs.FirstMentions.{IsOnce};
-ghost use Rattle.dfa_loading.specs.Loading.{IsLoaded, IsLoadedFile};
+ghost use Rattle.dfa_loading.specs.Loading.{IsLoaded};
+ghost use Rattle.dfa_loading.specs.Places.{IsLoadedFile};
 
 use crate::fault::LoadFault;
 use crate::loaded::Loaded;
-use crate::reading::load_at;
+use crate::place::copied;
+use crate::reading::read_file;
 use formula_resolve::File;
 use std::alloc::Global;
-use wal_outside::{Folder, Store};
+use wal_outside::Store;
 
-/// The table of each of these files, in their order, each read once. What is not read is let go.
+/// What each of these files lists, in their order, each read once: an automaton's as a relation's file, a word's as a word's
+/// file. What is not read is let go.
 ///
 /// # Errors
-/// The fault of the first file that lists no table: `Unknown` where nothing stands under its name, or where it is a word's;
+/// The fault of the first file that is not loaded: `Unknown` where nothing stands under its name in the folder of its kind;
 /// `File` where the text is too long or breaks the format; `Store` where the store failed; or `Memory`. No text is changed.
 pub fn load<T: Store>(
     alloc: Global,
@@ -31,12 +34,10 @@ pub fn load<T: Store>(
     Ok(tables)
 }
 
-/// The table of a file. A word's name stands for nothing yet.
+/// What a file lists.
 fn load_file<T: Store>(alloc: Global, file: &File, store: &mut T) -> Result<Loaded, LoadFault>
     ensures { IsLoadedFile file.now (T.view store.old) result (T.view store.new) }
 {
-    match file {
-        File::Automaton(name) => load_at(alloc, Folder::Automata, name.copy(alloc)?, store),
-        File::Word(name) => Err(LoadFault::Unknown(Folder::Words, name.copy(alloc)?)),
-    }
+    let copy = copied(alloc, file)?;
+    read_file(alloc, copy, store)
 }

@@ -1,46 +1,66 @@
 //! One file, read.
 
-ghost use Rattle.std.specs.Prelude.{◌≤◌, length, MatchResult};
+ghost use Rattle.std.specs.Prelude.{◌<◌, ◌≤◌, ◌^◌, length, MatchResult};
 ghost use Rattle.wal_outside.specs.declared.store.TheConstants.{TEXT_LIMIT};
-ghost use Rattle.dfa_loading.specs.Places.{IsLoadedAt, ListsAs, IsNotListed};
+ghost use Rattle.dfa_reading.specs.DraftViews.{Gives};
+ghost use Rattle.dfa_loading.specs.Places.{IsLoadedFile, ListsAs, IsNotListed, lists_of};
 
 use crate::fault::{FileFlaw, LoadFault};
 use crate::loaded::Loaded;
-use dfa_reading::{FileFault, read_relation};
-use digit_tuple::name::Name;
+use crate::place::{folder_of, into_name, name_of};
+use dfa_reading::{FileFault, Listed, read_relation, read_word};
+use formula_resolve::File;
 use std::alloc::Global;
-use wal_outside::{Folder, Found, Store};
+use wal_outside::{Found, Store};
 
-/// The table that the text of this name in a folder lists. The time is in proportion to the bytes.
+/// What the text of a file lists. The time is that of reading the bytes: for an automaton in proportion to them.
 ///
 /// # Errors
-/// `Unknown`, `File` or `Store` with this place, or `Memory`. No text is changed.
-pub(crate) fn load_at<T: Store>(
+/// `Unknown`, `File` or `Store` with the file's place, or `Memory`. No text is changed.
+pub(crate) fn read_file<T: Store>(
     alloc: Global,
-    folder: Folder,
-    name: Name,
+    file: File,
     store: &mut T,
 ) -> Result<Loaded, LoadFault>
-    ensures { IsLoadedAt (folder, name) (T.view store.old) result (T.view store.new) }
+    ensures { IsLoadedFile file (T.view store.old) result (T.view store.new) }
 {
+    let folder = folder_of(&file);
     let mut text = Vec::new(alloc);
-    match store.read(folder, name.as_str(), &mut text) {
-        Found::Found => listed_in(alloc, folder, name, &text),
-        Found::Absent => Err(LoadFault::Unknown(folder, name)),
-        Found::TooLong => Err(LoadFault::File(folder, name, FileFlaw::TooLong)),
-        Found::Failed => Err(LoadFault::Store(folder, name)),
+    match store.read(folder, name_of(&file).as_str(), &mut text) {
+        Found::Found => listed_in(alloc, file, &text),
+        Found::Absent => Err(LoadFault::Unknown(folder, into_name(file))),
+        Found::TooLong => {
+            let name = into_name(file);
+            Err(LoadFault::File(folder, name, FileFlaw::TooLong))
+        }
+        Found::Failed => Err(LoadFault::Store(folder, into_name(file))),
         Found::Memory => Err(LoadFault::Memory),
     }
 }
 
-/// The table that a text lists, under the name of its file.
-fn listed_in(alloc: Global, folder: Folder, name: Name, text: &[u8]) -> Result<Loaded, LoadFault>
+/// What a text lists, beside its file.
+fn listed_in(alloc: Global, file: File, text: &[u8]) -> Result<Loaded, LoadFault>
     requires { length text.now ≤ TEXT_LIMIT }
-    ensures { MatchResult result (ListsAs name text.now) (IsNotListed (folder, name) text.now) }
+    ensures { MatchResult result (ListsAs file text.now) (IsNotListed file text.now) }
 {
-    match read_relation(alloc, text) {
-        Ok(listed) => Ok(Loaded { name, listed }),
-        Err(FileFault::File(line)) => Err(LoadFault::File(folder, name, FileFlaw::Line(line))),
+    match lists(alloc, &file, text) {
+        Ok(listed) => Ok(Loaded { file, listed }),
+        Err(FileFault::File(line)) => {
+            let folder = folder_of(&file);
+            let name = into_name(file);
+            Err(LoadFault::File(folder, name, FileFlaw::Line(line)))
+        }
         Err(FileFault::Memory) => Err(LoadFault::Memory),
+    }
+}
+
+/// What a text lists as a file of this kind.
+fn lists(alloc: Global, file: &File, text: &[u8]) -> Result<Listed, FileFault>
+    requires { length text.now < 2 ^ 63 }
+    ensures { Gives (λ listed. listed) result (lists_of file.now text.now) }
+{
+    match file {
+        File::Automaton(_) => read_relation(alloc, text),
+        File::Word(_) => read_word(alloc, text),
     }
 }

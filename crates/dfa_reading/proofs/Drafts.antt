@@ -112,11 +112,11 @@ line_read-kept at draft next line h is = by (is_passed line) h
     by false e = to_kept at draft next line draft.header refl e is
 
 -- what a file lists
-then_ok : {A B : Type 0} (r : Result A ℕ) (f : A → Result B ℕ) (y : B) → then_read r f ≡ Ok y → (x : A) × (r ≡ Ok x) × (f x ≡ Ok y)
+pub then_ok : {A B : Type 0} (r : Result A ℕ) (f : A → Result B ℕ) (y : B) → then_read r f ≡ Ok y → (x : A) × (r ≡ Ok x) × (f x ≡ Ok y)
 then_ok (Ok x) f y h = (x, refl, h)
 then_ok (Err at) f y h = absurd (cc)
 
-ok_some : {A : Type 0} (o : Option A) (at : ℕ) (x : A) → ok_or o at ≡ Ok x → o ≡ Some x
+pub ok_some : {A : Type 0} (o : Option A) (at : ℕ) (x : A) → ok_or o at ≡ Ok x → o ≡ Some x
 ok_some None at x h = absurd (cc)
 ok_some (Some y) at x h = let same : y ≡ x = cc in ap Some same
 

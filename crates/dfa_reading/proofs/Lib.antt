@@ -11,3 +11,10 @@ pub mod ReadDrafts
 pub mod Letters
 pub mod Rows
 pub mod Words
+pub mod ConflictLemmas
+pub mod ReadWords
+pub mod TableRows
+pub mod StarTableLemmas
+pub mod TransitionLemmas
+pub mod WordLines
+pub mod WordSteps

@@ -1,5 +1,5 @@
 -- Lines of a file, as the loop over them reads them.
-use Rattle.std.proofs.Common.{◌≡◌, ℕ, ◌+◌, ◌<◌, List, [], ◌∷◌, ◌++◌, length, drop, get_or, None, Some, Result, Ok, Err, refl, sym, ap, ◌∙◌, arith, append_assoc}
+use Rattle.std.proofs.Common.{◌≡◌, ℕ, ◌+◌, ◌<◌, List, [], ◌∷◌, ◌++◌, length, drop, get_or, Option, None, Some, Result, Ok, Err, refl, sym, ap, ◌∙◌, arith, append_assoc}
 use Rattle.std.specs.Prelude.{ok_or}
 use Rattle.std.proofs.lemmas.List.{drop_more, drop_all, append-nil}
 use Rattle.text_grammar.specs.Bytes.{is_line_end}
@@ -7,19 +7,22 @@ use Rattle.dfa_reading.specs.Listed.{ListedLine}
 use Rattle.dfa_reading.specs.declared.draft.DraftLine.{DraftLine}
 use Rattle.dfa_reading.specs.DraftViews.{draft_line_view, draft_lines_in}
 use Rattle.dfa_reading.specs.Lines.{lines_of, line_after}
-use Rattle.dfa_reading.specs.Reading.{Draft, add_line, add_lines, then_read, placed_line, placed_lines}
+use Rattle.dfa_reading.specs.Reading.{Draft, add_line, add_lines_by, add_lines, then_read, placed_line, placed_lines}
 use Rattle.dfa_reading.proofs.Splits.{split_some}
 
+pub add_lines_by-step : (add : ℕ → Draft → List ℕ → Option Draft) (at : ℕ) (d next : Draft) (line : List ℕ) (lines : List (List ℕ)) → add at d line ≡ Some next → add_lines_by add at d (line ∷ lines) ≡ add_lines_by add (at + 1) next lines
+add_lines_by-step add at d next line lines h = ap (λ r. then_read (ok_or r at) (λ n. add_lines_by add (at + 1) n lines)) h
+
 pub add_lines-step : (at : ℕ) (d next : Draft) (line : List ℕ) (lines : List (List ℕ)) → add_line at d line ≡ Some next → add_lines at d (line ∷ lines) ≡ add_lines (at + 1) next lines
-add_lines-step at d next line lines h = ap (λ r. then_read (ok_or r at) (λ n. add_lines (at + 1) n lines)) h
+add_lines-step at d next line lines h = add_lines_by-step add_line at d next line lines h
 
 -- one line more
 line_after-more : (line : List ℕ) (lines : List (List ℕ)) → 0 < length lines → line_after (line ∷ lines) ≡ line_after lines + 1
 line_after-more line [] h = absurd (omega arith)
 line_after-more line (next ∷ lines) h = refl
 
-pub read_line : (at : ℕ) (draft next : Draft) (rest line behind : List ℕ) (total : Result Draft ℕ) → lines_of rest ≡ line ∷ lines_of behind → add_line at draft line ≡ Some next → add_lines at draft (lines_of rest) ≡ total → add_lines (at + 1) next (lines_of behind) ≡ total
-read_line at draft next rest line behind total lines added h = sym (add_lines-step at draft next line (lines_of behind) added) ∙ ap (add_lines at draft) (sym lines) ∙ h
+pub read_line : (add : ℕ → Draft → List ℕ → Option Draft) (at : ℕ) (draft next : Draft) (rest line behind : List ℕ) (total : Result Draft ℕ) → lines_of rest ≡ line ∷ lines_of behind → add at draft line ≡ Some next → add_lines_by add at draft (lines_of rest) ≡ total → add_lines_by add (at + 1) next (lines_of behind) ≡ total
+read_line add at draft next rest line behind total lines added h = sym (add_lines_by-step add at draft next line (lines_of behind) added) ∙ ap (add_lines_by add at draft) (sym lines) ∙ h
 
 pub count_line : (at total : ℕ) (rest line behind : List ℕ) → lines_of rest ≡ line ∷ lines_of behind → at + line_after (lines_of rest) ≡ total → at + 1 + line_after (lines_of behind) ≡ total
 count_line at total rest line behind lines h =

@@ -186,14 +186,14 @@ module _ (sizes : List ℕ) (listed : Listed) (rows : List Branch) (are : AreRow
   listed_edge : (q : ℕ) (e : Edge) → IsEdgeOf sizes listed.lines q e → Contains (branch_at rows q).edges e
   listed_edge q e of = ((are.ordered.same q).edges e).1 (edge_stays sizes (map bare_row listed.outputs) listed.lines q e inside (inr of))
 
-  edge_moves : (p letter q : ℕ) → Contains (branch_at rows p).edges (edge_to q letter) → (tuple : List ℕ) × Moves sizes listed p tuple q × (letter ≡ code_of sizes tuple)
+  pub edge_moves : (p letter q : ℕ) → Contains (branch_at rows p).edges (edge_to q letter) → (tuple : List ℕ) × Moves sizes listed p tuple q × (letter ≡ code_of sizes tuple)
   edge_moves p letter q there =
       let of = edge_listed p (edge_to q letter) there in
       let ends = edge_from sizes of.line (edge_to q letter) of.edge_is in
       let (tuple, takes, code) = tuple_of_letter sizes of.line.digits letter ends.0 in
       (tuple, (of.line, of.among, of.from, takes, ends.1), code)
 
-  moves_edge : (p letter q : ℕ) (tuple : List ℕ) → Moves sizes listed p tuple q → letter ≡ code_of sizes tuple → Contains (branch_at rows p).edges (edge_to q letter)
+  pub moves_edge : (p letter q : ℕ) (tuple : List ℕ) → Moves sizes listed p tuple q → letter ≡ code_of sizes tuple → Contains (branch_at rows p).edges (edge_to q letter)
   moves_edge p letter q tuple (line, among, from, takes, to) code =
       listed_edge p (edge_to q letter) (record {
         line = line;

@@ -1,8 +1,9 @@
 -- The rows of listed states, as they are built.
-use Rattle.std.specs.Prelude.{◌≡◌, ℕ, ◌<◌, ◌^◌, not, ℤ, pos, List, [], ◌∷◌, ◌++◌, map, length, slice_set}
+use Rattle.std.specs.Prelude.{◌≡◌, ℕ, ◌<◌, ◌^◌, true, not, ℤ, pos, List, [], ◌∷◌, ◌++◌, map, length, slice_set}
 use Rattle.std.specs.List.{All, AllPairs}
 use Rattle.std.specs.Ordering.{int_eq}
 use Rattle.digit_tuple.specs.Automaton.{Branch, IsBefore}
+use Rattle.digit_tuple.specs.Deterministic.{State}
 use Rattle.digit_tuple.specs.Reversed.{branch_at, SameBranch}
 use Rattle.digit_tuple.specs.declared.edges.Edge.{Edge}
 use Rattle.dfa_reading.specs.Listed.{ListedLine, Listed, IsListedLine}
@@ -36,3 +37,10 @@ pub record AreRowsOf (sizes : List ℕ) (listed : Listed) (rows : List Branch) :
   pub ordered : AreInOrder (rows_after sizes (map bare_row listed.outputs) listed.lines) rows (length rows)
   pub small : length listed.outputs < 2 ^ 32
   pub lines : All (IsListedLine (length sizes) (length listed.outputs)) listed.lines
+
+-- the state with the edges of a row, which accepts
+abbrev pub state_of_row : Branch → State
+state_of_row row = record { accepting = true; edges = row.edges }
+
+abbrev pub states_of_rows : List Branch → List State
+states_of_rows rows = map state_of_row rows

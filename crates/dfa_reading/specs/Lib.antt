@@ -13,3 +13,9 @@ pub mod DraftViews
 pub mod LineLetters
 pub mod Branching
 pub mod BranchRows
+pub mod Conflicts
+pub mod WordFiles
+pub mod ListedTable
+pub mod StarTables
+pub mod Transitions
+pub mod WordDrafts

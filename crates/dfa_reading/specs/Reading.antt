@@ -54,10 +54,13 @@ abbrev pub then_read : {A B : Type 0} → Result A ℕ → (A → Result B ℕ) 
 then_read (Ok x) f = f x
 then_read (Err at) f = Err at
 
--- the lines from a number on, or the number of the first that breaks the format
+-- the lines from a number on, each added in this way, or the number of the first that breaks the format
+abbrev pub add_lines_by : (ℕ → Draft → List ℕ → Option Draft) → ℕ → Draft → List (List ℕ) → Result Draft ℕ
+add_lines_by add at draft [] = Ok draft
+add_lines_by add at draft (line ∷ lines) = then_read (ok_or (add at draft line) at) (λ next. add_lines_by add (at + 1) next lines)
+
 abbrev pub add_lines : ℕ → Draft → List (List ℕ) → Result Draft ℕ
-add_lines at draft [] = Ok draft
-add_lines at draft (line ∷ lines) = then_read (ok_or (add_line at draft line) at) (λ next. add_lines (at + 1) next lines)
+add_lines at draft lines = add_lines_by add_line at draft lines
 
 -- the place of the state with a number
 abbrev pub state_at : List ℕ → ℕ → Option ℕ

@@ -1,9 +1,28 @@
 //! Laws of the definitions, each a call that does nothing.
 
 ghost use Rattle.dfa_reading.specs.Branching.{BranchingAcceptsListed};
+ghost use Rattle.dfa_reading.specs.Conflicts.{SharedTuplesAreTaken};
+ghost use Rattle.dfa_reading.specs.WordFiles.{WordFilesListWords};
+ghost use Rattle.dfa_reading.specs.ListedTable.{TableMovesAlong};
 
 /// The branching automaton of what a file lists accepts the word of the letters of some tuples exactly where the file accepts the
 /// word of tuples.
 pub fn branching_accepts_listed()
     ensures { BranchingAcceptsListed }
+{}
+
+/// Two lists of digits, of which any may be `*`, share a tuple exactly where there is a tuple that both take.
+pub fn shared_tuples_are_taken()
+    ensures { SharedTuplesAreTaken }
+{}
+
+/// What a word's file lists has tracks of systems, at least one, and leads from a state by a tuple to one state at most.
+pub fn word_files_list_words()
+    ensures { WordFilesListWords }
+{}
+
+/// The deterministic automaton of a list leads by the word of the letters of some tuples as the listed transitions lead by the
+/// tuples.
+pub fn table_moves_along()
+    ensures { TableMovesAlong }
 {}

@@ -17,20 +17,30 @@ mod read_header;
 mod read_entries;
 // what a file lists
 mod listed;
+// targets of transitions, by their digits but for stars
+mod star_table;
+// the transitions of one state
+mod transitions;
 // what was read of a file so far
 mod draft;
+// what was read of a word's file so far
+mod word_draft;
 // a file, read
 mod reading;
 // the letters by which a line leads
 mod line_letters;
 // the branching automaton of what a file lists
 mod branching;
+// the deterministic automaton of a functional list
+mod listed_table;
 // laws of the definitions
 mod laws;
 
 pub use fault::FileFault;
 pub use header::FileHeader;
-pub use laws::branching_accepts_listed;
+pub use laws::{
+    branching_accepts_listed, shared_tuples_are_taken, table_moves_along, word_files_list_words,
+};
 pub use listed::{Listed, ListedLine};
-pub use reading::read_relation;
+pub use reading::{read_relation, read_word};
 pub use system_name::SystemName;

@@ -2,12 +2,14 @@
 
 ghost use Rattle.std.specs.Prelude.{◌<◌, ◌^◌, length};
 ghost use Rattle.dfa_reading.specs.Reading.{relation_of};
+ghost use Rattle.dfa_reading.specs.WordFiles.{word_of};
 ghost use Rattle.dfa_reading.specs.DraftViews.{Gives};
 
 use crate::draft::Draft;
 use crate::fault::FileFault;
 use crate::listed::Listed;
 use crate::read_lines::cut_at;
+use crate::word_draft::WordDraft;
 use std::alloc::Global;
 
 /// What a relation's file lists.
@@ -22,6 +24,37 @@ pub fn read_relation(alloc: Global, text: &[u8]) -> Result<Listed, FileFault>
     ensures { Gives (λ listed. listed) result (relation_of text.now) }
 {
     let mut draft = Draft::new(alloc);
+    let mut rest = text;
+    let mut at: u64 = 1;
+    'lines: loop {
+        let (line, others) = cut_at(b'\n', rest);
+        if !draft.add_line(alloc, at, line)? {
+            return Err(FileFault::File(at));
+        }
+        let Some(next) = others else {
+            let after = if line.is_empty() { at } else { at + 1 };
+            return draft.finish(alloc, after);
+        };
+        rest = next;
+        at += 1;
+    }
+}
+
+/// What the file of an automatic word lists: the output of a state is its letter. The tracks are of systems, and from a state a
+/// tuple leads to one state at most. Each line of transitions takes two look-ups by hash for each set of tracks on which lines of
+/// its state have `*`, so the time is in proportion to the bytes and the number of these sets, which is 1 where there is no `*`.
+///
+/// # Errors
+/// `File` names the line of the first fault, counted from one: the first line that breaks the format, and where there is none,
+/// that of the first transition with a target that is no state; a file that ends too early has the line after its last. A line of
+/// transitions by which, with those before it, a tuple leads from its state to two states breaks the format, be its digits below
+/// the number of the system's digits or not. Out of memory gives nothing. No slice of bytes is as long as the condition forbids.
+#[tactic(auto, unfolding(crate::specs::WordFiles::word_of))]
+pub fn read_word(alloc: Global, text: &[u8]) -> Result<Listed, FileFault>
+    requires { length text.now < 2 ^ 63 }
+    ensures { Gives (λ listed. listed) result (word_of text.now) }
+{
+    let mut draft = WordDraft::new(alloc);
     let mut rest = text;
     let mut at: u64 = 1;
     'lines: loop {

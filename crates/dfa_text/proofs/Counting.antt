@@ -23,6 +23,12 @@ lines_more f out before after n h step =
     step ∙ ap (λ t. t ++ text_of_lines (f n)) h ∙ append_assoc out (text_of_lines (flat_map f (range_with_len 0 n))) (text_of_lines (f n))
     ∙ ap (λ t. out ++ t) (sym (text_of_lines-append (flat_map f (range_with_len 0 n)) (f n)) ∙ ap text_of_lines (sym (flat_map-numbers_more f n)))
 
+-- a blank line and a state's line, and then the lines of its letters
+pub state_more : (before between after line : List ℕ) (steps : List (List ℕ)) → between ≡ before ++ text_of_lines ([] ∷ line ∷ []) → after ≡ between ++ text_of_lines steps → after ≡ before ++ text_of_lines ([] ∷ line ∷ steps)
+state_more before between after line steps h k =
+    k ∙ ap (λ t. t ++ text_of_lines steps) h ∙ append_assoc before (text_of_lines ([] ∷ line ∷ [])) (text_of_lines steps)
+    ∙ ap (λ t. before ++ t) (sym (text_of_lines-append ([] ∷ line ∷ []) steps))
+
 -- what holds of each number holds of all in the list
 pub each_number : (P : ℕ → Type 0) (a n : ℕ) → ((i : ℕ) → a ≤ i → i < a + n → P i) → AllByRecursion P (range_with_len a n)
 each_number P a zero h = tt

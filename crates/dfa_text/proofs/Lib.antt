@@ -13,5 +13,7 @@ pub mod PrintedDrafts
 pub mod PrintedNames
 pub mod ListedParts
 pub mod PrintedRelations
+pub mod PrintedWords
+pub mod ListedPaths
 pub mod RelationPaths
 pub mod RelationTexts

@@ -1,12 +1,11 @@
 -- Printed lines of states and of tuples, read again.
-use Rattle.std.proofs.Common.{◌≡◌, ℕ, ◌^◌, ◌<◌, Bool, true, false, eqb, List, [], ◌∷◌, ◌++◌, map, ℤ, refl, ap, ◌∙◌, arith, append_assoc, codes, decimal}
+use Rattle.std.proofs.Common.{◌≡◌, ℕ, ◌^◌, ◌<◌, Bool, false, eqb, List, [], ◌∷◌, ◌++◌, map, ℤ, refl, ap, ◌∙◌, arith, append_assoc, codes, decimal}
 use Rattle.std.specs.Fmt.{signed_decimal}
-use Rattle.std.specs.Prelude.{if◌then◌else◌}
 use Rattle.std.specs.List.{AllByRecursion, flat_map, join_by}
 use Rattle.std.proofs.lemmas.List.{append-nil}
 use mir.Val.{SFits}
 use mir.Syntax.{w32}
-use Rattle.text_grammar.specs.Bytes.{is_blank, is_line_end}
+use Rattle.text_grammar.specs.Bytes.{is_line_end}
 use Rattle.dfa_reading.specs.Lines.{parts_of, is_passed}
 use Rattle.dfa_reading.specs.Entries.{is_star}
 use Rattle.dfa_text.specs.Parts.{state_text}
@@ -21,15 +20,16 @@ pub fits_wide : (n : ℕ) → n < 2 ^ 32 → n < 2 ^ 64
 fits_wide n h = omega arith
 
 -- the line of a state
-pub parts_of-state : (q b : ℕ) → q < 2 ^ 32 → is_blank b ≡ false → parts_of (decimal q ++ 32 ∷ b ∷ []) ≡ decimal q ∷ (b ∷ []) ∷ []
-parts_of-state q b h k = parts_of-append (decimal q) 32 (b ∷ []) refl ∙ ap (λ t. t ++ parts_of (b ∷ [])) (parts_of-one (decimal q) (part_decimal q (fits_wide q h))) ∙ ap (λ t. decimal q ∷ t) (parts_of-one (b ∷ []) (record { some = omega arith; whole = (k, tt) }))
+pub parts_of-state : (q : ℕ) (z : ℤ) → q < 2 ^ 32 → SFits w32 z → parts_of (state_text q z) ≡ decimal q ∷ signed_decimal z ∷ []
+parts_of-state q z h f =
+    parts_of-append (decimal q) 32 (signed_decimal z) refl ∙ ap (λ t. t ++ parts_of (signed_decimal z)) (parts_of-one (decimal q) (part_decimal q (fits_wide q h)))
+    ∙ ap (λ t. decimal q ∷ t) (parts_of-one (signed_decimal z) (part_signed z f))
 
-pub state_stands : (q : ℕ) (accepting : Bool) → q < 2 ^ 32 → is_passed (state_text q accepting) ≡ false
-state_stands q accepting h = not_passed_part (decimal q) (if accepting then codes " 1" else codes " 0") (part_decimal q (fits_wide q h)) (avoids_decimal (λ c. eqb c 35) (spares_byte 35 refl refl) q (fits_wide q h))
+pub state_stands : (q : ℕ) (z : ℤ) → q < 2 ^ 32 → is_passed (state_text q z) ≡ false
+state_stands q z h = not_passed_part (decimal q) (codes " " ++ signed_decimal z) (part_decimal q (fits_wide q h)) (avoids_decimal (λ c. eqb c 35) (spares_byte 35 refl refl) q (fits_wide q h))
 
-pub state_avoids : (q : ℕ) (accepting : Bool) → q < 2 ^ 32 → Avoids is_line_end (state_text q accepting)
-state_avoids q true h = Avoids-append is_line_end (decimal q) (codes " 1") (avoids_decimal is_line_end (spares_byte 10 refl refl) q (fits_wide q h)) (refl, (refl, tt))
-state_avoids q false h = Avoids-append is_line_end (decimal q) (codes " 0") (avoids_decimal is_line_end (spares_byte 10 refl refl) q (fits_wide q h)) (refl, (refl, tt))
+pub state_avoids : (p : ℕ → Bool) → Spares p → p 32 ≡ false → (q : ℕ) (z : ℤ) → q < 2 ^ 32 → SFits w32 z → Avoids p (state_text q z)
+state_avoids p s blank q z h f = Avoids-append p (decimal q) (codes " " ++ signed_decimal z) (avoids_decimal p s q (fits_wide q h)) (blank, avoids_signed p s z f)
 
 pub no_star : (bytes : List ℕ) → Avoids (λ b. eqb b 42) bytes → is_star bytes ≡ false
 no_star [] h = refl

@@ -1,15 +1,17 @@
 -- The text of an automaton, read again: it lists the automaton.
-use Rattle.std.proofs.Common.{◌≡◌, ℕ, zero, suc, ◌+◌, ◌/◌, ◌%◌, ◌*◌, ◌^◌, ◌<◌, ◌≤◌, true, false, ◌&&◌, cond, eqb, ltb, codes, decimal, List, [], ◌∷◌, ◌++◌, map, length, get_or, ℤ, Option, None, Some, Ok, Err, append-nil, refl, sym, ap, ◌∙◌, subst, arith}
+use Rattle.std.proofs.Common.{◌≡◌, ℕ, zero, suc, ◌+◌, ◌/◌, ◌%◌, ◌*◌, ◌^◌, ◌<◌, ◌≤◌, Bool, true, false, ◌&&◌, cond, eqb, ltb, codes, decimal, List, [], ◌∷◌, ◌++◌, map, length, take, get_or, ℤ, pos, Option, None, Some, Ok, Err, append-nil, refl, sym, ap, ◌∙◌, subst, arith}
 use Rattle.std.specs.Fmt.{signed_decimal}
 use Rattle.std.specs.List.{AllByRecursion, AllZip, slice_split, flat_map, join_by, range_with_len, position_or_len}
 use Rattle.std.specs.Option.{IfSome}
 use Rattle.std.proofs.lemmas.Bool.{eq-eqb, ne_eqb}
 use Rattle.std.proofs.lemmas.Bool.Decides.{nat_tests}
 use Rattle.std.proofs.lemmas.Nat.{div_below, mod_below, div-add-mod'}
-use Rattle.std.proofs.lemmas.List.{map-append}
+use Rattle.std.proofs.lemmas.List.{take_more, take_all, length-take-le}
 use Rattle.std.proofs.lemmas.List.Elements.{recursion_from_All}
-use Rattle.std.proofs.lemmas.List.FromFn.{length-range_with_len, get_or-range_with_len, length-map-range_with_len}
+use Rattle.std.proofs.lemmas.List.FromFn.{length-range_with_len, get_or-range_with_len, length-map-range_with_len, get_or-map-range_with_len}
 use Rattle.std.proofs.lemmas.List.Sums.{position_or_len_is}
+use mir.Val.{SFits}
+use mir.Syntax.{w32}
 use Rattle.text_grammar.specs.Bytes.{is_line_end}
 use Rattle.digit_tuple.specs.Deterministic.{Automaton, letters_of, states_of, edges_of, accepting_of, step_of}
 use Rattle.digit_tuple.specs.Headers.{sets_of}
@@ -31,8 +33,8 @@ use Rattle.dfa_reading.specs.Reading.{no_draft, add_line, then_read, add_lines, 
 use Rattle.dfa_reading.proofs.ReadDrafts.{add_lines-step}
 use Rattle.dfa_text.specs.Meaning.{IsTrackSet}
 use Rattle.dfa_text.specs.Parts.{state_text, text_of_lines}
-use Rattle.dfa_text.specs.RelationText.{header_line, tuple_of, step_line, step_lines, steps_lines, state_lines, relation_text}
-use Rattle.dfa_text.specs.Lists.{names_of, header_listed, digits_of_letter, output_listed, step_listed, steps_listed, automaton_listed, IsSystemTrack, IsFileHeader, IsAutomatonUnder, TextListsAutomaton}
+use Rattle.dfa_text.specs.RelationText.{header_line, tuple_of, step_line, step_lines, steps_lines, state_lines, word_text, output_listed, outputs_of, relation_text}
+use Rattle.dfa_text.specs.Lists.{names_of, header_listed, digits_of_letter, step_listed, steps_listed, word_listed, IsSystemTrack, IsFileHeader, IsAutomatonUnder, TextListsAutomaton}
 use Rattle.dfa_text.proofs.Counting.{numbers_more}
 use Rattle.dfa_text.proofs.ListedParts.{printable}
 use Rattle.dfa_text.proofs.PrintedDrafts.{draft, lines_in, passed_line, header_line-added, entry_line, HasRead, read_more, read_none, read_entry, new_number}
@@ -58,26 +60,36 @@ pub all_numbers : {X : Type 0} (P : X → Type 0) (f : ℕ → List X) (a n : �
 all_numbers P f a zero h = tt
 all_numbers P f a (suc n) h = all_append P (f a) (flat_map f (range_with_len (a + 1) n)) (h a (omega arith)) (all_numbers P f (a + 1) n (λ i lt. h i (omega arith)))
 
-abbrev outs : Automaton → ℕ → List ℤ
-outs d n = map (λ q. output_listed (accepting_of d q)) (range_with_len 0 n)
-
-outs_more : (d : Automaton) (q : ℕ) → outs d (q + 1) ≡ outs d q ++ output_listed (accepting_of d q) ∷ []
-outs_more d q = ap (map (λ p. output_listed (accepting_of d p))) (numbers_more q) ∙ map-append (λ p. output_listed (accepting_of d p)) (range_with_len 0 q) (q ∷ [])
-
 -- each number that a step leads to fits 32 bits
 abbrev Fits32 : Option ℕ → Type 0
 Fits32 o = IfSome o (λ t. t < 2 ^ 32)
 
 -- an automaton under a header whose text can be read again
-record IsPrinted (header : Header) (d : Automaton) : Type 0 where
-  states : has_states (header_listed header) ≡ true
-  stands : is_passed (header_line header) ≡ false
-  read : header_of (header_line header) ≡ Some (header_listed header)
-  whole : Avoids is_line_end (header_line header)
-  tuples : (letter : ℕ) → letter < letters_of d → IsReadAs (digits_in (header_listed header)) (tuple_of (sets_of header) letter) (digits_of_letter d.sizes letter)
-  some : 0 < states_of d
-  small : states_of d < 2 ^ 32
-  steps : (q letter : ℕ) → q < states_of d → IfSome (step_of d q letter) (λ t. t < states_of d)
+pub record IsPrinted (header : Header) (d : Automaton) : Type 0 where
+  pub states : has_states (header_listed header) ≡ true
+  pub stands : is_passed (header_line header) ≡ false
+  pub read : header_of (header_line header) ≡ Some (header_listed header)
+  pub whole : Avoids is_line_end (header_line header)
+  pub tuples : (letter : ℕ) → letter < letters_of d → IsReadAs (digits_in (header_listed header)) (tuple_of (sets_of header) letter) (digits_of_letter d.sizes letter)
+  pub some : 0 < states_of d
+  pub small : states_of d < 2 ^ 32
+  pub steps : (q letter : ℕ) → q < states_of d → IfSome (step_of d q letter) (λ t. t < states_of d)
+
+-- the lines of the text
+abbrev pub printed_lines : Header → Automaton → List ℤ → List (List ℕ)
+printed_lines header d outputs = header_line header ∷ flat_map (state_lines (sets_of header) d outputs) (range_with_len 0 (states_of d))
+
+-- the text has these lines, and they are read as a draft that lists the automaton
+pub record IsDrafted (header : Header) (d : Automaton) (outputs : List ℤ) : Type 0 where
+  pub numbered : List (ℕ × ListedLine)
+  pub lines : slice_split is_line_end (text_of_lines (printed_lines header d outputs)) ≡ printed_lines header d outputs ++ [] ∷ []
+  pub read : add_lines 1 no_draft (printed_lines header d outputs ++ [] ∷ []) ≡ Ok (draft (header_listed header) (range_with_len 0 (states_of d)) outputs numbered)
+  pub lists : lines_in numbered ≡ flat_map (steps_listed d) (range_with_len 0 (states_of d))
+
+-- an output for each state
+pub record ArePrinted (d : Automaton) (outputs : List ℤ) : Type 0 where
+  pub count : length outputs ≡ states_of d
+  pub fit : (q : ℕ) → q < states_of d → SFits w32 (get_or outputs q (pos 0))
 
 module _ (fh : file.Header) (states : has_states fh ≡ true) (ns : List ℕ) (os : List ℤ) (q : ℕ) (long : length os ≡ suc q) where
   read_step : (tuple : List ℤ) (digits : List ℕ) (o : Option ℕ) → IsReadAs (digits_in fh) tuple digits → Fits32 o → (lines : List (ℕ × ListedLine)) (at : ℕ) (rest : List (List ℕ)) → HasRead fh ns os lines at (step_lines tuple o) rest ns os (step_listed q digits o)
@@ -96,50 +108,53 @@ module _ (fh : file.Header) (states : has_states fh ≡ true) (ns : List ℕ) (o
       read_more fh ns ns ns os os os lines at (f a) (flat_map f (range_with_len (a + 1) n)) rest (g a) (flat_map g (range_with_len (a + 1) n)) first
       (read_each f g (a + 1) n (λ i lt. h i (omega arith)) (lines ++ first.numbered) first.next rest)
 
-module _ (header : Header) (d : Automaton) (over : IsPrinted header d) where
+module _ (header : Header) (d : Automaton) (outputs : List ℤ) (over : IsPrinted header d) (are : ArePrinted d outputs) where
   fits : (q letter : ℕ) → q < states_of d → Fits32 (step_of d q letter)
   fits q letter within = let small : states_of d ≤ 2 ^ 32 = omega (arith, over.small) in weaker (step_of d q letter) (states_of d) (2 ^ 32) small (over.steps q letter within)
 
   -- a blank line, a state and its lines
   read_state : (lines : List (ℕ × ListedLine)) (at q : ℕ) (rest : List (List ℕ)) → q < states_of d
-      → HasRead (header_listed header) (range_with_len 0 q) (outs d q) lines at (state_lines (sets_of header) d q) rest (range_with_len 0 (q + 1)) (outs d (q + 1)) (steps_listed d q)
+      → HasRead (header_listed header) (range_with_len 0 q) (take q outputs) lines at (state_lines (sets_of header) d outputs q) rest (range_with_len 0 (q + 1)) (take (q + 1) outputs) (steps_listed d q)
   read_state lines at q rest within =
       let fh = header_listed header in
       let sets = sets_of header in
       let small : q < 2 ^ 32 = omega (arith, over.small) in
       let ns = range_with_len 0 q in
-      let os = outs d q in
-      let long : length (outs d (q + 1)) ≡ suc q = omega (arith, length-map-range_with_len (λ p. output_listed (accepting_of d p)) 0 (q + 1)) in
-      let steps = read_each fh over.states (range_with_len 0 (q + 1)) (outs d (q + 1)) q long (λ letter. step_lines (tuple_of sets letter) (step_of d q letter)) (λ letter. step_listed q (digits_of_letter d.sizes letter) (step_of d q letter)) 0 (letters_of d)
-      (λ letter lt. let inside : letter < letters_of d = omega arith in read_step fh over.states (range_with_len 0 (q + 1)) (outs d (q + 1)) q long (tuple_of sets letter) (digits_of_letter d.sizes letter) (step_of d q letter) (over.tuples letter inside) (fits q letter within)) lines (at + 1 + 1) rest in
-      let text = state_text q (accepting_of d q) in
+      let os = take q outputs in
+      let long : length (take (q + 1) outputs) ≡ suc q = omega (arith, length-take-le (q + 1) outputs (omega (arith, within, are.count))) in
+      let z = get_or outputs q (pos 0) in
+      let z_fits = are.fit q within in
+      let more : take (q + 1) outputs ≡ take q outputs ++ z ∷ [] = take_more outputs q (pos 0) (omega (arith, within, are.count)) in
+      let steps = read_each fh over.states (range_with_len 0 (q + 1)) (take (q + 1) outputs) q long (λ letter. step_lines (tuple_of sets letter) (step_of d q letter)) (λ letter. step_listed q (digits_of_letter d.sizes letter) (step_of d q letter)) 0 (letters_of d)
+      (λ letter lt. let inside : letter < letters_of d = omega arith in read_step fh over.states (range_with_len 0 (q + 1)) (take (q + 1) outputs) q long (tuple_of sets letter) (digits_of_letter d.sizes letter) (step_of d q letter) (over.tuples letter inside) (fits q letter within)) lines (at + 1 + 1) rest in
+      let text = state_text q z in
       let below = steps_lines sets d q ++ rest in
       let blank : add_lines at (draft fh ns os lines) ([] ∷ text ∷ below) ≡ add_lines (at + 1) (draft fh ns os lines) (text ∷ below) =
       add_lines-step at (draft fh ns os lines) (draft fh ns os lines) [] (text ∷ below) (passed_line at (draft fh ns os lines) [] passed_empty) in
-      let added : add_line (at + 1) (draft fh ns os lines) text ≡ Some (draft fh (range_with_len 0 (q + 1)) (outs d (q + 1)) lines) =
-      entry_line (at + 1) fh ns os lines text (State q (output_listed (accepting_of d q))) over.states (state_stands q (accepting_of d q) small) (state_read (digits_in fh) q (accepting_of d q) small)
-      ∙ ap (λ b. cond b None (Some (draft fh (ns ++ q ∷ []) (os ++ output_listed (accepting_of d q) ∷ []) lines))) (new_number 0 q q (omega arith))
-      ∙ ap (λ n. Some (draft fh n (os ++ output_listed (accepting_of d q) ∷ []) lines)) (sym (numbers_more q)) ∙ ap (λ o. Some (draft fh (range_with_len 0 (q + 1)) o lines)) (sym (outs_more d q)) in
+      let added : add_line (at + 1) (draft fh ns os lines) text ≡ Some (draft fh (range_with_len 0 (q + 1)) (take (q + 1) outputs) lines) =
+      entry_line (at + 1) fh ns os lines text (State q z) over.states (state_stands q z small) (state_read (digits_in fh) q z small z_fits)
+      ∙ ap (λ b. cond b None (Some (draft fh (ns ++ q ∷ []) (os ++ z ∷ []) lines))) (new_number 0 q q (omega arith))
+      ∙ ap (λ n. Some (draft fh n (os ++ z ∷ []) lines)) (sym (numbers_more q)) ∙ ap (λ o. Some (draft fh (range_with_len 0 (q + 1)) o lines)) (sym more) in
       record {
         numbered = steps.numbered;
         next = steps.next;
-        read = blank ∙ add_lines-step (at + 1) (draft fh ns os lines) (draft fh (range_with_len 0 (q + 1)) (outs d (q + 1)) lines) text below added ∙ steps.read;
+        read = blank ∙ add_lines-step (at + 1) (draft fh ns os lines) (draft fh (range_with_len 0 (q + 1)) (take (q + 1) outputs) lines) text below added ∙ steps.read;
         lists = steps.lists;
       }
 
   read_states : (lines : List (ℕ × ListedLine)) (at q n : ℕ) (rest : List (List ℕ)) → q + n ≤ states_of d
-      → HasRead (header_listed header) (range_with_len 0 q) (outs d q) lines at (flat_map (state_lines (sets_of header) d) (range_with_len q n)) rest (range_with_len 0 (q + n)) (outs d (q + n)) (flat_map (steps_listed d) (range_with_len q n))
+      → HasRead (header_listed header) (range_with_len 0 q) (take q outputs) lines at (flat_map (state_lines (sets_of header) d outputs) (range_with_len q n)) rest (range_with_len 0 (q + n)) (take (q + n) outputs) (flat_map (steps_listed d) (range_with_len q n))
   read_states lines at q zero rest within =
       let same : q ≡ q + 0 = omega arith in
-      subst (λ (m : ℕ). HasRead (header_listed header) (range_with_len 0 q) (outs d q) lines at [] rest (range_with_len 0 m) (outs d m) []) same (read_none (header_listed header) (range_with_len 0 q) (outs d q) lines at rest)
+      subst (λ (m : ℕ). HasRead (header_listed header) (range_with_len 0 q) (take q outputs) lines at [] rest (range_with_len 0 m) (take m outputs) []) same (read_none (header_listed header) (range_with_len 0 q) (take q outputs) lines at rest)
   read_states lines at q (suc n) rest within =
       let fh = header_listed header in
-      let f = state_lines (sets_of header) d in
+      let f = state_lines (sets_of header) d outputs in
       let same : q + 1 + n ≡ q + suc n = omega arith in
       let first = read_state lines at q (flat_map f (range_with_len (q + 1) n) ++ rest) (omega arith) in
       let more = read_states (lines ++ first.numbered) first.next (q + 1) n rest (omega arith) in
-      subst (λ (m : ℕ). HasRead fh (range_with_len 0 q) (outs d q) lines at (flat_map f (range_with_len q (suc n))) rest (range_with_len 0 m) (outs d m) (flat_map (steps_listed d) (range_with_len q (suc n)))) same
-      (read_more fh (range_with_len 0 q) (range_with_len 0 (q + 1)) (range_with_len 0 (q + 1 + n)) (outs d q) (outs d (q + 1)) (outs d (q + 1 + n)) lines at (f q) (flat_map f (range_with_len (q + 1) n)) rest (steps_listed d q) (flat_map (steps_listed d) (range_with_len (q + 1) n)) first more)
+      subst (λ (m : ℕ). HasRead fh (range_with_len 0 q) (take q outputs) lines at (flat_map f (range_with_len q (suc n))) rest (range_with_len 0 m) (take m outputs) (flat_map (steps_listed d) (range_with_len q (suc n)))) same
+      (read_more fh (range_with_len 0 q) (range_with_len 0 (q + 1)) (range_with_len 0 (q + 1 + n)) (take q outputs) (take (q + 1) outputs) (take (q + 1 + n) outputs) lines at (f q) (flat_map f (range_with_len (q + 1) n)) rest (steps_listed d q) (flat_map (steps_listed d) (range_with_len (q + 1) n)) first more)
 
 -- the number of a state is its place
 own_place : (n t : ℕ) → t < n → state_at (range_with_len 0 n) t ≡ Some t
@@ -176,16 +191,16 @@ finished after fh numbers outputs lines some placed =
     ∙ ap (λ b. cond b (Err after) (lists fh (draft fh numbers outputs lines))) (and-false (has_states fh))
     ∙ ap (λ r. then_read r (λ ls. Ok (let l : Listed = record { header = fh; outputs = outputs; lines = ls } in l))) placed
 
-module _ (header : Header) (d : Automaton) (over : IsPrinted header d) where
-  avoids : AllByRecursion (Avoids is_line_end) (flat_map (state_lines (sets_of header) d) (range_with_len 0 (states_of d)))
-  avoids = all_numbers (Avoids is_line_end) (state_lines (sets_of header) d) 0 (states_of d) (λ q lt.
+module _ (header : Header) (d : Automaton) (outputs : List ℤ) (over : IsPrinted header d) (are : ArePrinted d outputs) where
+  avoids : AllByRecursion (Avoids is_line_end) (flat_map (state_lines (sets_of header) d outputs) (range_with_len 0 (states_of d)))
+  avoids = all_numbers (Avoids is_line_end) (state_lines (sets_of header) d outputs) 0 (states_of d) (λ q lt.
       let within : q < states_of d = omega arith in (
         tt,
         (
-          state_avoids q (accepting_of d q) (omega (arith, over.small)),
+          state_avoids is_line_end (spares_byte 10 refl refl) refl q (get_or outputs q (pos 0)) (omega (arith, over.small)) (are.fit q within),
           all_numbers (Avoids is_line_end) (λ letter. step_lines (tuple_of (sets_of header) letter) (step_of d q letter)) 0 (letters_of d) (λ letter low.
               let inside : letter < letters_of d = omega arith in
-              step_avoids (digits_in (header_listed header)) (tuple_of (sets_of header) letter) (digits_of_letter d.sizes letter) (step_of d q letter) (over.tuples letter inside) (fits header d over q letter within)),
+              step_avoids (digits_in (header_listed header)) (tuple_of (sets_of header) letter) (digits_of_letter d.sizes letter) (step_of d q letter) (over.tuples letter inside) (fits header d outputs over are q letter within)),
         ),
       ))
 
@@ -194,30 +209,44 @@ module _ (header : Header) (d : Automaton) (over : IsPrinted header d) where
       let within : q < states_of d = omega arith in
       all_numbers (λ (line : ListedLine). AllByRecursion (λ t. t < states_of d) line.targets) (λ letter. step_listed q (digits_of_letter d.sizes letter) (step_of d q letter)) 0 (letters_of d) (λ letter low. step_below (states_of d) q (digits_of_letter d.sizes letter) (step_of d q letter) (over.steps q letter within)))
 
-  relation_of-printed : relation_of (relation_text header d) ≡ Ok (automaton_listed header d)
-  unfolding relation_of relation_text
-  relation_of-printed =
+  -- the printed lines are read as this draft, which lists the automaton
+  pub drafted : IsDrafted header d outputs
+  drafted =
       let fh = header_listed header in
       let n = states_of d in
       let numbers = range_with_len 0 n in
-      let body = flat_map (state_lines (sets_of header) d) (range_with_len 0 n) in
-      let text = header_line header ∷ body in
-      let one_each : AllByRecursion (Avoids is_line_end) text = (over.whole, avoids) in
-      let lines : slice_split is_line_end (text_of_lines text) ≡ text ++ [] ∷ [] = lines_of-text text one_each in
-      let read = read_states header d over [] 2 0 n ([] ∷ []) (omega arith) in
+      let body = flat_map (state_lines (sets_of header) d outputs) (range_with_len 0 n) in
+      let read = read_states header d outputs over are [] 2 0 n ([] ∷ []) (omega arith) in
       let zero_more : 0 + n ≡ n = omega arith in
-      let reached : add_lines 2 (draft fh [] [] []) (body ++ [] ∷ []) ≡ add_lines read.next (draft fh numbers (outs d n) read.numbered) ([] ∷ []) =
-      read.read ∙ ap (λ (m : ℕ). add_lines read.next (draft fh (range_with_len 0 m) (outs d m) read.numbered) ([] ∷ [])) zero_more in
-      let last : add_lines read.next (draft fh numbers (outs d n) read.numbered) ([] ∷ []) ≡ Ok (draft fh numbers (outs d n) read.numbered) =
-      add_lines-step read.next (draft fh numbers (outs d n) read.numbered) (draft fh numbers (outs d n) read.numbered) [] [] (passed_line read.next (draft fh numbers (outs d n) read.numbered) [] passed_empty) in
-      let drafted : add_lines 1 no_draft (text ++ [] ∷ []) ≡ Ok (draft fh numbers (outs d n) read.numbered) =
-      add_lines-step 1 no_draft (draft fh [] [] []) (header_line header) (body ++ [] ∷ []) (header_line-added (header_line header) fh over.stands over.read) ∙ reached ∙ last in
-      let placed : placed_lines numbers read.numbered ≡ Ok (lines_in read.numbered) = placed_same n read.numbered (subst (λ (l : List ListedLine). AllByRecursion (λ (line : ListedLine). AllByRecursion (λ t. t < n) line.targets) l) (sym read.lists) below) in
-      let long : 0 < length (outs d n) = omega (arith, over.some, length-map-range_with_len (λ p. output_listed (accepting_of d p)) 0 n) in
-      ap (λ ls. then_read (add_lines 1 no_draft ls) (finish (line_after ls))) lines
-      ∙ ap (λ r. then_read r (finish (line_after (text ++ [] ∷ [])))) drafted
-      ∙ finished (line_after (text ++ [] ∷ [])) fh numbers (outs d n) read.numbered long placed
-      ∙ ap (λ ls. Ok (let l : Listed = record { header = fh; outputs = outs d n; lines = ls } in l)) read.lists
+      let reached : add_lines 2 (draft fh [] [] []) (body ++ [] ∷ []) ≡ add_lines read.next (draft fh numbers (take n outputs) read.numbered) ([] ∷ []) =
+      read.read ∙ ap (λ (m : ℕ). add_lines read.next (draft fh (range_with_len 0 m) (take m outputs) read.numbered) ([] ∷ [])) zero_more in
+      let last : add_lines read.next (draft fh numbers (take n outputs) read.numbered) ([] ∷ []) ≡ Ok (draft fh numbers (take n outputs) read.numbered) =
+      add_lines-step read.next (draft fh numbers (take n outputs) read.numbered) (draft fh numbers (take n outputs) read.numbered) [] [] (passed_line read.next (draft fh numbers (take n outputs) read.numbered) [] passed_empty) in
+      let all : take n outputs ≡ outputs = take_all n outputs (omega (arith, are.count)) in
+      record {
+        numbered = read.numbered;
+        lines = lines_of-text (printed_lines header d outputs) (over.whole, avoids);
+        read = add_lines-step 1 no_draft (draft fh [] [] []) (header_line header) (body ++ [] ∷ []) (header_line-added (header_line header) fh over.stands over.read) ∙ reached ∙ last
+            ∙ ap (λ os. Ok (draft fh numbers os read.numbered)) all;
+        lists = read.lists;
+      }
+
+  pub finish_printed : (after : ℕ) (numbered : List (ℕ × ListedLine)) → lines_in numbered ≡ flat_map (steps_listed d) (range_with_len 0 (states_of d)) → finish after (draft (header_listed header) (range_with_len 0 (states_of d)) outputs numbered) ≡ Ok (word_listed header d outputs)
+  finish_printed after numbered lists =
+      let fh = header_listed header in
+      let n = states_of d in
+      let placed : placed_lines (range_with_len 0 n) numbered ≡ Ok (lines_in numbered) = placed_same n numbered (subst (λ (l : List ListedLine). AllByRecursion (λ (line : ListedLine). AllByRecursion (λ t. t < n) line.targets) l) (sym lists) below) in
+      finished after fh (range_with_len 0 n) outputs numbered (omega (arith, over.some, are.count)) placed
+      ∙ ap (λ ls. Ok (let l : Listed = record { header = fh; outputs = outputs; lines = ls } in l)) lists
+
+  pub relation_of-printed : relation_of (word_text header d outputs) ≡ Ok (word_listed header d outputs)
+  unfolding relation_of word_text
+  relation_of-printed =
+      let text = printed_lines header d outputs in
+      let is = drafted in
+      ap (λ ls. then_read (add_lines 1 no_draft ls) (finish (line_after ls))) is.lines
+      ∙ ap (λ r. then_read r (finish (line_after (text ++ [] ∷ [])))) is.read
+      ∙ finish_printed (line_after (text ++ [] ∷ [])) is.numbered is.lists
 
 -- the digits of a letter
 pub letter_digits : (sizes : List ℕ) (letter : ℕ) → letter < product sizes → AreDigits sizes (digits_of_letter sizes letter) × (code_of sizes (digits_of_letter sizes letter) ≡ letter)
@@ -269,7 +298,7 @@ header_read (Systems (system ∷ systems)) h =
       tracks = readable_systems (system ∷ systems) each;
     }
 
-printed_under : (header : Header) (d : Automaton) → IsAutomatonUnder header d → IsPrinted header d
+pub printed_under : (header : Header) (d : Automaton) → IsAutomatonUnder header d → IsPrinted header d
 printed_under header d over = record {
   states = known.states;
   stands = known.stands;
@@ -297,5 +326,17 @@ printed_under header d over = record {
           reads = digits_read (digits_in (header_listed header)) sets digits known.tracks fit;
         })
 
+-- the outputs of states that accept or not
+output_fits : (accepting : Bool) → SFits w32 (output_listed accepting)
+output_fits true = record { sfits = omega arith }
+output_fits false = record { sfits = omega arith }
+
+outputs_printed : (d : Automaton) → ArePrinted d (outputs_of d)
+outputs_printed d = record {
+  count = length-map-range_with_len (λ p. output_listed (accepting_of d p)) 0 (states_of d);
+  fit = λ q within. subst (SFits w32) (sym (get_or-map-range_with_len (λ p. output_listed (accepting_of d p)) 0 (states_of d) q q (pos 0) within (omega arith))) (output_fits (accepting_of d q));
+}
+
 pub text_lists : TextListsAutomaton
-text_lists header d over = relation_of-printed header d (printed_under header d over)
+unfolding relation_text
+text_lists header d over = relation_of-printed header d (outputs_of d) (printed_under header d over) (outputs_printed d)

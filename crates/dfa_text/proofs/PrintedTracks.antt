@@ -1,5 +1,5 @@
 -- Printed digits of a track, read again.
-use Rattle.std.proofs.Common.{◌≡◌, ℕ, zero, suc, ◌+◌, ◌^◌, ◌<◌, ◌≤◌, Bool, true, false, eqb, List, [], ◌∷◌, ◌++◌, map, length, get_or, ℤ, pos, Option, Some, refl, sym, ap, ◌∙◌, arith, append_assoc, codes, decimal}
+use Rattle.std.proofs.Common.{◌≡◌, ℕ, zero, suc, ◌+◌, ◌^◌, ◌<◌, ◌≤◌, eqb, List, [], ◌∷◌, ◌++◌, map, length, get_or, ℤ, pos, Option, Some, refl, sym, ap, ◌∙◌, arith, append_assoc, codes, decimal}
 use Rattle.std.specs.Fmt.{signed_decimal}
 use Rattle.std.specs.Prelude.{option_and_then, option_map}
 use Rattle.std.specs.List.{AllByRecursion, AllZip, flat_map, join_by, range_with_len}
@@ -9,17 +9,15 @@ use mir.Syntax.{w32}
 use Rattle.digit_tuple.specs.Letters.{AreDigits}
 use Rattle.digit_tuple.specs.Sets.{sizes_of, members_at}
 use Rattle.digit_tuple.specs.Systems.{IsDigitCount, digit_set}
-use Rattle.text_grammar.specs.Bytes.{is_blank}
 use Rattle.dfa_reading.specs.Numbers.{integer_of, number_below}
 use Rattle.dfa_reading.specs.Lines.{parts_of, arrow_at}
 use Rattle.dfa_reading.specs.Headers.{Digits, Members, Below}
 use Rattle.dfa_reading.specs.Entries.{State, Line, place_in, one_digit, digit_of, digits_of, targets_of, state_number, state_of, line_of, entry_by, entry_of}
 use Rattle.dfa_reading.proofs.Places.{place_some}
 use Rattle.dfa_text.specs.Parts.{state_text}
-use Rattle.dfa_text.specs.Lists.{output_listed}
 use Rattle.dfa_text.proofs.PrintedNumbers.{number_below-decimal, integer_of-signed}
-use Rattle.dfa_text.proofs.PrintedParts.{Avoids, Avoids-append, spares_byte, avoids_decimal, avoids_signed, no_arrow, arrow_behind}
-use Rattle.dfa_text.proofs.PrintedEntries.{target_text, AreNumbers, tuple_text, fits_wide, parts_of-state, no_star, parts_of-targets, parts_of-tuple, tuple_avoids}
+use Rattle.dfa_text.proofs.PrintedParts.{Avoids, Avoids-append, spares_byte, avoids_signed, no_arrow, arrow_behind}
+use Rattle.dfa_text.proofs.PrintedEntries.{target_text, AreNumbers, tuple_text, fits_wide, parts_of-state, state_avoids, no_star, parts_of-targets, parts_of-tuple, tuple_avoids}
 use Rattle.dfa_text.proofs.PrintedHeaders.{IsPrintable, each_of-map, all_map}
 
 -- a track whose printed digits are read as their places
@@ -78,15 +76,11 @@ digits_read (track ∷ tracks) (set ∷ sets) (d ∷ ds) h fit = rw (digit_read 
 state_of-printed : (q : ℕ) (z : ℤ) (output : List ℕ) → q < 2 ^ 32 → integer_of output ≡ Some z → state_of (decimal q ∷ output ∷ []) ≡ Some (State q z)
 state_of-printed q z output h e = rw (number_below-decimal (2 ^ 32) q h (fits_wide q h), e) refl
 
-entry_of-line_with : (tracks : List Digits) (q b : ℕ) (z : ℤ) → q < 2 ^ 32 → is_blank b ≡ false → eqb b 62 ≡ false → integer_of (b ∷ []) ≡ Some z → entry_of tracks (decimal q ++ 32 ∷ b ∷ []) ≡ Some (State q z)
+pub state_read : (tracks : List Digits) (q : ℕ) (z : ℤ) → q < 2 ^ 32 → SFits w32 z → entry_of tracks (state_text q z) ≡ Some (State q z)
 unfolding entry_of
-entry_of-line_with tracks q b z h k e f =
-    ap (entry_by tracks (decimal q ++ 32 ∷ b ∷ [])) (no_arrow (decimal q ++ 32 ∷ b ∷ []) (Avoids-append (λ c. eqb c 62) (decimal q) (32 ∷ b ∷ []) (avoids_decimal (λ c. eqb c 62) (spares_byte 62 refl refl) q (fits_wide q h)) (refl, (e, tt))))
-    ∙ ap state_of (parts_of-state q b h k) ∙ state_of-printed q z (b ∷ []) h f
-
-pub state_read : (tracks : List Digits) (q : ℕ) (accepting : Bool) → q < 2 ^ 32 → entry_of tracks (state_text q accepting) ≡ Some (State q (output_listed accepting))
-state_read tracks q true h = entry_of-line_with tracks q 49 (pos 1) h refl refl refl
-state_read tracks q false h = entry_of-line_with tracks q 48 (pos 0) h refl refl refl
+state_read tracks q z h f =
+    ap (entry_by tracks (state_text q z)) (no_arrow (state_text q z) (state_avoids (λ c. eqb c 62) (spares_byte 62 refl refl) refl q z h f))
+    ∙ ap state_of (parts_of-state q z h f) ∙ state_of-printed q z (signed_decimal z) h (integer_of-signed z f)
 
 -- the line of a tuple
 line_of-printed : (tracks : List Digits) (digits targets : List (List ℕ)) (ds : List (Option ℕ)) (ts : List ℕ) → digits_of tracks digits ≡ Some ds → targets_of targets ≡ Some ts → line_of tracks digits targets ≡ Some (Line ds ts)

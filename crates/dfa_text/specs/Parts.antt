@@ -1,5 +1,5 @@
 -- Parts of the texts that list automata: headers, tuples, states and lines.
-use Rattle.std.specs.Prelude.{ℕ, Bool, if◌then◌else◌, ℤ, List, [], ◌∷◌, ◌++◌, map, codes, decimal}
+use Rattle.std.specs.Prelude.{ℕ, ℤ, List, [], ◌∷◌, ◌++◌, map, codes, decimal}
 use Rattle.std.specs.Fmt.{signed_decimal}
 use Rattle.std.specs.List.{flat_map, join_by}
 
@@ -15,9 +15,9 @@ abbrev pub tuples_of : List (List ℤ) → List (List ℤ)
 tuples_of [] = [] ∷ []
 tuples_of (set ∷ sets) = flat_map (λ member. map (λ tuple. member ∷ tuple) (tuples_of sets)) set
 
--- a state's number, and 1 where it accepts, 0 where it does not
-abbrev pub state_text : ℕ → Bool → List ℕ
-state_text q accepting = decimal q ++ (if accepting then codes " 1" else codes " 0")
+-- a state's number and its output
+abbrev pub state_text : ℕ → ℤ → List ℕ
+state_text q output = decimal q ++ (codes " " ++ signed_decimal output)
 
 -- each line, and its end
 abbrev pub text_of_lines : List (List ℕ) → List ℕ

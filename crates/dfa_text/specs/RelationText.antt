@@ -1,5 +1,5 @@
 -- The text of a deterministic automaton.
-use Rattle.std.specs.Prelude.{ℕ, ℤ, List, [], ◌∷◌, ◌++◌, slice_index_or, Option, None, Some, codes, decimal}
+use Rattle.std.specs.Prelude.{ℕ, Bool, if◌then◌else◌, ℤ, pos, List, [], ◌∷◌, ◌++◌, map, slice_index_or, Option, None, Some, codes, decimal}
 use Rattle.std.specs.Fmt.{signed_decimal}
 use Rattle.std.specs.List.{flat_map, join_by, range_with_len}
 use Rattle.digit_tuple.specs.Deterministic.{Automaton, letters_of, states_of, accepting_of, step_of}
@@ -41,9 +41,20 @@ abbrev pub steps_lines : List (List ℤ) → Automaton → ℕ → List (List �
 steps_lines sets d q = flat_map (λ letter. step_lines (tuple_of sets letter) (step_of d q letter)) (range_with_len 0 (letters_of d))
 
 -- a blank line, the state's number and output, and the lines of its letters
-abbrev pub state_lines : List (List ℤ) → Automaton → ℕ → List (List ℕ)
-state_lines sets d q = [] ∷ state_text q (accepting_of d q) ∷ steps_lines sets d q
+abbrev pub state_lines : List (List ℤ) → Automaton → List ℤ → ℕ → List (List ℕ)
+state_lines sets d outputs q = [] ∷ state_text q (slice_index_or outputs q (pos 0)) ∷ steps_lines sets d q
 
--- the header, and then the states in order
+-- the text of an automaton whose states have these outputs: the header, and then the states in order
+unfoldable pub word_text : Header → Automaton → List ℤ → List ℕ
+word_text header d outputs = text_of_lines (header_line header ∷ flat_map (state_lines (sets_of header) d outputs) (range_with_len 0 (states_of d)))
+
+abbrev pub output_listed : Bool → ℤ
+output_listed accepting = if accepting then pos 1 else pos 0
+
+-- 1 for each accepting state, and 0 for each other
+abbrev pub outputs_of : Automaton → List ℤ
+outputs_of d = map (λ q. output_listed (accepting_of d q)) (range_with_len 0 (states_of d))
+
+-- the text of an automaton that accepts words
 unfoldable pub relation_text : Header → Automaton → List ℕ
-relation_text header d = text_of_lines (header_line header ∷ flat_map (state_lines (sets_of header) d) (range_with_len 0 (states_of d)))
+relation_text header d = word_text header d (outputs_of d)

@@ -5,14 +5,17 @@
 mod numbers;
 // the line of a header
 mod header_text;
-// the text of a deterministic automaton
+// the text of a deterministic automaton whose states have outputs
+mod word_text;
+// the text of a deterministic automaton that accepts words
 mod relation_text;
 // laws of the definitions
 mod laws;
 
-pub use dfa_reading::{FileFault, FileHeader, Listed, ListedLine, read_relation};
+pub use dfa_reading::{FileFault, FileHeader, Listed, ListedLine, read_relation, read_word};
 pub use laws::{
-    equal_languages_have_equal_texts, equal_texts_have_equal_languages, text_accepts_as_automaton,
-    text_lists_automaton,
+    equal_languages_have_equal_texts, equal_texts_have_equal_languages,
+    equal_texts_have_equal_words, text_accepts_as_automaton, text_lists_automaton, text_lists_word,
 };
 pub use relation_text::{print_relation, print_within};
+pub use word_text::{print_word, print_word_within};

@@ -36,3 +36,4 @@ pub mod RowLemmas
 pub mod FrontierLemmas
 pub mod ExploredLemmas
 pub mod LetterEdges
+pub mod ReflaggedLemmas

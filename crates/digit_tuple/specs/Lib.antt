@@ -9,6 +9,7 @@ pub mod Headers
 pub mod Automaton
 pub mod Rows
 pub mod Deterministic
+pub mod Reflagged
 pub mod DfaRows
 pub mod EdgesBy
 pub mod Reversed

@@ -10,3 +10,7 @@ pub record StepLog : Type 0 where
 -- the steps with one more after them
 abbrev pub with_line : StepLog → StepLine → StepLog
 with_line log line = record { limit = log.limit; lines = log.lines ++ line ∷ [] }
+
+-- the steps with more of them after them
+abbrev pub with_lines : StepLog → List StepLine → StepLog
+with_lines log lines = record { limit = log.limit; lines = log.lines ++ lines }

@@ -5,6 +5,7 @@ ghost use Rattle.std.specs.List.{AllPairs, AllWithin};
 ghost use Rattle.digit_tuple.specs.Deterministic.{Automaton, State, IsTable, IsRow, IsByEarlier, target_by, step_of, accepting_of, accepts_of, edges_of, state_of, states_of, letters_of};
 ghost use Rattle.digit_tuple.specs.Letters.{product};
 ghost use Rattle.digit_tuple.specs.DfaRows.{states_in};
+ghost use Rattle.digit_tuple.specs.Reflagged.{AreReflagged, IsReflagged};
 
 use crate::alphabet::Alphabet;
 use crate::edges::Edge;
@@ -145,12 +146,33 @@ impl Dfa {
         self.accepting(state)
     }
 
+    /// The automaton with the same edges in which the states that the flags say accept, and no others. There is a flag
+    /// for each state. It takes no memory.
+    pub fn with_accepting(self, flags: &[bool]) -> Self
+        requires { length flags.now ≡ states_of self }
+        ensures { IsReflagged flags.now self result }
+    {
+        let Dfa { tracks, mut rows } = self;
+        set_accepting(&mut rows, flags);
+        Dfa { tracks, rows }
+    }
+
     /// The same automaton, in memory of its own.
     pub fn copy(&self, alloc: Global) -> Result<Self, OutOfMemory>
         ensures { IfOk result (λ dfa. dfa ≡ self.now) }
     {
         let rows = copied_states(alloc, &self.rows)?;
         Dfa::from_states(alloc, self.tracks.copy(alloc)?, rows)
+    }
+}
+
+// Gives each state its flag.
+fn set_accepting(rows: &mut Vec<DfaState>, flags: &[bool])
+    requires { length flags.now ≡ length rows.old.items }
+    ensures { AreReflagged flags.now (states_in rows.old.items) (states_in rows.new.items) }
+{
+    for place in 0..flags.len() {
+        rows[place].accepting = flags[place];
     }
 }
 

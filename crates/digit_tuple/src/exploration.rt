@@ -20,6 +20,13 @@ use crate::numbering::Numbering;
 use crate::stepped::Stepped;
 use std::alloc::Global;
 
+/// What an exploration made: the automaton, and the keys that its states stand for, in their order.
+#[derive(Drop)]
+pub struct Explored {
+    pub dfa: Dfa,
+    pub keys: Numbering,
+}
+
 /// The automaton whose states are the keys that words lead to, from the first key on, numbered in the
 /// order of the first words that lead to them, shorter words first. A letter that leads to no key has
 /// no edge. The width is the number of kinds of words, where two are alike that lead to one key, or
@@ -49,6 +56,38 @@ pub fn explore<G: KeyGraph>(
         → HasApart (LeadAlike (G.after graph.now) (G.start graph.now)) (G.letters graph.now) (limit + 1) }
     ensures no_letters { ¬ IsErrOf result OpFault.Letters }
 {
+    let Stepped { result, width } = explore_keys(alloc, graph, alphabet, limit)?;
+    Ok(Stepped {
+        result: result.dfa,
+        width,
+    })
+}
+
+/// The automaton of `explore` with the keys that its states stand for, for what a construction tells of
+/// a key but whether it accepts. Its width and its refusals are those of `explore`.
+pub fn explore_keys<G: KeyGraph>(
+    alloc: Global,
+    graph: &G,
+    alphabet: Alphabet,
+    limit: u32,
+) -> Result<Stepped<Explored>, OpFault>
+    requires graph { G.is_graph graph.now }
+    requires letters { G.letters graph.now ≡ product alphabet }
+    ensures sizes { IfOk result (λ stepped. stepped.result.dfa.sizes ≡ alphabet) }
+    ensures table { IfOk result (λ stepped. IsTable (letters_of stepped.result.dfa) stepped.result.dfa.states) }
+    ensures explored { IfOk result (λ stepped. IsExplored (G.letters graph.now) (G.start graph.now) (G.after graph.now) (G.accepts graph.now) stepped.result.keys stepped.result.dfa) }
+    ensures keys { IfOk result (λ stepped. All (G.is_key graph.now) stepped.result.keys) }
+    ensures numbered { IfOk result (λ stepped. (firsts : List (List ℕ)) × IsNumberedByFirsts stepped.result.dfa firsts) }
+    ensures language { IfOk result (λ stepped. (word : List ℕ) → IsWord (G.letters graph.now) word
+        → accepts_of stepped.result.dfa word ≡ key_accepts (G.after graph.now) (G.accepts graph.now) (G.start graph.now) word) }
+    ensures width { IfOk result (λ stepped.
+        HasWidth (LeadAlike (G.after graph.now) (G.start graph.now)) (G.letters graph.now) stepped.width) }
+    ensures size { IfOk result (λ stepped. states_of stepped.result.dfa ≤ stepped.width) }
+    ensures within { IfOk result (λ stepped. stepped.width ≤ limit) }
+    ensures states { IsErrOf result OpFault.States
+        → HasApart (LeadAlike (G.after graph.now) (G.start graph.now)) (G.letters graph.now) (limit + 1) }
+    ensures no_letters { ¬ IsErrOf result OpFault.Letters }
+{
     let mut keys = Numbering::new(alloc);
     keys.number_of(&graph.first_key(alloc)?)?;
     if limit == 0 {
@@ -73,8 +112,9 @@ pub fn explore<G: KeyGraph>(
         }
     }
     let width = keys.len() as u32 + u32::from(gap);
+    let dfa = Dfa::from_states(alloc, alphabet, rows)?;
     Ok(Stepped {
-        result: Dfa::from_states(alloc, alphabet, rows)?,
+        result: Explored { dfa, keys },
         width,
     })
 }

@@ -7,7 +7,7 @@ use Rattle.std.proofs.lemmas.Bool.{cases_lt, false≢true}
 use Rattle.std.proofs.lemmas.List.{get_or_append_left, length-append, take-append-drop, take_all, get_or_default}
 use Rattle.std.proofs.lemmas.List.Elements.{filter-append}
 use Rattle.digit_tuple.specs.StepResults.{IsRefusedBy}
-use Rattle.digit_tuple.specs.Steps.{StepLog, with_line}
+use Rattle.digit_tuple.specs.Steps.{StepLog, with_line, with_lines}
 use Rattle.digit_tuple.specs.declared.step_fault.StepFault.{StepFault}
 use Rattle.digit_tuple.specs.declared.step_fault.StepFault.TheVariants as faults
 use Rattle.digit_tuple.specs.declared.steps.StepLine.{StepLine}
@@ -16,8 +16,8 @@ use Rattle.formula_plan.specs.Tracks.{fresh}
 use Rattle.formula_plan.specs.Plans.{Plan, is_step, number}
 use Rattle.formula_plan.specs.Makings.{plan_at, plan_by, IsMakingAt, AreMakingsOf}
 use Rattle.formula_plan.specs.declared.making.Making.{Making}
-use Rattle.number_relations.specs.Relations.{RelationValue, no_automaton}
-use Rattle.number_relations.specs.Multiples.{with_lines}
+use Rattle.num_system.specs.Tracks.{no_automaton}
+use Rattle.number_relations.specs.Relations.{RelationValue}
 use Rattle.formula_build.specs.Libraries.{LibraryValue}
 use Rattle.formula_build.specs.Makings.{Makes, IsReady}
 use Rattle.formula_build.specs.Building.{IsStep, PassesLetters, PassesStates, AreSteps, IsBuilt, IsStopped}

@@ -26,7 +26,7 @@ use Rattle.formula_resolve.specs.declared.fault.ResolveFault.{ResolveFault}
 use Rattle.formula_resolve.specs.declared.fault.ResolveFault.TheVariants as faults
 use Rattle.formula_resolve.specs.declared.direction.Turn.{Turn}
 use Rattle.formula_resolve.specs.declared.occurrence.Occurrence.{Occurrence}
-use Rattle.formula_build.specs.TrackSystems.{TrackSystems, with_system, IsOver}
+use Rattle.formula_build.specs.TrackSystems.{TrackSystems, TracksHaveOneDirection, with_system, IsOver}
 use Rattle.formula_build.specs.Resolved.{plan_headers, HaveOneWay, AreWays}
 use Rattle.formula_build.proofs.AllLemmas.{all_first, all_second}
 use Rattle.formula_build.proofs.HasLemmas.{has_cases, has_either}
@@ -58,7 +58,7 @@ automaton_counted h n ts none =
     (unless_plain (is_plain h n) (faults.Plain n) (miscount n (length (automaton_tracks h n)) (mentions.count ts)) none)
     ∙ count_same ts
 
-word_counted : (h : Headers) (x : Index) → misuse h (mentions.index_mention x) ≡ None → length (word_tracks h x.word) ≡ count x.places
+pub word_counted : (h : Headers) (x : Index) → misuse h (mentions.index_mention x) ≡ None → length (word_tracks h x.word) ≡ count x.places
 word_counted h x none = counted x.word (length (word_tracks h x.word)) (mentions.count x.places) none ∙ count_same x.places
 
 -- a variable that a term is occurs in it
@@ -283,11 +283,14 @@ module _ (h : Headers) (way : Name → Direction) (ways : AreWays h way) (scope 
       (same_systems of_y.0 g us y.places ps.next (λ i low high. parted_above ps.next of_x.0 of_y.0 i low) of_y.1) second in
       let all_x : take (count x.places) ss ≡ ss = take_all (count x.places) ss (omega (arith, one)) in
       let all_y : take (count y.places) us ≡ us = take_all (count y.places) us (omega (arith, two)) in
-      let inside = over_all_closed ph way on d ps.placed base are_x.over (are_x.systems ∙ all_x, are_y.systems ∙ all_y) (both on d ps.placed qs.placed are_x.faces are_y.faces) in (
+      let inside = over_all_closed ph way on d ps.placed base are_x.over (are_x.systems ∙ all_x, are_y.systems ∙ all_y, across on d (tracks_of ps.placed) (tracks_of qs.placed) are_x.faces are_y.faces) (both on d ps.placed qs.placed are_x.faces are_y.faces) in (
         g,
         subst (λ (p : Plan). IsOver ph way on p) (sym (all_closed ps.placed qs.placed base)) (over_all_closed ph way on d qs.placed (closed_all ps.placed base) are_y.over inside.0 inside.1).0,
       )
     where
+      across : (on : TrackSystems) (d : Direction) (ts us : List Track) → AllByRecursion (Faces way on d) ts → AllByRecursion (Faces way on d) us → TracksHaveOneDirection way on ts us
+      across on d ts us first second s t in_ts in_us = each_among (Faces way on d) ts first s in_ts ∙ sym (each_among (Faces way on d) us second t in_us)
+
       both : (on : TrackSystems) (d : Direction) (ps qs : Places) → AllByRecursion (Faces way on d) (tracks_of ps) → AllByRecursion (Faces way on d) (tracks_of qs)
           → (u : Track) → has_track (tracks_of ps ++ tracks_of qs) u ≡ true → Faces way on d u
       both on d ps qs first second u is = elim (has_either (tracks_of ps) (tracks_of qs) u is) [

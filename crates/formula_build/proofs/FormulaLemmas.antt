@@ -62,12 +62,12 @@ module _ (l : LibraryValue) (library : IsLibrary l) where
   all_decided (added y s t u) c named ready made = decided (added y s t u) c named ready made
   all_decided (number y t) c named ready made = decided (number y t) c named ready made
   all_decided (called n ts) c named ready made = decided (called n ts) c named ready made
-  all_decided (lettered n ts r b) c named ready made = absurd made
+  all_decided (lettered n ts r b) c named ready made = decided (lettered n ts r b) c named ready made
   all_decided (renamed s t p) c named ready made = (decided (renamed s t p) c named ready made, all_decided p made.0 named.2 ready.0 made.1)
   all_decided (constant y k t) c named ready made = decided (constant y k t) c named ready made
   all_decided (joined j p q) c named ready made =
       (decided (joined j p q) c named ready made, all_decided p made.0 named.0 ready.0 made.2, all_decided q made.1 named.1 ready.1 made.3)
-  all_decided (paired n ts r w us) c named ready made = absurd made
+  all_decided (paired n ts r w us) c named ready made = decided (paired n ts r w us) c named ready made
   all_decided (complement p) c named ready made = (decided (complement p) c named ready made, all_decided p made.0 named ready made.1)
   all_decided (projected t p) c named ready made = (decided (projected t p) c named ready made, all_decided p made.0 named.1 ready.0 made.1)
 

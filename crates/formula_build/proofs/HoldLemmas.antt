@@ -1,5 +1,5 @@
 -- What a plan makes holds of the numbers of which the plan says it.
-use Rattle.std.proofs.Common.{◌≡◌, ◌↔◌, ℕ, Bool, true, false, List, [], ◌∷◌, map, refl, sym, ◌∙◌, subst, if◌then◌else◌, ◌+◌}
+use Rattle.std.proofs.Common.{◌≡◌, ◌↔◌, ℕ, ℤ, Bool, true, false, List, [], ◌∷◌, map, refl, sym, ◌∙◌, subst, if◌then◌else◌, ◌+◌}
 use Rattle.std.specs.Prelude.{⊤}
 use Rattle.std.specs.Str.{bytes_eq}
 use Rattle.std.proofs.lemmas.List.{length-map}
@@ -17,7 +17,8 @@ use Rattle.formula_plan.proofs.AgreementLemmas.{Agree, agrees, agree_back}
 use Rattle.num_system.specs.Joined.{Joined, IsBound}
 use Rattle.num_system.specs.Sealed.{SystemValue, IsSealed}
 use Rattle.number_relations.specs.Relations.{RelationValue, IsRelation, RelationHolds, HoldsOver}
-use Rattle.number_relations.specs.Placed.{changed_name, changed_names, each_once, systems_under}
+use Rattle.num_system.specs.Tracks.{systems_under}
+use Rattle.number_relations.specs.Placed.{changed_name, changed_names, each_once}
 use Rattle.number_relations.specs.Comparisons.{compared_names}
 use Rattle.number_relations.specs.Comparisons as comparisons
 use Rattle.number_relations.proofs.ComplementLemmas.{complement_is, complement_holds}
@@ -25,14 +26,19 @@ use Rattle.number_relations.proofs.ConstantRelations.{constant_is, constant_hold
 use Rattle.number_relations.proofs.JoinLemmas.{join_is}
 use Rattle.number_relations.proofs.NamedSteps.{own_named, join_named, projection_named, changed}
 use Rattle.number_relations.proofs.ProjectLemmas.{projection_is}
+use Rattle.word_output.specs.LetterSets as letters
+use Rattle.word_output.specs.Words.{WordValue, IsWordValue, HasLetter}
 use Rattle.formula_build.specs.TrackNames.{track_name, numbers_by, IsNamed, AreNamed}
-use Rattle.formula_build.specs.Libraries.{LibraryValue, IsLibrary, IsRelationIn, meanings_of}
-use Rattle.formula_build.specs.Makings.{Makes, IsReady, comparison_of, op_of}
+use Rattle.formula_build.specs.Libraries.{LibraryValue, IsLibrary, IsRelationIn, IsWordIn, meanings_of}
+use Rattle.formula_build.specs.Makings.{Makes, IsReady, comparison_of, op_of, placed_on}
+use Rattle.formula_build.specs.PairRelations.{MayPairWords}
 use Rattle.formula_build.specs.Laws.{PlansHold}
 use Rattle.formula_build.proofs.TrackNameLemmas.{changed_is, named_track}
-use Rattle.formula_build.proofs.OneMadeLemmas.{system_sealed}
+use Rattle.formula_build.proofs.LetterRelationLemmas.{set_says}
+use Rattle.formula_build.proofs.OneMadeLemmas.{one_word, system_sealed, word_is}
+use Rattle.formula_build.proofs.PairRelationLemmas.{pair_is, pair_named}
 
--- two ways of telling a comparison, and a connective
+-- two ways of telling a comparison of numbers, and of letters, and a connective
 compares_same : (r : Relation) (x y : ℕ) → comparisons.Compares (comparison_of r) x y ↔ truth.Compares r x y
 compares_same equal x y = (λ h. h, λ h. h)
 compares_same unequal x y = (λ h. h, λ h. h)
@@ -40,6 +46,14 @@ compares_same less x y = (λ h. h, λ h. h)
 compares_same greater x y = (λ h. h, λ h. h)
 compares_same at_most x y = (λ h. h, λ h. h)
 compares_same at_least x y = (λ h. h, λ h. h)
+
+letters_same : (r : Relation) (x y : ℤ) → letters.ComparesLetters (comparison_of r) x y ↔ truth.ComparesLetters r x y
+letters_same equal x y = (λ h. h, λ h. h)
+letters_same unequal x y = (λ h. h, λ h. h)
+letters_same less x y = (λ h. h, λ h. h)
+letters_same greater x y = (λ h. h, λ h. h)
+letters_same at_most x y = (λ h. h, λ h. h)
+letters_same at_least x y = (λ h. h, λ h. h)
 
 joins_same : (j : Joint) (P Q : Type 0) → Joined (op_of j) P Q ↔ Joins j P Q
 joins_same and P Q = (λ h. h, λ h. h)
@@ -87,6 +101,52 @@ module _ (l : LibraryValue) (library : IsLibrary l) where
 
       back : (f : List ℕ → ℕ) → (q : RelationValue) × IsRelationIn l n q × RelationHolds q (map (numbers_by f) ts) → HoldsOver r.systems r.automaton (map f under)
       back f (q, also, h) = subst (HoldsOver r.systems r.automaton) (sym (map-map f track_name ts)) (subst (λ (w : RelationValue). RelationHolds w (map (numbers_by f) ts)) (same_Some q r (sym also ∙ is)) h)
+
+  -- the word of a name has a letter at numbers where it has it at those under the tracks' names
+  has_there : (n : List ℕ) (w : WordValue) (ts : List Track) (f : List ℕ → ℕ) (x : ℤ) → IsWordIn l n w → HasLetter w (map f (map track_name ts)) x → m.has_letter n (map (numbers_by f) ts) x
+  has_there n w ts f x is has = (w, is, subst (λ (ns : List ℕ). HasLetter w ns x) (map-map f track_name ts) has)
+
+  has_back : (n : List ℕ) (w : WordValue) (ts : List Track) (f : List ℕ → ℕ) (x : ℤ) → IsWordIn l n w → m.has_letter n (map (numbers_by f) ts) x → HasLetter w (map f (map track_name ts)) x
+  has_back n w ts f x is (v, also, has) =
+      subst (λ (ns : List ℕ). HasLetter w ns x) (sym (map-map f track_name ts)) (subst (λ (u : WordValue). HasLetter u (map (numbers_by f) ts) x) (one_word l n w v is also) has)
+
+  lettered_says : (n : List ℕ) (ts : List Track) (r : Relation) (b : ℤ) (c : RelationValue) → Makes l (lettered n ts r b) c → Says l (lettered n ts r b) c
+  lettered_says n ts r b c (w, is, (d, set, made)) = (made.relation, says)
+    where
+      under : List (List ℕ)
+      under = map track_name ts
+
+      names : List (List ℕ)
+      names = each_once under
+
+      says : (f : List ℕ → ℕ) → RelationHolds c (map f c.names) ↔ Means m (lettered n ts r b) (numbers_by f)
+      says f =
+          either_way (own_named names (systems_under under w.systems names) (λ number_of. HoldsOver w.systems d (map number_of under)) c made f)
+          (either_way (set_says w (comparison_of r) b d (word_is l n w library is) set (map f under)) (
+            λ (x, has, compares). (x, has_there n w ts f x is has, (letters_same r x b).0 compares),
+            λ (x, has, compares). (x, has_back n w ts f x is has, (letters_same r x b).1 compares),
+          ))
+
+  paired_says : (n : List ℕ) (ts : List Track) (r : Relation) (k : List ℕ) (us : List Track) (c : RelationValue) → IsReady l (paired n ts r k us) → Makes l (paired n ts r k us) c
+      → Says l (paired n ts r k us) c
+  paired_says n ts r k us c (x, y, is_x, is_y, ready) (v, w, is_v, is_w, made) = (pair_is (comparison_of r) (placed_on v ts) (placed_on w us) word_v word_w may c made, says)
+    where
+      word_v : IsWordValue v
+      word_v = word_is l n v library is_v
+
+      word_w : IsWordValue w
+      word_w = word_is l k w library is_w
+
+      may : MayPairWords (placed_on v ts) (placed_on w us)
+      may =
+          subst (λ (z : WordValue). MayPairWords (placed_on z ts) (placed_on w us)) (one_word l n v x is_v is_x)
+          (subst (λ (z : WordValue). MayPairWords (placed_on x ts) (placed_on z us)) (one_word l k w y is_w is_y) ready)
+
+      says : (f : List ℕ → ℕ) → RelationHolds c (map f c.names) ↔ Means m (paired n ts r k us) (numbers_by f)
+      says f = either_way (pair_named (comparison_of r) (placed_on v ts) (placed_on w us) word_v word_w may c made f) (
+        λ (i, j, first, second, compares). (i, j, has_there n v ts f i is_v first, has_there k w us f j is_w second, (letters_same r i j).0 compares),
+        λ (i, j, first, second, compares). (i, j, has_back n v ts f i is_v first, has_back k w us f j is_w second, (letters_same r i j).1 compares),
+      )
 
   constant_says : (y : List ℕ) (k : ℕ) (t : Track) (c : RelationValue) → Makes l (constant y k t) c → Says l (constant y k t) c
   constant_says y k t c (s, is, made) = (constant_is s k (track_name t) c sealed made, says)
@@ -190,11 +250,11 @@ module _ (l : LibraryValue) (library : IsLibrary l) where
       (made.relation, own_named names (map (λ name. v) names) (λ f. f (track_name s) + f (track_name t) ≡ f (track_name u)) c made)
   plan_says (number y t) c named ready (u, is, made) = (made.relation, own_named (track_name t ∷ []) (u ∷ []) (λ f. ⊤) c made)
   plan_says (called n ts) c named ready made = called_says n ts c made
-  plan_says (lettered n ts r b) c named ready made = absurd made
+  plan_says (lettered n ts r b) c named ready made = lettered_says n ts r b c made
   plan_says (renamed s t p) c named ready made = renamed_says s t p c named.0 named.2 (λ a is. plan_says p a named.2 ready.0 is) made
   plan_says (constant y k t) c named ready made = constant_says y k t c made
   plan_says (joined j p q) c named ready made = joined_says j p q c ready (λ a is. plan_says p a named.0 ready.0 is) (λ b is. plan_says q b named.1 ready.1 is) made
-  plan_says (paired n ts r w us) c named ready made = absurd made
+  plan_says (paired n ts r k us) c named ready made = paired_says n ts r k us c ready made
   plan_says (complement p) c named ready made = complement_says p c (λ a is. plan_says p a named ready is) made
   plan_says (projected t p) c named ready made = projected_says t p c named.0 named.1 (λ a is. plan_says p a named.1 ready.0 is) made
 

@@ -1,27 +1,28 @@
 -- The names in the plan of a resolved formula stand for something, where those that it names do.
 use Rattle.std.specs.Prelude.{⊤}
-use Rattle.std.proofs.Common.{◌≡◌, ℕ, zero, suc, ◌+◌, ◌-◌, ◌/◌, ◌%◌, ◌<◌, ◌==◌, Bool, true, false, if◌then◌else◌, List, [], ◌∷◌, slice_index_or, Option, None, Some, arith}
+use Rattle.std.proofs.Common.{◌≡◌, ℕ, ℤ, zero, suc, ◌+◌, ◌-◌, ◌/◌, ◌%◌, ◌<◌, ◌==◌, Bool, true, false, if◌then◌else◌, List, [], ◌∷◌, slice_index_or, Option, None, Some, arith, subst, sym}
 use Rattle.formula_parse.specs.Tokens.{Name, Sign, plus, minus, Relation, equal, Quantifier, some, every}
-use Rattle.formula_parse.specs.Trees.{Term, variable, numeral, product, sum, Factors, no_factors, factors, times, Terms, no_terms, terms, Addends, no_addends, addends, Fact, compare, words, word_letter, letter_word, call, Formula, atom, negated, chain, quantified, marked, Operands, no_operands, operands}
+use Rattle.formula_parse.specs.Trees.{Term, variable, numeral, product, sum, Factors, no_factors, factors, times, Terms, no_terms, terms, Addends, no_addends, addends, Index, Fact, compare, words, word_letter, letter_word, call, Formula, atom, negated, chain, quantified, marked, Operands, no_operands, operands}
 use Rattle.formula_plan.specs.Tracks.{Track, own, fresh}
-use Rattle.formula_plan.specs.Plans.{Plan, compared, added, called, complement, projected, tracks, Made}
+use Rattle.formula_plan.specs.Plans.{Plan, compared, added, called, lettered, paired, complement, projected, tracks, Made}
 use Rattle.formula_plan.specs.TermPlans.{TermPlan, closed_by, closed, no_times, linked, multiple, times_numeral, times_numerals, sum_relation, with_addend, numeral_plan, begun, term_plan, factor_plans, sum_plan}
-use Rattle.formula_plan.specs.FactPlans.{Places, no_places, places, tracks_of, closed_all, count, argument_plans, Form, long, variable_left, variable_right, form_by, is_equal, as_variable, named_by, compare_by, fact_plan}
+use Rattle.formula_plan.specs.FactPlans.{Places, no_places, places, tracks_of, closed_all, count, argument_plans, letter_plan, words_plan, mirrored, Form, long, variable_left, variable_right, form_by, is_equal, as_variable, named_by, compare_by, fact_plan}
 use Rattle.formula_plan.specs.FormulaPlans.{chained, kept, projected_all, quantified_made, plan_of, operand_plans}
-use Rattle.formula_resolve.specs.Headers.{Headers, automaton_tracks}
+use Rattle.formula_resolve.specs.Headers.{Headers, automaton_tracks, word_tracks}
 use Rattle.formula_resolve.specs.Mentions.{marks, mentions, mentions_among, fact_mentions}
 use Rattle.formula_resolve.specs.Mentions as mentioned
 use Rattle.formula_resolve.specs.Arity.{misuse, first_misuse}
 use Rattle.formula_resolve.specs.declared.mention.Mention.TheVariants.{Called}
 use Rattle.num_system.specs.Sealed.{SystemValue}
-use Rattle.number_relations.specs.Relations.{absent_system}
+use Rattle.num_system.specs.Tracks.{absent_system}
 use Rattle.digit_tuple.specs.declared.direction.Direction.{Direction}
 use Rattle.formula_build.specs.Libraries.{LibraryValue, IsSystemIn}
-use Rattle.formula_build.specs.KnownNames.{IsKnownFact, AreKnownIn, AreKnownAmong}
+use Rattle.formula_build.specs.KnownNames.{HasWord, IsKnownFact, AreKnownIn, AreKnownAmong}
 use Rattle.formula_build.specs.Resolved.{plan_headers}
 use Rattle.formula_build.specs.TrackSystems.{IsKnown, Fits}
-use Rattle.formula_build.proofs.FactOverLemmas.{neither, automaton_counted}
+use Rattle.formula_build.proofs.FactOverLemmas.{neither, automaton_counted, word_counted}
 use Rattle.formula_build.proofs.FormulaOverLemmas.{right_both}
+use Rattle.formula_build.proofs.PartLemmas.{all_closed}
 
 module _ (l : LibraryValue) where
   abbrev IsSystem : Name → Type 0
@@ -147,11 +148,34 @@ module _ (l : LibraryValue) where
   quantified_known every (k ∷ ks) m known = kept_known (k ∷ ks) (complement m.last) known
 
 module _ (l : LibraryValue) (h : Headers) (way : Name → Direction) (fits : Fits l (plan_headers h) way) where
+  -- the values of a known word's indices
+  indices_known : (x : Index) (k : ℕ) → misuse h (mentioned.index_mention x) ≡ None → HasWord l x.word → ArePlacesKnown l (argument_plans (word_tracks h x.word) x.places k).placed
+  indices_known x k right known =
+      let counted = word_counted h x right in
+      let over = fits.words x.word known.0 known.1 in
+      arguments_known l (word_tracks h x.word) x.places k (λ i low. (slice_index_or known.0.systems i absent_system, over.each i (omega (arith, low, counted))))
+
+  letter_known : (x : Index) (r : Relation) (b : ℤ) (k : ℕ) → misuse h (mentioned.index_mention x) ≡ None → HasWord l x.word → IsKnown l (letter_plan (plan_headers h) x r b k).last
+  letter_known x r b k right known =
+      let ps = argument_plans (word_tracks h x.word) x.places k in
+      all_closed_known l ps.placed (lettered x.word (tracks_of ps.placed) r b) (indices_known x k right known) known
+
+  words_known : (x : Index) (r : Relation) (y : Index) (k : ℕ) → misuse h (mentioned.index_mention x) ≡ None → misuse h (mentioned.index_mention y) ≡ None → HasWord l x.word → HasWord l y.word
+      → IsKnown l (words_plan (plan_headers h) x r y k).last
+  words_known x r y k right also first second =
+      let ps = argument_plans (word_tracks h x.word) x.places k in
+      let qs = argument_plans (word_tracks h y.word) y.places ps.next in
+      let base = paired x.word (tracks_of ps.placed) r y.word (tracks_of qs.placed) in
+      subst (IsKnown l) (sym (all_closed ps.placed qs.placed base))
+      (all_closed_known l qs.placed (closed_all ps.placed base) (indices_known y ps.next also second) (all_closed_known l ps.placed base (indices_known x k right first) (first, second)))
+
   fact_known : (s : Name) (x : Fact) (k : ℕ) → first_misuse h (fact_mentions x) ≡ None → IsKnownFact l s x → IsKnown l (fact_plan (plan_headers h) s x k).last
   fact_known s (compare t r u) k right known = compare_known l (form_by (is_equal r) (as_variable t) (as_variable u)) s t r u k known
-  fact_known s (words x r y) k right known = absurd known
-  fact_known s (word_letter x r b) k right known = absurd known
-  fact_known s (letter_word b r x) k right known = absurd known
+  fact_known s (words x r y) k right known =
+      let of_x = neither (misuse h (mentioned.index_mention x)) (first_misuse h (mentioned.index_mention y ∷ [])) right in
+      words_known x r y k of_x.0 (neither (misuse h (mentioned.index_mention y)) None of_x.1).0 known.0 known.1
+  fact_known s (word_letter x r b) k right known = letter_known x r b k (neither (misuse h (mentioned.index_mention x)) None right).0 known
+  fact_known s (letter_word b r x) k right known = letter_known x (mirrored r) b k (neither (misuse h (mentioned.index_mention x)) None right).0 known
   fact_known s (call n ts) k right known =
       let ss = automaton_tracks h n in
       let ps = argument_plans ss ts k in

@@ -9,8 +9,9 @@ use Rattle.digit_tuple.specs.declared.step_fault.StepFault.TheVariants as faults
 use Rattle.digit_tuple.specs.declared.steps.StepLine.{StepLine}
 use Rattle.num_system.specs.Sealed.{SystemValue}
 use Rattle.number_relations.specs.Relations.{RelationValue}
+use Rattle.word_output.specs.Words.{WordValue}
 use Rattle.formula_plan.specs.Plans.{Plan, Made, compared, added, number, called, lettered, renamed, constant, joined, paired, complement, projected}
-use Rattle.formula_build.specs.Libraries.{LibraryValue, NamedSystem, NamedRelation, IsLibrary, AreSealed, IsSystemIn, IsRelationIn, system_named, relation_named}
+use Rattle.formula_build.specs.Libraries.{LibraryValue, NamedSystem, NamedRelation, NamedWord, IsLibrary, AreSealed, IsSystemIn, IsRelationIn, IsWordIn, system_named, relation_named, word_named}
 use Rattle.formula_build.specs.Makings.{Makes}
 use Rattle.formula_build.specs.Building.{IsStep, PassesLetters, PassesStates, AreSteps}
 use Rattle.formula_build.specs.Solutions.{BuildsFormula}
@@ -19,18 +20,19 @@ use Rattle.formula_build.specs.OneBuilding.{Agree}
 -- what a name stands for in the one it stands for in the other
 pub record IsWithin (l n : LibraryValue) : Type 0 where
   pub relations : (name : List ℕ) (r : RelationValue) → IsRelationIn l name r → IsRelationIn n name r
+  pub words : (name : List ℕ) (w : WordValue) → IsWordIn l name w → IsWordIn n name w
   pub systems : (name : List ℕ) (s : SystemValue) → IsSystemIn l name s → IsSystemIn n name s
 
--- the systems of both, and the relations of the first
+-- the systems of both, and the relations and words of the first
 abbrev pub both : LibraryValue → LibraryValue → LibraryValue
-both l m = record { relations = l.relations; systems = l.systems ++ m.systems }
+both l m = record { relations = l.relations; words = l.words; systems = l.systems ++ m.systems }
 
 sealed_both : (ss ts : List NamedSystem) → AreSealed ss → AreSealed ts → AreSealed (ss ++ ts)
 sealed_both [] ts first second = second
 sealed_both (s ∷ ss) ts first second = (first.0, sealed_both ss ts first.1 second)
 
 pub both_library : (l m : LibraryValue) → IsLibrary l → IsLibrary m → IsLibrary (both l m)
-both_library l m first second = record { relations = first.relations; systems = sealed_both l.systems m.systems first.systems second.systems }
+both_library l m first second = record { relations = first.relations; words = first.words; systems = sealed_both l.systems m.systems first.systems second.systems }
 
 -- the first of a name stays so where more come after
 pub named_first : (ss ts : List NamedSystem) (name : List ℕ) (s : SystemValue) → system_named ss name ≡ Some s → system_named (ss ++ ts) name ≡ Some s
@@ -52,11 +54,12 @@ named_second (n ∷ ss) ts name s same is = by (bytes_eq n.name name) (λ (alike
     by false rest same = rest same
 
 pub first_within : (l m : LibraryValue) → IsWithin l (both l m)
-first_within l m = record { relations = λ name r is. is; systems = λ name s is. named_first l.systems m.systems name s is }
+first_within l m = record { relations = λ name r is. is; words = λ name w is. is; systems = λ name s is. named_first l.systems m.systems name s is }
 
 pub second_within : (l m : LibraryValue) → Agree l m → IsWithin m (both l m)
 second_within l m agree = record {
   relations = λ name r is. subst (λ (rs : List NamedRelation). relation_named rs name ≡ Some r) (sym agree.relations) is;
+  words = λ name w is. subst (λ (ws : List NamedWord). word_named ws name ≡ Some w) (sym agree.words) is;
   systems = λ name s is. named_second l.systems m.systems name s (λ t there. agree.systems name t s there is) is;
 }
 
@@ -66,29 +69,32 @@ module _ (l n : LibraryValue) (within : IsWithin l n) where
   makes_within (added y s t u) c (system, is, makes) = (system, within.systems y system is, makes)
   makes_within (number y t) c (system, is, makes) = (system, within.systems y system is, makes)
   makes_within (called y ts) c (r, is, makes) = (r, within.relations y r is, makes)
-  makes_within (lettered y ts r b) c makes = makes
+  makes_within (lettered y ts r b) c (w, is, makes) = (w, within.words y w is, makes)
   makes_within (renamed s t p) c (a, is, makes) = (a, makes_within p a is, makes)
   makes_within (constant y k t) c (system, is, makes) = (system, within.systems y system is, makes)
   makes_within (joined j p q) c (a, b, is, also, makes) = (a, b, makes_within p a is, makes_within q b also, makes)
-  makes_within (paired y ts r w us) c makes = makes
+  makes_within (paired x ts r y us) c (v, w, is, also, makes) = (v, w, within.words x v is, within.words y w also, makes)
   makes_within (complement p) c (a, is, makes) = (a, makes_within p a is, makes)
   makes_within (projected t p) c (a, is, makes) = (a, makes_within p a is, makes)
 
   step_within : (limit : ℕ) (p : Plan) (c : RelationValue) (line : StepLine) → IsStep limit l p c line → IsStep limit n p c line
   step_within limit (constant y k t) c line (system, is, step) = (system, within.systems y system is, step)
   step_within limit (joined j p q) c line (a, b, is, also, step) = (a, b, makes_within p a is, makes_within q b also, step)
+  step_within limit (paired x ts r y us) c line (v, w, is, also, step) = (v, w, within.words x v is, within.words y w also, step)
   step_within limit (complement p) c line (a, is, step) = (a, makes_within p a is, step)
   step_within limit (projected t p) c line (a, is, step) = (a, makes_within p a is, step)
   step_within limit _ c line step = absurd step
 
   letters_within : (p : Plan) → PassesLetters l p → PassesLetters n p
   letters_within (joined j p q) (a, b, is, also, passes) = (a, b, makes_within p a is, makes_within q b also, passes)
+  letters_within (paired x ts r y us) (v, w, is, also, passes) = (v, w, within.words x v is, within.words y w also, passes)
   letters_within (projected t p) (a, is, passes) = (a, makes_within p a is, passes)
   letters_within _ passes = absurd passes
 
   states_within : (limit : ℕ) (p : Plan) → PassesStates limit l p → PassesStates limit n p
   states_within limit (constant y k t) (system, is, passes) = (system, within.systems y system is, passes)
   states_within limit (joined j p q) (a, b, is, also, passes) = (a, b, makes_within p a is, makes_within q b also, passes)
+  states_within limit (paired x ts r y us) (v, w, is, also, passes) = (v, w, within.words x v is, within.words y w also, passes)
   states_within limit (complement p) (a, is, passes) = (a, makes_within p a is, passes)
   states_within limit (projected t p) (a, is, passes) = (a, makes_within p a is, passes)
   states_within limit _ passes = absurd passes

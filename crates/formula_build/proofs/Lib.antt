@@ -1,9 +1,14 @@
-pub mod OneMadeLemmas
 pub mod AllLemmas
+pub mod LetterRelationLemmas
+pub mod PairRelationLemmas
+pub mod OneMadeLemmas
 pub mod HasLemmas
 pub mod TrackNameLemmas
 pub mod HoldLemmas
 pub mod FormulaLemmas
+pub mod UnderTracks
+pub mod StandLemmas
+pub mod WordTracks
 pub mod TrackSystemLemmas
 pub mod PartReady
 pub mod NeededLemmas

@@ -2,14 +2,14 @@
 use Rattle.std.proofs.Common.{◌≡◌, ◌≢◌, ℕ, List, [], ◌∷◌, ◌++◌, map, Result, Ok, Err, inl, inr, ◌⊎◌, refl, sym, ap, subst, ◌∙◌}
 use Rattle.digit_tuple.specs.Names.{joint_names}
 use Rattle.digit_tuple.specs.StepResults.{IsRefusedBy}
-use Rattle.digit_tuple.specs.Steps.{StepLog}
+use Rattle.digit_tuple.specs.Steps.{StepLog, with_lines}
 use Rattle.digit_tuple.specs.declared.step_fault.StepFault.{StepFault}
 use Rattle.digit_tuple.specs.declared.step_fault.StepFault.TheVariants as faults
 use Rattle.digit_tuple.specs.declared.steps.StepLine.{StepLine}
 use Rattle.formula_plan.specs.Plans.{Plan, Made}
 use Rattle.number_relations.specs.Relations.{RelationValue, RelationHolds}
-use Rattle.number_relations.specs.Placed.{IsOrdered, systems_under}
-use Rattle.number_relations.specs.Multiples.{with_lines}
+use Rattle.num_system.specs.Tracks.{systems_under}
+use Rattle.number_relations.specs.Placed.{IsOrdered}
 use Rattle.number_relations.proofs.RelationLemmas.{one_relation}
 use Rattle.formula_build.specs.Libraries.{LibraryValue, IsLibrary}
 use Rattle.formula_build.specs.Building.{IsStep, PassesLetters, PassesStates, AreSteps, IsStopped}

@@ -66,6 +66,7 @@ module _ (h : Headers) (way : Name → Direction) where
   over_depends (paired n ts r w us) on other same over = (
     sym (map_same on other ts (λ t there. same t (has_first ts us t there))) ∙ over.0,
     sym (map_same on other us (λ t there. same t (has_second ts us t there))) ∙ over.1,
+    λ s t first second. ap way (sym (same s (has_first ts us s first))) ∙ over.2 s t first second ∙ ap way (same t (has_second ts us t second)),
   )
   over_depends (complement p) on other same over = over_depends p on other same over
   over_depends (projected t p) on other same over = (

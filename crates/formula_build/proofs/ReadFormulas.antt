@@ -67,7 +67,7 @@ module _ (l : LibraryValue) where
   abbrev IsMet : Mention → Type 0
   IsMet (Marked s) = HasSystem l s
   IsMet (Called n k) = IsFileIn l (Automaton n)
-  IsMet (Indexed n k) = ⊥
+  IsMet (Indexed n k) = IsFileIn l (Word n)
 
   abbrev AreMet : List Mention → Type 0
   AreMet ms = AllByRecursion IsMet ms
@@ -111,9 +111,9 @@ module _ (l : LibraryValue) where
 
   atom_known : (a : Atom) (y : Name) → HasSystem l y → AreMet (fact_mentions (fact a)) → IsKnownFact l y (fact a)
   atom_known (compare t e u) y is met = is
-  atom_known (words x e z) y is met = absurd met.0
-  atom_known (word_letter x e d) y is met = absurd met.0
-  atom_known (letter_word d e x) y is met = absurd met.0
+  atom_known (words x e z) y is met = (met.0, met.1.0)
+  atom_known (word_letter x e d) y is met = met.0
+  atom_known (letter_word d e x) y is met = met.0
   atom_known (call_none n) y is met = met.0
   atom_known (call n ts) y is met = met.0
 
@@ -175,8 +175,8 @@ module _ (l : LibraryValue) where
         (chained_known (before_imp y f) (last_imp y f) parts.0 parts.1, is)
     core_known (atom a) y is met = (atom_known a y is met, is)
 
--- A formula that is read is known where each file that it mentions is an automaton of the library, and the default system and each
--- system that it mentions stand for something.
+-- A formula that is read is known where each file that it mentions, the default system and each system that it mentions stand for
+-- something.
 pub read_known : (l : LibraryValue) (h : Headers) (text : List ℕ) (f : trees.Formula) → Reads (tokens (spots text)) f
     → AllByRecursion (IsFileIn l) (first_files (mentions f)) → HasSystem l default_system → AllByRecursion (HasSystem l) (first_systems h (mentions f)) → AreKnownIn l f
 read_known l h text f reads files default systems =

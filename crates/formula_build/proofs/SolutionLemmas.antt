@@ -10,7 +10,8 @@ use Rattle.formula_plan.specs.Plans.{Plan, is_step}
 use Rattle.formula_plan.specs.Makings.{plan_at}
 use Rattle.formula_plan.specs.PlanLists.{IsPlanOf}
 use Rattle.number_relations.specs.Relations.{RelationValue, RelationHolds}
-use Rattle.number_relations.specs.Placed.{IsOrdered, systems_under}
+use Rattle.num_system.specs.Tracks.{systems_under}
+use Rattle.number_relations.specs.Placed.{IsOrdered}
 use Rattle.number_relations.proofs.NamedSteps.{own_named}
 use Rattle.formula_build.specs.KnownNames.{AreKnownIn}
 use Rattle.formula_build.specs.Libraries.{LibraryValue, IsLibrary}

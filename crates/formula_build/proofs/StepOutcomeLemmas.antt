@@ -9,12 +9,15 @@ use Rattle.number_relations.specs.Joins.{IsRelationJoinStep, RelationJoinExceeds
 use Rattle.number_relations.specs.Complements.{IsRelationComplementStep, RelationComplementExceeds}
 use Rattle.number_relations.specs.Projections.{IsRelationProjectStep, RelationProjectExceedsLetters, RelationProjectExceeds}
 use Rattle.number_relations.proofs.StepOutcomes.{complement_one, constant_one, join_one, project_one}
-use Rattle.formula_plan.specs.Plans.{Plan, constant, joined, complement, projected}
+use Rattle.formula_plan.specs.Plans.{Plan, constant, joined, paired, complement, projected}
 use Rattle.formula_build.specs.TrackNames.{track_name}
-use Rattle.formula_build.specs.Libraries.{LibraryValue, IsLibrary, IsSystemIn}
-use Rattle.formula_build.specs.Makings.{Makes, op_of}
+use Rattle.word_output.specs.Words.{WordValue}
+use Rattle.formula_build.specs.Libraries.{LibraryValue, IsLibrary, IsWordIn, IsSystemIn}
+use Rattle.formula_build.specs.PairRelations.{IsRelationPairStep, RelationPairExceedsLetters, RelationPairExceeds}
+use Rattle.formula_build.specs.Makings.{Makes, comparison_of, op_of, placed_on}
 use Rattle.formula_build.specs.Building.{IsStep, PassesLetters, PassesStates}
-use Rattle.formula_build.proofs.OneMadeLemmas.{made_once, one_system}
+use Rattle.formula_build.proofs.OneMadeLemmas.{made_once, one_system, one_word}
+use Rattle.formula_build.proofs.PairRelationLemmas.{pair_one}
 
 -- what is not done has one outcome
 no_step : HasOneOutcome RelationValue (λ c line. ⊥) ⊥ ⊥
@@ -75,6 +78,10 @@ module _ (limit : ℕ) (l : LibraryValue) (library : IsLibrary l) where
   step_outcome (joined j p q) =
       of_two RelationValue (Makes l p) (Makes l q) (IsRelationJoinStep limit (op_of j)) RelationJoinExceedsLetters (RelationJoinExceeds limit (op_of j)) (one_relation p) (one_relation q)
       (join_one limit (op_of j))
+  step_outcome (paired n ts r m us) =
+      of_two WordValue (IsWordIn l n) (IsWordIn l m) (λ v w. IsRelationPairStep limit (comparison_of r) (placed_on v ts) (placed_on w us))
+      (λ v w. RelationPairExceedsLetters (placed_on v ts) (placed_on w us)) (λ v w. RelationPairExceeds limit (placed_on v ts) (placed_on w us)) (one_word l n) (one_word l m)
+      (λ v w. pair_one limit (comparison_of r) (placed_on v ts) (placed_on w us))
   step_outcome (complement p) =
       let Step : RelationValue → RelationValue → StepLine → Type 0 = IsRelationComplementStep limit in
       without_letters (λ c line. (a : RelationValue) × Makes l p a × Step a c line) ((a : RelationValue) × Makes l p a × ⊥) ((a : RelationValue) × Makes l p a × RelationComplementExceeds limit a)

@@ -1,10 +1,10 @@
 -- A plan whose tracks stand over systems can be made.
 use Rattle.std.proofs.Common.{◌≡◌, ◌≢◌, ℕ, ◌<◌, Bool, true, false, List, [], ◌∷◌, ◌++◌, map, length, get_or, inl, inr, ◌⊎◌, refl, sym, ap, ◌∙◌, subst, arith, if◌then◌else◌}
-use Rattle.std.specs.List.{All, AllByRecursion, Contains}
+use Rattle.std.specs.List.{Contains}
 use Rattle.std.specs.Str.{bytes_eq}
 use Rattle.std.proofs.lemmas.Bool.{false≢true}
 use Rattle.std.proofs.lemmas.List.{get_or_default, get_or-map, length-map}
-use Rattle.std.proofs.lemmas.List.Elements.{All-from_recursion, All-get_or, Contains-get_or}
+use Rattle.std.proofs.lemmas.List.Elements.{Contains-get_or}
 use Rattle.std.proofs.lemmas.Option.{same_Some}
 use Rattle.std.proofs.lemmas.Slice.Eq.{bytes_eq-Decides}
 use Rattle.digit_tuple.specs.Names.{AreJoint, place_of, joint_names, names_without}
@@ -15,9 +15,10 @@ use Rattle.digit_tuple.proofs.NameLemmas.{place_of-contained, place_of-is}
 use Rattle.product_op.specs.declared.op.Op.{Op}
 use Rattle.project_close.proofs.ProjectionLemmas.{names_without-there}
 use Rattle.num_system.specs.Sealed.{SystemValue}
-use Rattle.number_relations.specs.Relations.{RelationValue, IsRelation, absent_system, system_under}
+use Rattle.num_system.specs.Tracks.{absent_system, system_under, systems_under}
+use Rattle.number_relations.specs.Relations.{RelationValue, IsRelation}
 use Rattle.number_relations.specs.Relations as relations
-use Rattle.number_relations.specs.Placed.{each_once, systems_under, AgreeUnder, IsRenamed, changed_name, changed_names}
+use Rattle.number_relations.specs.Placed.{IsRenamed, changed_name, changed_names}
 use Rattle.number_relations.specs.Comparisons.{compared_names}
 use Rattle.number_relations.specs.Complements.{IsRelationComplement}
 use Rattle.number_relations.specs.Joins.{AgreeOnSystems, IsRelationJoin}
@@ -25,35 +26,21 @@ use Rattle.number_relations.specs.Joins as joins
 use Rattle.number_relations.specs.Projections.{IsRelationProjection}
 use Rattle.number_relations.proofs.JointSystems.{joint_first, joint_second}
 use Rattle.number_relations.proofs.NamedSteps.{other_stays, stays_other}
-use Rattle.number_relations.proofs.OnceLemmas.{once_contains, once_others}
 use Rattle.formula_parse.specs.Tokens.{Name, Relation, equal, unequal, less, greater, at_most, at_least}
-use Rattle.formula_plan.specs.Tracks.{Track, fresh, same_track, has_track, without}
+use Rattle.formula_plan.specs.Tracks.{Track, same_track, has_track, without}
 use Rattle.formula_plan.specs.Plans.{Plan, compared, added, number, called, lettered, renamed, constant, joined, paired, complement, projected, tracks}
 use Rattle.formula_plan.specs.FactPlans.{Headers}
 use Rattle.formula_plan.proofs.TrackLemmas.{same_self, same_is}
 use Rattle.formula_build.specs.TrackNames.{track_name, IsNamed, AreNamed}
-use Rattle.formula_build.specs.Libraries.{LibraryValue, IsLibrary, IsSystemIn, IsRelationIn}
+use Rattle.formula_build.specs.Libraries.{LibraryValue, IsLibrary, IsSystemIn}
 use Rattle.formula_build.specs.Makings.{Makes, IsReady, MayJoin, comparison_of, op_of}
-use Rattle.formula_build.specs.TrackSystems.{TrackSystems, with_system, HaveOneDirection, IsOver, IsKnown, IsOverSystems, Fits}
+use Rattle.formula_build.specs.TrackSystems.{TrackSystems, with_system, HaveOneDirection, IsOver, IsKnown, Fits}
 use Rattle.formula_build.proofs.HasLemmas.{Stands, first_is, has_cases, has_contains, contains_has, stands_later, has_either, has_first, has_second, exchanged, stays_apart, other_track_stays}
 use Rattle.formula_build.proofs.HoldLemmas.{plan_says}
-use Rattle.formula_build.proofs.TrackNameLemmas.{names_tell, named_among, named_track}
-
--- The relation has these tracks, each over its system.
-pub record HasTracks (l : LibraryValue) (on : TrackSystems) (ts : List Track) (c : RelationValue) : Type 0 where
-  pub there : (t : Track) → has_track ts t ≡ true → Contains c.names (track_name t)
-  pub only : (name : List ℕ) → Contains c.names name → Stands ts name
-  pub over : (t : Track) → has_track ts t ≡ true → IsSystemIn l (on t) (relations.system_named c (track_name t))
-
--- the systems of names, found again by these
-found_again : (under : List (List ℕ)) (systems : List SystemValue) (names : List (List ℕ)) (name : List ℕ) → Contains names name → system_under names (systems_under under systems names) name ≡ system_under under systems name
-found_again under systems names name found =
-    let spot = place_of-contained names name found in
-    get_or-map (system_under under systems) names (place_of names name) [] absent_system spot.0 ∙ ap (system_under under systems) spot.1
-
--- a name among names that are all so is so
-each_of : (P : List ℕ → Type 0) (names : List (List ℕ)) (name : List ℕ) → All P names → Contains names name → P name
-each_of P names name all found = let spot = place_of-contained names name found in subst P spot.1 (all (place_of names name) [] spot.0)
+use Rattle.formula_build.proofs.StandLemmas.{stand_agree, stand_count, stand_over}
+use Rattle.formula_build.proofs.TrackNameLemmas.{names_tell, named_track}
+use Rattle.formula_build.proofs.UnderTracks.{HasTracks, each_of, found_again, placed_tracks, tracks_over_one}
+use Rattle.formula_build.proofs.WordTracks.{pair_may, pair_tracks, word_count}
 
 apart_names : (s t : Track) → IsNamed s → IsNamed t → same_track s t ≡ false → track_name t ≢ track_name s
 apart_names s t named also apart same = false≢true (sym apart ∙ ap (same_track s) (names_tell t s also named same) ∙ same_self s)
@@ -64,44 +51,6 @@ apart_tracks s t other = by (same_track s t) refl
     by : (b : Bool) → same_track s t ≡ b → b ≡ false
     by true same = absurd (other (ap track_name (sym (same_is s t same))))
     by false apart = refl
-
--- tracks under names that may repeat
-module _ (l : LibraryValue) (on : TrackSystems) (ts : List Track) (under : List (List ℕ)) (c : RelationValue) (once : c.names ≡ each_once under)
-    (there : (t : Track) → has_track ts t ≡ true → Contains under (track_name t)) (only : (name : List ℕ) → Contains under name → Stands ts name) where
-  has_name : (t : Track) → has_track ts t ≡ true → Contains c.names (track_name t)
-  has_name t is = subst (λ (names : List (List ℕ)). Contains names (track_name t)) (sym once) (once_contains under (track_name t) (there t is))
-
-  name_stands : (name : List ℕ) → Contains c.names name → Stands ts name
-  name_stands name found =
-      only name (each_of (Contains under) (each_once under) name (once_others under) (subst (λ (names : List (List ℕ)). Contains names name) once found))
-
-  -- each over its own system
-  pub placed_tracks : (systems : List SystemValue) → c.systems ≡ systems_under under systems (each_once under)
-      → ((t : Track) → has_track ts t ≡ true → IsSystemIn l (on t) (system_under under systems (track_name t))) → HasTracks l on ts c
-  placed_tracks systems are over = record {
-    there = has_name;
-    only = name_stands;
-    over = λ t is.
-        subst (IsSystemIn l (on t))
-        (sym (ap (λ (ss : List SystemValue). system_under c.names ss (track_name t)) are
-        ∙ ap (λ (names : List (List ℕ)). system_under names (systems_under under systems (each_once under)) (track_name t)) once
-        ∙ found_again under systems (each_once under) (track_name t) (once_contains under (track_name t) (there t is))))
-        (over t is);
-  }
-
-  -- all over one system
-  pub tracks_over_one : (y : Name) (s : SystemValue) → IsSystemIn l y s → c.systems ≡ map (λ name. s) (each_once under) → ((t : Track) → has_track ts t ≡ true → on t ≡ y) → HasTracks l on ts c
-  tracks_over_one y s is_s are over = record {
-    there = has_name;
-    only = name_stands;
-    over = λ t is.
-        let spot = place_of-contained (each_once under) (track_name t) (once_contains under (track_name t) (there t is)) in
-        let found : relations.system_named c (track_name t) ≡ s =
-        ap (λ (ss : List SystemValue). system_under c.names ss (track_name t)) are
-        ∙ ap (λ (names : List (List ℕ)). system_under names (map (λ name. s) (each_once under)) (track_name t)) once
-        ∙ get_or-map (λ name. s) (each_once under) (place_of (each_once under) (track_name t)) [] absent_system spot.0 in
-        subst (λ (x : Name). IsSystemIn l x (relations.system_named c (track_name t))) (sym (over t is)) (subst (IsSystemIn l y) (sym found) is_s);
-  }
 
 -- a comparison has its tracks in one order or the other
 compared_there : (r : Relation) (s t u : Track) → has_track (s ∷ t ∷ []) u ≡ true → Contains (compared_names (comparison_of r) (track_name s) (track_name t)) (track_name u)
@@ -129,16 +78,6 @@ two_over on y s t first second u found = elim (has_cases s (t ∷ []) u found) [
 
 three_over : (on : TrackSystems) (y : Name) (s t w : Track) → on s ≡ y → on t ≡ y → on w ≡ y → (u : Track) → has_track (s ∷ t ∷ w ∷ []) u ≡ true → on u ≡ y
 three_over on y s t w first second third u found = elim (has_cases s (t ∷ w ∷ []) u found) [ inl same ↦ ap on (sym same) ∙ first | inr later ↦ two_over on y t w second third u later ]
-
--- the first place of a track's name among those of a list is one of its own
-own_place : (ts : List Track) (t : Track) → AllByRecursion IsNamed ts → IsNamed t → has_track ts t ≡ true
-    → (i : ℕ) × (i ≡ place_of (map track_name ts) (track_name t)) × (i < length ts) × (get_or ts i (fresh 0) ≡ t)
-own_place ts t all named is =
-    let spot = place_of-contained (map track_name ts) (track_name t) (has_contains ts t is) in
-    let i : ℕ = place_of (map track_name ts) (track_name t) in
-    let within : i < length ts = omega (arith, spot.0, length-map ts track_name) in
-    let same : track_name (get_or ts i (fresh 0)) ≡ track_name t = sym (get_or-map track_name ts i (fresh 0) [] within) ∙ spot.1 in
-    (i, refl, within, names_tell (get_or ts i (fresh 0)) t (All-get_or IsNamed ts i (fresh 0) within (All-from_recursion IsNamed ts all)) named same)
 
 module _ (l : LibraryValue) (h : Headers) (way : Name → Direction) (fits : Fits l h way) (library : IsLibrary l) where
   one_system : (y : Name) (s t : SystemValue) → IsSystemIn l y s → IsSystemIn l y t → s ≡ t
@@ -258,41 +197,6 @@ module _ (l : LibraryValue) (h : Headers) (way : Name → Direction) (fits : Fit
         (has.over t is);
   }
 
-  -- the tracks of a known relation stand over its systems
-  module _ (on : TrackSystems) (ts : List Track) (n : Name) (r : RelationValue) (is : IsRelationIn l n r) (same : map on ts ≡ h.of_automaton n) (all : AllByRecursion IsNamed ts) where
-    fit : IsOverSystems l (h.of_automaton n) r
-    fit = fits.relations n r is
-
-    long : length ts ≡ length (h.of_automaton n)
-    long = sym (length-map ts on) ∙ ap length same
-
-    at_place : (i : ℕ) → i < length ts → IsSystemIn l (on (get_or ts i (fresh 0))) (get_or r.systems i absent_system)
-    at_place i within =
-        subst (λ (y : Name). IsSystemIn l y (get_or r.systems i absent_system)) (sym (sym (get_or-map on ts i (fresh 0) [] within) ∙ ap (λ (ys : List Name). get_or ys i []) same)) (fit.each i (omega (arith, within, long)))
-
-    pub called_count : length ts ≡ length r.names
-    called_count = long ∙ sym fit.count
-
-    name_at : (i : ℕ) → i < length ts → get_or (map track_name ts) i [] ≡ track_name (get_or ts i (fresh 0))
-    name_at i within = get_or-map track_name ts i (fresh 0) [] within
-
-    named_at : (i : ℕ) → i < length ts → IsNamed (get_or ts i (fresh 0))
-    named_at i within = All-get_or IsNamed ts i (fresh 0) within (All-from_recursion IsNamed ts all)
-
-    pub called_agree : AgreeUnder (map track_name ts) r.systems
-    called_agree i j within inside also =
-        let here : i < length ts = omega (arith, within, length-map ts track_name) in
-        let there : j < length ts = omega (arith, inside, length-map ts track_name) in
-        let one : get_or ts i (fresh 0) ≡ get_or ts j (fresh 0) = names_tell (get_or ts i (fresh 0)) (get_or ts j (fresh 0)) (named_at i here) (named_at j there) (sym (name_at i here) ∙ also ∙ name_at j there) in
-        one_system (on (get_or ts j (fresh 0))) (get_or r.systems i absent_system) (get_or r.systems j absent_system)
-        (subst (λ (t : Track). IsSystemIn l (on t) (get_or r.systems i absent_system)) one (at_place i here)) (at_place j there)
-
-    pub called_over : (t : Track) → has_track ts t ≡ true → IsSystemIn l (on t) (system_under (map track_name ts) r.systems (track_name t))
-    called_over t found =
-        let place = own_place ts t all (named_among ts t all found) found in
-        subst (λ (k : ℕ). IsSystemIn l (on t) (get_or r.systems k absent_system)) place.1
-        (subst (λ (u : Track). IsSystemIn l (on u) (get_or r.systems place.0 absent_system)) place.3 (at_place place.0 place.2))
-
   -- the tracks of a relation with one under another name
   module _ (on : TrackSystems) (s t : Track) (p : Plan) (a : RelationValue) (named : IsNamed s) (also : IsNamed t) (all : AreNamed p) (is_a : IsRelation a)
       (has : HasTracks l (with_system s (on t) on) (tracks p) a) (found : has_track (tracks p) s ≡ true) where
@@ -403,8 +307,11 @@ module _ (l : LibraryValue) (h : Headers) (way : Name → Direction) (fits : Fit
     over_ready (compared y r s t) on named known over = known
     over_ready (added y s t u) on named known over = known
     over_ready (number y t) on named known over = known
-    over_ready (called n ts) on named (r, is) over = (r, is, called_count on ts n r is over named, called_agree on ts n r is over named)
-    over_ready (lettered n ts r b) on named known over = known
+    over_ready (called n ts) on named (r, is) over =
+        let fit = fits.relations n r is in
+        (r, is, stand_count l on ts (h.of_automaton n) r.systems fit.each over ∙ sym fit.count, stand_agree l on ts (h.of_automaton n) r.systems fit.each over named)
+    over_ready (lettered n ts r b) on named (w, is) over =
+        (w, is, word_count l h way fits library on n w ts is over, stand_agree l on ts (h.of_word n) w.systems (fits.words n w is).each over named)
     over_ready (renamed s t p) on named known over = (
       over_ready p (with_system s (on t) on) named.2 known over.1,
       λ a made.
@@ -421,7 +328,8 @@ module _ (l : LibraryValue) (h : Headers) (way : Name → Direction) (fits : Fit
               may_join on p q a b named.0 named.1 (plan_says l library p a named.0 first made).0 (plan_says l library q b named.1 second also).0
               (over_tracks p on a named.0 known.0 over.0 made) (over_tracks q on b named.1 known.1 over.1 also) over.2,
         )
-    over_ready (paired n ts r w vs) on named known over = known
+    over_ready (paired n ts r m us) on named ((v, is), (w, also)) over =
+        (v, w, is, also, pair_may l h way fits library on n m v w ts us is also over.0 over.1 named.0 named.1 over.2)
     over_ready (complement p) on named known over = over_ready p on named known over
     over_ready (projected t p) on named known over = (
       over_ready p (with_system t over.1.0 on) named.1 known over.1.1,
@@ -440,8 +348,11 @@ module _ (l : LibraryValue) (h : Headers) (way : Name → Direction) (fits : Fit
         let ts : List Track = t ∷ [] in
         tracks_over_one l on ts (map track_name ts) c made.names_are (has_contains ts) (contains_has ts) y system is made.systems_are (one_over on y t over)
     over_tracks (called n ts) on c named known over (r, is, made) =
-        placed_tracks l on ts (map track_name ts) c made.names_are (has_contains ts) (contains_has ts) r.systems made.systems_are (called_over on ts n r is over named)
-    over_tracks (lettered n ts r b) on c named known over made = absurd made
+        placed_tracks l on ts (map track_name ts) c made.names_are (has_contains ts) (contains_has ts) r.systems made.systems_are
+        (stand_over l on ts (h.of_automaton n) r.systems (fits.relations n r is).each over named)
+    over_tracks (lettered n ts r b) on c named known over (w, is, (d, set, made)) =
+        placed_tracks l on ts (map track_name ts) c made.names_are (has_contains ts) (contains_has ts) w.systems made.systems_are
+        (stand_over l on ts (h.of_word n) w.systems (fits.words n w is).each over named)
     over_tracks (renamed s t p) on c named known over (a, is, made) =
         let inner = with_system s (on t) on in
         let ready = over_ready p inner named.2 known over.1 in
@@ -455,7 +366,8 @@ module _ (l : LibraryValue) (h : Headers) (way : Name → Direction) (fits : Fit
         let is_a = (plan_says l library p a named.0 (over_ready p on named.0 known.0 over.0) is).0 in
         let is_b = (plan_says l library q b named.1 (over_ready q on named.1 known.1 over.1) also).0 in
         joined_tracks on p q (op_of j) a b c is_a is_b (may_join on p q a b named.0 named.1 is_a is_b first second over.2).0 first second made
-    over_tracks (paired n ts r w vs) on c named known over made = absurd made
+    over_tracks (paired n ts r m us) on c named known over (v, w, is, also, made) =
+        pair_tracks l h way fits library on n m v w ts us is also over.0 over.1 named.0 named.1 (comparison_of r) c made
     over_tracks (complement p) on c named known over (a, is, made) = complement_tracks on (tracks p) a c (over_tracks p on a named known over is) made
     over_tracks (projected t p) on c named known over (a, is, made) =
         projected_tracks on t p over.1.0 a c named.0 named.1 (over_tracks p (with_system t over.1.0 on) a named.1 known over.1.1 is) made

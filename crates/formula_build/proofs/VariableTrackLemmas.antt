@@ -24,7 +24,8 @@ use Rattle.formula_resolve.specs.declared.occurrence.Occurrence.{Occurrence}
 use Rattle.formula_resolve.specs.declared.variable.Variable.{Variable}
 use Rattle.formula_resolve.proofs.FreeLemmas.{free_is_unbound}
 use Rattle.num_system.specs.Sealed.{SystemValue}
-use Rattle.number_relations.specs.Placed.{IsOrdered, systems_under}
+use Rattle.num_system.specs.Tracks.{systems_under}
+use Rattle.number_relations.specs.Placed.{IsOrdered}
 use Rattle.number_relations.specs.Relations.{RelationValue, system_named}
 use Rattle.formula_build.specs.KnownNames.{AreKnownIn}
 use Rattle.formula_build.specs.Libraries.{LibraryValue, IsLibrary, IsSystemIn}
@@ -42,7 +43,8 @@ use Rattle.formula_build.proofs.PlaceOverLemmas.{OccursAnywhere}
 use Rattle.formula_build.proofs.ResolvedLemmas.{Agrees, all_agree, agreed_system, all_kept}
 use Rattle.formula_build.proofs.SolutionLemmas as solutions
 use Rattle.formula_build.proofs.TermOverLemmas.{IsOwn}
-use Rattle.formula_build.proofs.TrackSystemLemmas.{HasTracks, over_tracks}
+use Rattle.formula_build.proofs.TrackSystemLemmas.{over_tracks}
+use Rattle.formula_build.proofs.UnderTracks.{HasTracks}
 
 -- the names of variables are those that a map has
 variable_names : (es : List (Name × Name)) → map (λ (v : Variable). v.name) (map variable_of es) ≡ map (λ e. e.0) es

@@ -1,7 +1,7 @@
 -- The steps of a plan, one after another: each with its line, or the first that passes a limit.
 use Rattle.std.specs.Prelude.{◌≡◌, ◌⊎◌, ℕ, List, [], ◌∷◌, ◌++◌, Result, MatchResult, ⊤}
 use Rattle.digit_tuple.specs.StepResults.{IsRefusedBy}
-use Rattle.digit_tuple.specs.Steps.{StepLog}
+use Rattle.digit_tuple.specs.Steps.{StepLog, with_lines}
 use Rattle.digit_tuple.specs.declared.step_fault.StepFault.{StepFault}
 use Rattle.digit_tuple.specs.declared.step_fault.StepFault.TheVariants as faults
 use Rattle.digit_tuple.specs.declared.steps.StepLine.{StepLine}
@@ -11,11 +11,12 @@ use Rattle.number_relations.specs.Constants.{IsRelationConstantStep, RelationCon
 use Rattle.number_relations.specs.Joins.{IsRelationJoinStep, RelationJoinExceedsLetters, RelationJoinExceeds}
 use Rattle.number_relations.specs.Complements.{IsRelationComplementStep, RelationComplementExceeds}
 use Rattle.number_relations.specs.Projections.{IsRelationProjectStep, RelationProjectExceedsLetters, RelationProjectExceeds}
-use Rattle.number_relations.specs.Multiples.{with_lines}
 use Rattle.formula_plan.specs.Plans.{Plan, compared, added, number, called, lettered, renamed, constant, joined, paired, complement, projected}
 use Rattle.formula_build.specs.TrackNames.{track_name}
-use Rattle.formula_build.specs.Libraries.{LibraryValue, IsSystemIn}
-use Rattle.formula_build.specs.Makings.{Makes, op_of}
+use Rattle.word_output.specs.Words.{WordValue}
+use Rattle.formula_build.specs.Libraries.{LibraryValue, IsWordIn, IsSystemIn}
+use Rattle.formula_build.specs.PairRelations.{IsRelationPairStep, RelationPairExceedsLetters, RelationPairExceeds}
+use Rattle.formula_build.specs.Makings.{Makes, comparison_of, op_of, placed_on}
 
 -- the last step of a plan is within the limits, and makes this relation with this line
 abbrev pub IsStep : ℕ → LibraryValue → Plan → RelationValue → StepLine → Type 0
@@ -27,7 +28,8 @@ IsStep limit l (lettered n ts r b) c line = ⊥
 IsStep limit l (renamed s t p) c line = ⊥
 IsStep limit l (constant y k t) c line = (system : SystemValue) × IsSystemIn l y system × IsRelationConstantStep limit system k (track_name t) c line
 IsStep limit l (joined j p q) c line = (a : RelationValue) × (b : RelationValue) × Makes l p a × Makes l q b × IsRelationJoinStep limit (op_of j) a b c line
-IsStep limit l (paired n ts r w us) c line = ⊥
+IsStep limit l (paired n ts r m us) c line =
+    (v : WordValue) × (w : WordValue) × IsWordIn l n v × IsWordIn l m w × IsRelationPairStep limit (comparison_of r) (placed_on v ts) (placed_on w us) c line
 IsStep limit l (complement p) c line = (a : RelationValue) × Makes l p a × IsRelationComplementStep limit a c line
 IsStep limit l (projected t p) c line = (a : RelationValue) × Makes l p a × IsRelationProjectStep limit (track_name t) a c line
 
@@ -41,7 +43,7 @@ PassesLetters l (lettered n ts r b) = ⊥
 PassesLetters l (renamed s t p) = ⊥
 PassesLetters l (constant y k t) = ⊥
 PassesLetters l (joined j p q) = (a : RelationValue) × (b : RelationValue) × Makes l p a × Makes l q b × RelationJoinExceedsLetters a b
-PassesLetters l (paired n ts r w us) = ⊥
+PassesLetters l (paired n ts r m us) = (v : WordValue) × (w : WordValue) × IsWordIn l n v × IsWordIn l m w × RelationPairExceedsLetters (placed_on v ts) (placed_on w us)
 PassesLetters l (complement p) = ⊥
 PassesLetters l (projected t p) = (a : RelationValue) × Makes l p a × RelationProjectExceedsLetters (track_name t) a
 
@@ -55,7 +57,7 @@ PassesStates limit l (lettered n ts r b) = ⊥
 PassesStates limit l (renamed s t p) = ⊥
 PassesStates limit l (constant y k t) = (system : SystemValue) × IsSystemIn l y system × RelationConstantExceeds limit system k
 PassesStates limit l (joined j p q) = (a : RelationValue) × (b : RelationValue) × Makes l p a × Makes l q b × RelationJoinExceeds limit (op_of j) a b
-PassesStates limit l (paired n ts r w us) = ⊥
+PassesStates limit l (paired n ts r m us) = (v : WordValue) × (w : WordValue) × IsWordIn l n v × IsWordIn l m w × RelationPairExceeds limit (placed_on v ts) (placed_on w us)
 PassesStates limit l (complement p) = (a : RelationValue) × Makes l p a × RelationComplementExceeds limit a
 PassesStates limit l (projected t p) = (a : RelationValue) × Makes l p a × RelationProjectExceeds limit (track_name t) a
 

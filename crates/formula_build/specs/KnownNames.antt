@@ -1,4 +1,4 @@
--- Formulas in which the systems of comparisons and the automata that are called stand for something. No name stands for a word.
+-- Formulas in which the systems of comparisons, the automata that are called and the words stand for something.
 use Rattle.std.specs.Prelude.{⊤}
 use Rattle.formula_parse.specs.Tokens.{Name}
 use Rattle.formula_parse.specs.Trees.{Fact, compare, words, word_letter, letter_word, call, Formula, atom, negated, chain, quantified, marked, Operands, no_operands, operands}
@@ -6,12 +6,17 @@ use Rattle.formula_resolve.specs.declared.file.File.{File}
 use Rattle.formula_resolve.specs.declared.file.File.TheVariants.{Automaton, Word}
 use Rattle.num_system.specs.Sealed.{SystemValue}
 use Rattle.number_relations.specs.Relations.{RelationValue}
-use Rattle.formula_build.specs.Libraries.{LibraryValue, IsRelationIn, IsSystemIn}
+use Rattle.word_output.specs.Words.{WordValue}
+use Rattle.formula_build.specs.Libraries.{LibraryValue, IsRelationIn, IsWordIn, IsSystemIn}
 
--- the file is an automaton that stands for a relation
+-- the name stands for a word
+abbrev pub HasWord : LibraryValue → Name → Type 0
+HasWord l n = (w : WordValue) × IsWordIn l n w
+
+-- the file is an automaton that stands for a relation, or a word
 abbrev pub IsFileIn : LibraryValue → File → Type 0
 IsFileIn l (Automaton n) = (r : RelationValue) × IsRelationIn l n r
-IsFileIn l (Word n) = ⊥
+IsFileIn l (Word n) = HasWord l n
 
 -- the name stands for a system
 abbrev pub HasSystem : LibraryValue → Name → Type 0
@@ -20,9 +25,9 @@ HasSystem l y = (s : SystemValue) × IsSystemIn l y s
 -- what an atom of a system says
 abbrev pub IsKnownFact : LibraryValue → Name → Fact → Type 0
 IsKnownFact l s (compare t r u) = (system : SystemValue) × IsSystemIn l s system
-IsKnownFact l s (words x r y) = ⊥
-IsKnownFact l s (word_letter x r b) = ⊥
-IsKnownFact l s (letter_word b r x) = ⊥
+IsKnownFact l s (words x r y) = HasWord l x.word × HasWord l y.word
+IsKnownFact l s (word_letter x r b) = HasWord l x.word
+IsKnownFact l s (letter_word b r x) = HasWord l x.word
 IsKnownFact l s (call n ts) = (r : RelationValue) × IsRelationIn l n r
 
 abbrev mutual

@@ -4,4 +4,4 @@ use Rattle.formula_build.specs.declared.known.Known.{Known}
 
 -- what the two parts of what is known give
 abbrev pub known_value : Known → LibraryValue
-known_value k = record { relations = k.relations.now; systems = k.systems.now }
+known_value k = record { relations = k.read.now.relations; words = k.read.now.words; systems = k.systems.now }

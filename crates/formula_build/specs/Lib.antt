@@ -3,6 +3,9 @@ pub mod VariableNames
 pub mod Libraries
 pub mod LibraryViews
 pub mod KnownViews
+pub mod PlacedWords
+pub mod LetterRelations
+pub mod PairRelations
 pub mod Makings
 pub mod Parts
 pub mod Building

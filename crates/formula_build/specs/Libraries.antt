@@ -1,10 +1,11 @@
--- What names stand for while a formula is decided: relations, and numeration systems.
+-- What names stand for while a formula is decided: relations, automatic words, and numeration systems.
 use Rattle.std.specs.Prelude.{◌≡◌, ℕ, List, [], ◌∷◌, ◌++◌, Option, None, Some, if◌then◌else◌}
 use Rattle.std.specs.List.{AllByRecursion}
 use Rattle.std.specs.Str.{bytes_eq}
 use Rattle.formula_truth.specs.Truth.{Meanings}
 use Rattle.num_system.specs.Sealed.{SystemValue, IsSealed}
 use Rattle.number_relations.specs.Relations.{RelationValue, IsRelation, RelationHolds}
+use Rattle.word_output.specs.Words.{WordValue, IsWordValue, HasLetter}
 
 pub record NamedRelation : Type 0 where
   pub name : List ℕ
@@ -14,13 +15,26 @@ pub record NamedSystem : Type 0 where
   pub name : List ℕ
   pub system : SystemValue
 
+pub record NamedWord : Type 0 where
+  pub name : List ℕ
+  pub word : WordValue
+
+-- what was read: the relations of automata, and words
+pub record ReadValue : Type 0 where
+  pub relations : List NamedRelation
+  pub words : List NamedWord
+
 pub record LibraryValue : Type 0 where
   pub relations : List NamedRelation
+  pub words : List NamedWord
   pub systems : List NamedSystem
 
 -- with one more after the others
 abbrev pub with_relation : List NamedRelation → List ℕ → RelationValue → List NamedRelation
 with_relation rs name r = rs ++ record { name = name; relation = r } ∷ []
+
+abbrev pub with_word : List NamedWord → List ℕ → WordValue → List NamedWord
+with_word ws name w = ws ++ record { name = name; word = w } ∷ []
 
 abbrev pub with_system : List NamedSystem → List ℕ → SystemValue → List NamedSystem
 with_system ss name s = ss ++ record { name = name; system = s } ∷ []
@@ -30,6 +44,10 @@ abbrev pub relation_named : List NamedRelation → List ℕ → Option RelationV
 relation_named [] name = None
 relation_named (r ∷ rs) name = if bytes_eq r.name name then Some r.relation else relation_named rs name
 
+abbrev pub word_named : List NamedWord → List ℕ → Option WordValue
+word_named [] name = None
+word_named (w ∷ ws) name = if bytes_eq w.name name then Some w.word else word_named ws name
+
 abbrev pub system_named : List NamedSystem → List ℕ → Option SystemValue
 system_named [] name = None
 system_named (s ∷ ss) name = if bytes_eq s.name name then Some s.system else system_named ss name
@@ -37,23 +55,35 @@ system_named (s ∷ ss) name = if bytes_eq s.name name then Some s.system else s
 abbrev pub IsRelationIn : LibraryValue → List ℕ → RelationValue → Type 0
 IsRelationIn library name r = relation_named library.relations name ≡ Some r
 
+abbrev pub IsWordIn : LibraryValue → List ℕ → WordValue → Type 0
+IsWordIn library name w = word_named library.words name ≡ Some w
+
 abbrev pub IsSystemIn : LibraryValue → List ℕ → SystemValue → Type 0
 IsSystemIn library name s = system_named library.systems name ≡ Some s
 
 abbrev pub AreRelations : List NamedRelation → Type 0
 AreRelations rs = AllByRecursion (λ (r : NamedRelation). IsRelation r.relation) rs
 
+abbrev pub AreWords : List NamedWord → Type 0
+AreWords ws = AllByRecursion (λ (w : NamedWord). IsWordValue w.word) ws
+
 abbrev pub AreSealed : List NamedSystem → Type 0
 AreSealed ss = AllByRecursion (λ (s : NamedSystem). IsSealed s.system) ss
 
--- all relations are relations, and all systems are sealed
+-- all relations are relations, and all words are words
+pub record IsRead (read : ReadValue) : Type 0 where
+  pub relations : AreRelations read.relations
+  pub words : AreWords read.words
+
+-- and all systems are sealed
 pub record IsLibrary (library : LibraryValue) : Type 0 where
   pub relations : AreRelations library.relations
+  pub words : AreWords library.words
   pub systems : AreSealed library.systems
 
--- what names mean: an automaton's name the relation of that name; no word has a letter
+-- what names mean: an automaton's name the relation of that name, and a word's name the word of that name
 abbrev pub meanings_of : LibraryValue → Meanings
 meanings_of library = record {
   holds_of = λ name ns. (r : RelationValue) × IsRelationIn library name r × RelationHolds r ns;
-  has_letter = λ name ns b. ⊥;
+  has_letter = λ name ns b. (w : WordValue) × IsWordIn library name w × HasLetter w ns b;
 }

@@ -11,20 +11,29 @@ use Rattle.formula_plan.specs.declared.track.Track.{Track}
 use Rattle.formula_plan.specs.declared.making.Making.{Making}
 use Rattle.formula_plan.specs.declared.making.Making.TheVariants.{Compared, Added, Number, Called, Lettered, Renamed, Constant, Joined, Paired, Complement, Projected}
 use Rattle.num_system.specs.Sealed.{SystemValue}
-use Rattle.number_relations.specs.Relations.{RelationValue, no_automaton, system_named}
-use Rattle.number_relations.specs.Placed.{IsPlaced, IsRenamed, AgreeUnder}
+use Rattle.num_system.specs.Tracks.{no_automaton, AgreeUnder}
+use Rattle.number_relations.specs.Relations.{RelationValue, system_named}
+use Rattle.number_relations.specs.Placed.{IsPlaced, IsRenamed}
 use Rattle.number_relations.specs.Comparisons.{IsComparison, IsSumRelation, IsAnyNumber}
 use Rattle.number_relations.specs.Constants.{DoesRelationConstant}
 use Rattle.number_relations.specs.Joins.{DoesRelationJoin}
 use Rattle.number_relations.specs.Complements.{DoesRelationComplement}
 use Rattle.number_relations.specs.Projections.{DoesRelationProject}
 use Rattle.formula_build.specs.TrackNames.{track_name}
-use Rattle.formula_build.specs.Libraries.{LibraryValue, IsRelationIn, IsSystemIn}
+use Rattle.word_output.specs.Words.{WordValue}
+use Rattle.formula_build.specs.Libraries.{LibraryValue, IsRelationIn, IsWordIn, IsSystemIn}
+use Rattle.formula_build.specs.PlacedWords.{PlacedWord}
+use Rattle.formula_build.specs.LetterRelations.{IsLetterRelation}
+use Rattle.formula_build.specs.PairRelations.{MayPairWords, DoesRelationPair}
 use Rattle.formula_build.specs.Parts.{IsPart}
 use Rattle.formula_build.specs.Makings.{Makes, MayJoin, comparison_of, op_of}
 
 abbrev pub name_of : Track → List ℕ
 name_of t = track_name (track_view t)
+
+-- a word whose tracks stand under the names of these
+abbrev pub placed_at : WordValue → List Track → PlacedWord
+placed_at w ts = record { word = w; under = map name_of ts }
 
 -- the relation at a place
 abbrev pub relation_at : List RelationValue → ℕ → RelationValue
@@ -36,12 +45,12 @@ MayMake l rs (Compared y r s t) = (system : SystemValue) × IsSystemIn l y syste
 MayMake l rs (Added y s t u) = (system : SystemValue) × IsSystemIn l y system
 MayMake l rs (Number y t) = (system : SystemValue) × IsSystemIn l y system
 MayMake l rs (Called n ts) = (r : RelationValue) × IsRelationIn l n r × (length ts.items ≡ length r.names) × AgreeUnder (map name_of ts.items) r.systems
-MayMake l rs (Lettered n ts r b) = ⊥
+MayMake l rs (Lettered n ts r b) = (w : WordValue) × IsWordIn l n w × (length ts.items ≡ length w.systems) × AgreeUnder (map name_of ts.items) w.systems
 MayMake l rs (Renamed s t p) =
     (p < length rs) × (let a = relation_at rs p in Contains a.names (name_of s) → Contains a.names (name_of t) → system_named a (name_of s) ≡ system_named a (name_of t))
 MayMake l rs (Constant y c t) = (system : SystemValue) × IsSystemIn l y system
 MayMake l rs (Joined j p q) = (p < length rs) × (q < length rs) × MayJoin (relation_at rs p) (relation_at rs q)
-MayMake l rs (Paired n ts r w us) = ⊥
+MayMake l rs (Paired n ts r m us) = (v : WordValue) × (w : WordValue) × IsWordIn l n v × IsWordIn l m w × MayPairWords (placed_at v ts.items) (placed_at w us.items)
 MayMake l rs (Complement p) = p < length rs
 MayMake l rs (Projected t p) = (p < length rs) × Contains (relation_at rs p).names (name_of t)
 
@@ -56,11 +65,13 @@ DoesMaking old l rs (Compared y r s t) result new =
 DoesMaking old l rs (Added y s t u) result new = IsMadeBare old (λ c. (system : SystemValue) × IsSystemIn l y system × IsSumRelation system (name_of s) (name_of t) (name_of u) c) result new
 DoesMaking old l rs (Number y t) result new = IsMadeBare old (λ c. (system : SystemValue) × IsSystemIn l y system × IsAnyNumber system (name_of t) c) result new
 DoesMaking old l rs (Called n ts) result new = IsMadeBare old (λ c. (r : RelationValue) × IsRelationIn l n r × IsPlaced r.automaton r.systems (map name_of ts.items) c) result new
-DoesMaking old l rs (Lettered n ts r b) result new = ⊥
+DoesMaking old l rs (Lettered n ts r b) result new =
+    IsMadeBare old (λ c. (w : WordValue) × IsWordIn l n w × IsLetterRelation (comparison_of (relation_view r)) b (placed_at w ts.items) c) result new
 DoesMaking old l rs (Renamed s t p) result new = IsMadeBare old (IsRenamed (relation_at rs p) (name_of s) (name_of t)) result new
 DoesMaking old l rs (Constant y c t) result new = (system : SystemValue) × IsSystemIn l y system × DoesRelationConstant old system c (name_of t) result new
 DoesMaking old l rs (Joined j p q) result new = DoesRelationJoin old (op_of (connective_view j)) (relation_at rs p) (relation_at rs q) result new
-DoesMaking old l rs (Paired n ts r w us) result new = ⊥
+DoesMaking old l rs (Paired n ts r m us) result new =
+    (v : WordValue) × (w : WordValue) × IsWordIn l n v × IsWordIn l m w × DoesRelationPair old (comparison_of (relation_view r)) (placed_at v ts.items) (placed_at w us.items) result new
 DoesMaking old l rs (Complement p) result new = DoesRelationComplement old (relation_at rs p) result new
 DoesMaking old l rs (Projected t p) result new = DoesRelationProject old (name_of t) (relation_at rs p) result new
 

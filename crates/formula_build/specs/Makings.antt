@@ -1,23 +1,29 @@
 -- What plans make: relations.
-use Rattle.std.specs.Prelude.{map, length, ◌≡◌}
+use Rattle.std.specs.Prelude.{List, map, length, ◌≡◌}
 use Rattle.std.specs.List.{Contains}
 use Rattle.formula_parse.specs.Tokens.{Relation, equal, unequal, less, greater, at_most, at_least}
 use Rattle.formula_parse.specs.Trees.{Joint, and, or, xor, implies, iff}
+use Rattle.formula_plan.specs.Tracks.{Track}
 use Rattle.formula_plan.specs.Plans.{Plan, compared, added, number, called, lettered, renamed, constant, joined, paired, complement, projected}
 use Rattle.product_op.specs.declared.op.Op.{Op}
 use Rattle.product_op.specs.declared.op.Op.TheVariants as ops
 use Rattle.num_system.specs.Sealed.{SystemValue}
 use Rattle.number_relations.specs.Relations.{RelationValue, system_named}
-use Rattle.number_relations.specs.Placed.{IsPlaced, IsRenamed, AgreeUnder}
+use Rattle.num_system.specs.Tracks.{AgreeUnder}
+use Rattle.number_relations.specs.Placed.{IsPlaced, IsRenamed}
 use Rattle.number_relations.specs.Comparisons.{IsComparison, IsSumRelation, IsAnyNumber}
 use Rattle.number_relations.specs.Constants.{IsRelationConstant}
 use Rattle.number_relations.specs.Joins.{IsRelationJoin, AgreeOnSystems, HaveOneDirection}
 use Rattle.number_relations.specs.Complements.{IsRelationComplement}
 use Rattle.number_relations.specs.Projections.{IsRelationProjection}
-use Rattle.number_relations.specs.declared.comparison.Comparison.{Comparison}
-use Rattle.number_relations.specs.declared.comparison.Comparison.TheVariants as comparisons
+use Rattle.num_system.specs.declared.comparison.Comparison.{Comparison}
+use Rattle.num_system.specs.declared.comparison.Comparison.TheVariants as comparisons
+use Rattle.word_output.specs.Words.{WordValue}
 use Rattle.formula_build.specs.TrackNames.{track_name}
-use Rattle.formula_build.specs.Libraries.{LibraryValue, IsRelationIn, IsSystemIn}
+use Rattle.formula_build.specs.Libraries.{LibraryValue, IsRelationIn, IsWordIn, IsSystemIn}
+use Rattle.formula_build.specs.PlacedWords.{PlacedWord}
+use Rattle.formula_build.specs.LetterRelations.{IsLetterRelation}
+use Rattle.formula_build.specs.PairRelations.{MayPairWords, IsRelationPair}
 
 -- the comparison of a formula's relation
 abbrev pub comparison_of : Relation → Comparison
@@ -36,17 +42,21 @@ op_of xor = ops.Xor
 op_of implies = ops.Implies
 op_of iff = ops.Iff
 
--- The relation that a plan makes, of those that names stand for. Plans with words make none, since no name stands for a word.
+-- a word whose tracks stand under the names of these
+abbrev pub placed_on : WordValue → List Track → PlacedWord
+placed_on w ts = record { word = w; under = map track_name ts }
+
+-- the relation that a plan makes, of what names stand for
 abbrev pub Makes : LibraryValue → Plan → RelationValue → Type 0
 Makes l (compared y r s t) c = (system : SystemValue) × IsSystemIn l y system × IsComparison system (comparison_of r) (track_name s) (track_name t) c
 Makes l (added y s t u) c = (system : SystemValue) × IsSystemIn l y system × IsSumRelation system (track_name s) (track_name t) (track_name u) c
 Makes l (number y t) c = (system : SystemValue) × IsSystemIn l y system × IsAnyNumber system (track_name t) c
 Makes l (called n ts) c = (r : RelationValue) × IsRelationIn l n r × IsPlaced r.automaton r.systems (map track_name ts) c
-Makes l (lettered n ts r b) c = ⊥
+Makes l (lettered n ts r b) c = (w : WordValue) × IsWordIn l n w × IsLetterRelation (comparison_of r) b (placed_on w ts) c
 Makes l (renamed s t p) c = (a : RelationValue) × Makes l p a × IsRenamed a (track_name s) (track_name t) c
 Makes l (constant y k t) c = (system : SystemValue) × IsSystemIn l y system × IsRelationConstant system k (track_name t) c
 Makes l (joined j p q) c = (a : RelationValue) × (b : RelationValue) × Makes l p a × Makes l q b × IsRelationJoin (op_of j) a b c
-Makes l (paired n ts r w us) c = ⊥
+Makes l (paired n ts r m us) c = (v : WordValue) × (w : WordValue) × IsWordIn l n v × IsWordIn l m w × IsRelationPair (comparison_of r) (placed_on v ts) (placed_on w us) c
 Makes l (complement p) c = (a : RelationValue) × Makes l p a × IsRelationComplement a c
 Makes l (projected t p) c = (a : RelationValue) × Makes l p a × IsRelationProjection (track_name t) a c
 
@@ -61,11 +71,11 @@ IsReady l (compared y r s t) = (system : SystemValue) × IsSystemIn l y system
 IsReady l (added y s t u) = (system : SystemValue) × IsSystemIn l y system
 IsReady l (number y t) = (system : SystemValue) × IsSystemIn l y system
 IsReady l (called n ts) = (r : RelationValue) × IsRelationIn l n r × (length ts ≡ length r.names) × AgreeUnder (map track_name ts) r.systems
-IsReady l (lettered n ts r b) = ⊥
+IsReady l (lettered n ts r b) = (w : WordValue) × IsWordIn l n w × (length ts ≡ length w.systems) × AgreeUnder (map track_name ts) w.systems
 IsReady l (renamed s t p) =
     IsReady l p × ((a : RelationValue) → Makes l p a → Contains a.names (track_name s) → Contains a.names (track_name t) → system_named a (track_name s) ≡ system_named a (track_name t))
 IsReady l (constant y k t) = (system : SystemValue) × IsSystemIn l y system
 IsReady l (joined j p q) = IsReady l p × IsReady l q × ((a b : RelationValue) → Makes l p a → Makes l q b → MayJoin a b)
-IsReady l (paired n ts r w us) = ⊥
+IsReady l (paired n ts r m us) = (v : WordValue) × (w : WordValue) × IsWordIn l n v × IsWordIn l m w × MayPairWords (placed_on v ts) (placed_on w us)
 IsReady l (complement p) = IsReady l p
 IsReady l (projected t p) = IsReady l p × ((a : RelationValue) → Makes l p a → Contains a.names (track_name t))

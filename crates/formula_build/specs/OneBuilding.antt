@@ -10,9 +10,10 @@ use Rattle.number_relations.specs.Relations.{RelationValue}
 use Rattle.formula_build.specs.Libraries.{LibraryValue, IsLibrary, IsSystemIn}
 use Rattle.formula_build.specs.Solutions.{BuildsFormula}
 
--- names that stand for something in both libraries stand for the same, and both have the same relations
+-- names that stand for something in both libraries stand for the same, and both have the same relations and words
 pub record Agree (l m : LibraryValue) : Type 0 where
   pub relations : l.relations ≡ m.relations
+  pub words : l.words ≡ m.words
   pub systems : (y : Name) (s t : SystemValue) → IsSystemIn l y s → IsSystemIn m y t → s ≡ t
 
 -- the steps of a plan have one outcome, but for want of memory: one relation and the same lines, or one refusal

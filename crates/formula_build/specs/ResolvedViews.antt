@@ -1,12 +1,12 @@
 -- How a resolved formula is seen. Nobody has to believe this: it serves the contracts of functions.
-use Rattle.std.specs.Prelude.{◌≡◌, ◌<◌, ◌^◌, List}
+use Rattle.std.specs.Prelude.{◌≡◌, ◌<◌, ◌^◌}
 use Rattle.formula_parse.specs.Trees.{Formula}
 use Rattle.formula_parse.specs.Views.{formula_view}
 use Rattle.formula_plan.specs.PlanLists.{IsPlanOf}
 use Rattle.formula_resolve.specs.Headers.{Headers}
 use Rattle.formula_resolve.specs.Occurrences.{all_occurrences}
 use Rattle.formula_resolve.specs.FreeVariables.{free_variables}
-use Rattle.formula_build.specs.Libraries.{LibraryValue, NamedRelation}
+use Rattle.formula_build.specs.Libraries.{LibraryValue, ReadValue}
 use Rattle.formula_build.specs.Solutions.{IsFormed, IsResolved, formula_plan, way_named}
 use Rattle.formula_build.specs.Resolved.{AreWays}
 use Rattle.formula_build.specs.declared.resolving.Resolved.{Resolved}
@@ -27,6 +27,6 @@ pub record IsPlanned (r : Resolved) : Type 0 where
   pub plan : IsPlanOf r.plan.plans r.plan.last (formula_plan (headers_in r) (formula_of r))
   pub few : (formula_plan (headers_in r) (formula_of r)).next < 2 ^ 64
 
--- the systems of its names, and relations
-abbrev pub library_of : Resolved → List NamedRelation → LibraryValue
-library_of r relations = record { relations = relations; systems = r.names.now.systems }
+-- the systems of its names, and what was read
+abbrev pub library_of : Resolved → ReadValue → LibraryValue
+library_of r read = record { relations = read.relations; words = read.words; systems = r.names.now.systems }

@@ -2,12 +2,14 @@
 use Rattle.std.specs.Prelude.{◌≡◌, ℕ, ◌<◌, true, List, [], map, length, slice_index_or, if◌then◌else◌}
 use Rattle.digit_tuple.specs.declared.direction.Direction.{Direction}
 use Rattle.num_system.specs.Sealed.{SystemValue}
-use Rattle.number_relations.specs.Relations.{RelationValue, absent_system}
+use Rattle.num_system.specs.Tracks.{absent_system}
+use Rattle.number_relations.specs.Relations.{RelationValue}
 use Rattle.formula_parse.specs.Tokens.{Name}
 use Rattle.formula_plan.specs.Tracks.{Track, same_track, has_track}
 use Rattle.formula_plan.specs.Plans.{Plan, compared, added, number, called, lettered, renamed, constant, joined, paired, complement, projected, tracks}
 use Rattle.formula_plan.specs.FactPlans.{Headers}
-use Rattle.formula_build.specs.Libraries.{LibraryValue, IsRelationIn, IsSystemIn}
+use Rattle.word_output.specs.Words.{WordValue}
+use Rattle.formula_build.specs.Libraries.{LibraryValue, IsRelationIn, IsWordIn, IsSystemIn}
 
 -- the system of each track, by its name
 abbrev pub TrackSystems : Type 0
@@ -17,12 +19,16 @@ TrackSystems = Track → Name
 abbrev pub with_system : Track → Name → TrackSystems → TrackSystems
 with_system t y on = λ u. if same_track t u then y else on u
 
+-- all tracks of the one list have the direction of all tracks of the other
+abbrev pub TracksHaveOneDirection : (Name → Direction) → TrackSystems → List Track → List Track → Type 0
+TracksHaveOneDirection way on ts us = (s t : Track) → has_track ts s ≡ true → has_track us t ≡ true → way (on s) ≡ way (on t)
+
 -- all tracks of the one plan have the direction of all tracks of the other
 abbrev pub HaveOneDirection : (Name → Direction) → TrackSystems → Plan → Plan → Type 0
-HaveOneDirection way on p q = (s t : Track) → has_track (tracks p) s ≡ true → has_track (tracks q) t ≡ true → way (on s) ≡ way (on t)
+HaveOneDirection way on p q = TracksHaveOneDirection way on (tracks p) (tracks q)
 
 -- The tracks of a plan stand over these systems: those of what it is made of do, a dropped track over any; arguments stand over the
--- systems of an automaton's tracks; what is joined has one direction.
+-- systems of an automaton's tracks, and indices over those of a word's; what is joined or paired has one direction.
 abbrev pub IsOver : Headers → (Name → Direction) → TrackSystems → Plan → Type 0
 IsOver h way on (compared y r s t) = (on s ≡ y) × (on t ≡ y)
 IsOver h way on (added y s t u) = (on s ≡ y) × (on t ≡ y) × (on u ≡ y)
@@ -32,7 +38,7 @@ IsOver h way on (lettered n ts r l) = map on ts ≡ h.of_word n
 IsOver h way on (renamed s t p) = (has_track (tracks p) s ≡ true) × IsOver h way (with_system s (on t) on) p
 IsOver h way on (constant y c t) = on t ≡ y
 IsOver h way on (joined j p q) = IsOver h way on p × IsOver h way on q × HaveOneDirection way on p q
-IsOver h way on (paired n ts r w us) = (map on ts ≡ h.of_word n) × (map on us ≡ h.of_word w)
+IsOver h way on (paired n ts r w us) = (map on ts ≡ h.of_word n) × (map on us ≡ h.of_word w) × TracksHaveOneDirection way on ts us
 IsOver h way on (complement p) = IsOver h way on p
 IsOver h way on (projected t p) = (has_track (tracks p) t ≡ true) × ((y : Name) × IsOver h way (with_system t y on) p)
 
@@ -42,11 +48,11 @@ IsKnown l (compared y r s t) = (system : SystemValue) × IsSystemIn l y system
 IsKnown l (added y s t u) = (system : SystemValue) × IsSystemIn l y system
 IsKnown l (number y t) = (system : SystemValue) × IsSystemIn l y system
 IsKnown l (called n ts) = (r : RelationValue) × IsRelationIn l n r
-IsKnown l (lettered n ts r b) = ⊥
+IsKnown l (lettered n ts r b) = (w : WordValue) × IsWordIn l n w
 IsKnown l (renamed s t p) = IsKnown l p
 IsKnown l (constant y k t) = (system : SystemValue) × IsSystemIn l y system
 IsKnown l (joined j p q) = IsKnown l p × IsKnown l q
-IsKnown l (paired n ts r w us) = ⊥
+IsKnown l (paired n ts r m us) = ((v : WordValue) × IsWordIn l n v) × ((w : WordValue) × IsWordIn l m w)
 IsKnown l (complement p) = IsKnown l p
 IsKnown l (projected t p) = IsKnown l p
 
@@ -55,7 +61,13 @@ pub record IsOverSystems (l : LibraryValue) (systems : List Name) (r : RelationV
   pub count : length r.names ≡ length systems
   pub each : (i : ℕ) → i < length systems → IsSystemIn l (slice_index_or systems i []) (slice_index_or r.systems i absent_system)
 
--- relations stand over the systems of their headers, and systems have the directions of their names
+-- the word has a track over each of these systems, in their order
+pub record IsWordOverSystems (l : LibraryValue) (systems : List Name) (w : WordValue) : Type 0 where
+  pub count : length w.systems ≡ length systems
+  pub each : (i : ℕ) → i < length systems → IsSystemIn l (slice_index_or systems i []) (slice_index_or w.systems i absent_system)
+
+-- relations and words stand over the systems of their headers, and systems have the directions of their names
 pub record Fits (l : LibraryValue) (h : Headers) (way : Name → Direction) : Type 0 where
   pub relations : (n : Name) (r : RelationValue) → IsRelationIn l n r → IsOverSystems l (h.of_automaton n) r
+  pub words : (n : Name) (w : WordValue) → IsWordIn l n w → IsWordOverSystems l (h.of_word n) w
   pub directions : (y : Name) (s : SystemValue) → IsSystemIn l y s → s.way ≡ way y

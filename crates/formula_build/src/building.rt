@@ -20,7 +20,7 @@ use std::alloc::Global;
 /// The relation that holds of the numbers for which a resolved formula is true. Its tracks are the free
 /// variables, in their order, each over its system; of a sentence there are none, and the verdict is its truth.
 /// It is made by the steps of the formula's plan. Each name of the formula stands for something: systems
-/// have the directions of their names, and relations stand over the systems of their headers.
+/// have the directions of their names, and relations and words stand over the systems of their headers.
 ///
 /// # Errors
 /// `Letters` and `States` exactly at the first step that passes a limit, with its number; letters are
@@ -38,11 +38,11 @@ pub fn build(
     ensures tracks { IfOk result (IsOverVariables (library_of resolved.now read.now) resolved.now.variables.items) }
     ensures solution { IfOk result (IsSolution (library_of resolved.now read.now) (formula_of resolved.now)) }
 {
-    read.are_relations();
+    read.is_read();
     resolved.names.systems.are_sealed();
     let known = Known {
         systems: &resolved.names.systems,
-        relations: read,
+        read,
     };
     let plan = &resolved.plan;
     let made = make_plans(alloc, &plan.plans, plan.last, known, steps)?;

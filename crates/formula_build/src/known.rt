@@ -3,9 +3,9 @@
 use crate::library::Library;
 use crate::systems::NamedSystems;
 
-/// The systems and the relations that names stand for.
+/// The systems that names stand for, and the relations and words.
 #[derive(Clone, Copy)]
 pub(crate) struct Known<'a> {
     pub(crate) systems: &'a NamedSystems,
-    pub(crate) relations: &'a Library,
+    pub(crate) read: &'a Library,
 }

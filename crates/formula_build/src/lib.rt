@@ -4,7 +4,7 @@
 /// Sealed systems by their names.
 mod systems;
 
-/// Relations by their names.
+/// Relations and words by their names.
 mod library;
 
 /// What names stand for.
@@ -15,6 +15,9 @@ mod track_names;
 
 /// Which plans of a list are needed.
 mod needed;
+
+/// Relations made of words.
+mod word_making;
 
 /// One relation, made of earlier ones.
 mod making;

@@ -1,8 +1,9 @@
-//! Relations by their names.
+//! Relations and words by their names.
 
 ghost use Rattle.std.specs.Prelude.{◌≡◌, [], OnOk, OnErr, None, Some, MatchOption};
 ghost use Rattle.number_relations.specs.Relations.{IsRelation};
-ghost use Rattle.formula_build.specs.Libraries.{AreRelations, with_relation, relation_named};
+ghost use Rattle.word_output.specs.Words.{IsWordValue};
+ghost use Rattle.formula_build.specs.Libraries.{IsRead, with_relation, with_word, relation_named, word_named};
 
 use digit_tuple::faults::OutOfMemory;
 use digit_tuple::name::Name;
@@ -10,6 +11,7 @@ use number_relations::relation::Relation;
 use std::alloc::Global;
 use std::marker::Model;
 use std::rc::Rc;
+use word_output::word::Word;
 
 // A relation, and the name that stands for it.
 #[derive(Drop)]
@@ -18,32 +20,40 @@ struct RelationEntry {
     relation: Rc<Relation>,
 }
 
-/// The relations that the names of automata stand for. The first of a name counts. A search takes time in
-/// proportion to their number.
+// A word, and the name that stands for it.
+#[derive(Drop)]
+struct WordEntry {
+    name: Name,
+    word: Rc<Word>,
+}
+
+/// The relations that the names of automata stand for, and the words of their names. The first of a name
+/// counts; an automaton and a word may have one name. A search takes time in proportion to their number.
 #[derive(Drop)]
 pub struct Library {
-    entries: Vec<RelationEntry>,
+    relation_entries: Vec<RelationEntry>,
+    word_entries: Vec<WordEntry>,
 }
 
 impl Model for Library {
-    ghost use Rattle.std.specs.Prelude.{List};
-    ghost use Rattle.formula_build.specs.Libraries.{NamedRelation, AreRelations};
-    ghost use Rattle.formula_build.specs.LibraryViews.{relation_entries};
+    ghost use Rattle.formula_build.specs.Libraries.{ReadValue, IsRead};
+    ghost use Rattle.formula_build.specs.LibraryViews.{read_entries};
 
-    ghost Value = { List NamedRelation };
+    ghost Value = { ReadValue };
 
-    ghost view = { λ l. relation_entries l.entries.items };
+    ghost view = { λ l. read_entries l.relation_entries.items l.word_entries.items };
 
-    ghost invariant = { λ l. AreRelations (relation_entries l.entries.items) };
+    ghost invariant = { λ l. IsRead (read_entries l.relation_entries.items l.word_entries.items) };
 }
 
 impl Library {
-    /// No relation. It takes no memory.
+    /// No relation and no word. It takes no memory.
     pub fn new(alloc: Global) -> Library
-        ensures { result ≡ [] }
+        ensures { result ≡ record { relations = []; words = [] } }
     {
         Library {
-            entries: Vec::new(alloc),
+            relation_entries: Vec::new(alloc),
+            word_entries: Vec::new(alloc),
         }
     }
 
@@ -54,30 +64,60 @@ impl Library {
         name: &Name,
         relation: Rc<Relation>,
     ) -> Result<(), OutOfMemory>
-        ensures ok { OnOk result (self.new ≡ with_relation self.old name.now relation.value) }
+        ensures ok { OnOk result (self.new ≡ record { relations = with_relation self.old.relations name.now relation.value; words = self.old.words }) }
         ensures err { OnErr result (self.new ≡ self.old) }
     {
         let name = name.copy(alloc)?;
         is_relation(relation.as_ref());
-        self.entries.push(RelationEntry { name, relation })?;
+        self.relation_entries
+            .push(RelationEntry { name, relation })?;
         Ok(())
     }
 
-    /// All are relations.
-    pub(crate) fn are_relations(&self)
-        ensures { AreRelations self.now }
+    /// Adds a word under a name. Out of memory leaves the library as it was.
+    pub fn add_word(
+        &mut self,
+        alloc: Global,
+        name: &Name,
+        word: Rc<Word>,
+    ) -> Result<(), OutOfMemory>
+        ensures ok { OnOk result (self.new ≡ record { relations = self.old.relations; words = with_word self.old.words name.now word.value }) }
+        ensures err { OnErr result (self.new ≡ self.old) }
     {
-        let _ = self.entries.len();
+        let name = name.copy(alloc)?;
+        is_word(word.as_ref());
+        self.word_entries.push(WordEntry { name, word })?;
+        Ok(())
+    }
+
+    /// All are relations and words.
+    pub(crate) fn is_read(&self)
+        ensures { IsRead self.now }
+    {
+        let _ = self.relation_entries.len();
     }
 
     /// The first relation of a name, if there is one.
     pub fn relation(&self, name: &Name) -> Option<&Rc<Relation>>
-        ensures found { MatchOption result (relation_named self.now name.now ≡ None) (λ r. relation_named self.now name.now ≡ Some r.now.value) }
-        ensures relations { AreRelations self.now }
+        ensures found { MatchOption result (relation_named self.now.relations name.now ≡ None) (λ r. relation_named self.now.relations name.now ≡ Some r.now.value) }
+        ensures read { IsRead self.now }
     {
-        for entry in &self.entries {
+        for entry in &self.relation_entries {
             if entry.name.as_bytes() == name.as_bytes() {
                 return Some(&entry.relation);
+            }
+        }
+        None
+    }
+
+    /// The first word of a name, if there is one.
+    pub fn word(&self, name: &Name) -> Option<&Rc<Word>>
+        ensures found { MatchOption result (word_named self.now.words name.now ≡ None) (λ w. word_named self.now.words name.now ≡ Some w.now.value) }
+        ensures read { IsRead self.now }
+    {
+        for entry in &self.word_entries {
+            if entry.name.as_bytes() == name.as_bytes() {
+                return Some(&entry.word);
             }
         }
         None
@@ -89,4 +129,11 @@ fn is_relation(relation: &Relation)
     ensures { IsRelation relation.now }
 {
     let _ = relation.names();
+}
+
+// A word is one.
+fn is_word(word: &Word)
+    ensures { IsWordValue word.now }
+{
+    let _ = word.function();
 }

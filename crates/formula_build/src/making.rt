@@ -6,25 +6,28 @@ ghost use Rattle.digit_tuple.specs.declared.step_fault.StepFault.TheVariants.{Me
 ghost use Rattle.formula_parse.specs.Views.{relation_view, connective_view};
 ghost use Rattle.num_system.specs.Sealed.{SystemValue};
 ghost use Rattle.number_relations.specs.Relations.{RelationValue, system_named};
-ghost use Rattle.number_relations.specs.Placed.{AgreeUnder, IsPlaced, IsRenamed};
+ghost use Rattle.num_system.specs.Tracks.{AgreeUnder};
+ghost use Rattle.number_relations.specs.Placed.{IsPlaced, IsRenamed};
 ghost use Rattle.number_relations.specs.Comparisons.{IsAnyNumber, IsComparison, IsSumRelation};
 ghost use Rattle.number_relations.specs.Constants.{DoesRelationConstant};
 ghost use Rattle.number_relations.specs.Projections.{DoesRelationProject};
-ghost use Rattle.formula_build.specs.Libraries.{IsSystemIn, IsRelationIn};
+ghost use Rattle.word_output.specs.Words.{WordValue};
+ghost use Rattle.formula_build.specs.Libraries.{IsSystemIn, IsRelationIn, IsWordIn};
 ghost use Rattle.formula_build.specs.KnownViews.{known_value};
 ghost use Rattle.formula_build.specs.Makings.{comparison_of as comparison_by, op_of as op_by};
 ghost use Rattle.formula_build.specs.MadeOf.{DoesMaking, MayMake, name_of};
 
 use crate::known::Known;
 use crate::track_names::{track_name, track_names};
+use crate::word_making::{WordAt, lettered, paired};
 use digit_tuple::faults::OutOfMemory;
 use digit_tuple::name::Name;
 use digit_tuple::step_fault::StepFault;
 use digit_tuple::steps::Steps;
 use formula_parse::tree::{Connective, Relation as Comparing};
 use formula_plan::{Making, Track};
+use num_system::comparison::Comparison;
 use num_system::system::System;
-use number_relations::comparison::Comparison;
 use number_relations::complement::complement_step;
 use number_relations::constant::constant_step;
 use number_relations::join::join_step;
@@ -34,8 +37,7 @@ use product_op::op::Op;
 use std::alloc::Global;
 use std::rc::Rc;
 
-/// The relation that is made so, of those at its places, by the next step where it has one. Words are
-/// not among what names stand for.
+/// The relation that is made so, of those at its places, by the next step where it has one.
 pub(crate) fn make(
     alloc: Global,
     making: &Making,
@@ -64,7 +66,15 @@ pub(crate) fn make(
         }
         Making::Complement(argument) => complement_step(alloc, &made[*argument], steps),
         Making::Projected(track, argument) => projected(alloc, &made[*argument], track, steps),
-        Making::Lettered(..) | Making::Paired(..) => unreachable!(),
+        Making::Lettered(name, tracks, relation, letter) => {
+            let at = word_at(known, name, tracks);
+            Ok(lettered(alloc, at, comparison_of(*relation), *letter)?)
+        }
+        Making::Paired(first, tracks, relation, second, others) => {
+            let left = word_at(known, first, tracks);
+            let right = word_at(known, second, others);
+            paired(alloc, left, comparison_of(*relation), right, steps)
+        }
     }
 }
 
@@ -84,8 +94,23 @@ fn relation_of<'a>(known: Known<'a>, name: &Name) -> &'a Relation
     requires { (r : RelationValue) × IsRelationIn (known_value known) name.now r }
     ensures { IsRelationIn (known_value known.entry) name.now result.now }
 {
-    match known.relations.relation(name) {
+    match known.read.relation(name) {
         Some(relation) => relation.as_ref(),
+        None => unreachable!(),
+    }
+}
+
+// The word of a name, with its tracks.
+fn word_at<'a>(known: Known<'a>, name: &Name, tracks: &'a [Track]) -> WordAt<'a>
+    requires { (w : WordValue) × IsWordIn (known_value known) name.now w }
+    ensures word { IsWordIn (known_value known.entry) name.now result.word.now }
+    ensures tracks { result.tracks.now ≡ tracks.now }
+{
+    match known.read.word(name) {
+        Some(word) => WordAt {
+            word: word.as_ref(),
+            tracks,
+        },
         None => unreachable!(),
     }
 }

@@ -5,8 +5,8 @@ ghost use Rattle.formula_build.specs.Libraries.{AreSealed, with_system, system_n
 
 use digit_tuple::faults::OutOfMemory;
 use digit_tuple::name::Name;
+use num_system::sealed::is_sealed;
 use num_system::system::System;
-use number_relations::sealed::is_sealed;
 use std::alloc::Global;
 use std::marker::Model;
 use std::rc::Rc;

@@ -8,7 +8,7 @@ use crate::row_fault::RowFault;
 use crate::table_texts::listed;
 use determinise::subset_construction::determinise;
 use dfa_reading::{FileFault, FileHeader, Listed, read_relation};
-use dfa_text::print_relation;
+use dfa_text::{print_relation, print_word};
 use digit_tuple::alphabet::Alphabet;
 use digit_tuple::dfa::Dfa;
 use digit_tuple::header::Header;
@@ -99,6 +99,36 @@ fn automata_over_systems_have_their_digits(rt: HostRuntime) -> Result<(), RowFau
     let text = text_of(rt.alloc(), &header, "x:2 y:12 = /! 0>0 23>0")?;
     let wanted = "msd_2 msd_12\n\n0 1\n0 0 -> 0\n1 11 -> 0\n";
     expect(&rt, "two systems", &text, wanted);
+    Ok(())
+}
+
+// The text of an automaton over sets whose states have these outputs.
+fn word_text(
+    alloc: Global,
+    header: &Header,
+    line: &str,
+    outputs: &[i32],
+) -> Result<String, RowFault> {
+    let alphabet = Alphabet::of_header(alloc, header)?;
+    let dfa = listed(alloc, line)?;
+    if have_same_sizes(&alphabet, &dfa) && outputs.len() == dfa.states() as usize {
+        string_of(alloc, &print_word(alloc, header, &dfa, outputs)?)
+    } else {
+        Err(RowFault::Form)
+    }
+}
+
+#[test]
+fn automata_with_outputs_have_their_letters(rt: HostRuntime) -> Result<(), RowFault> {
+    let header = header_of_bases(rt.alloc())?;
+    let text = word_text(
+        rt.alloc(),
+        &header,
+        "x:2 y:12 = / 0>0 23>1/!",
+        &[-3, 2147483647],
+    )?;
+    let wanted = "msd_2 msd_12\n\n0 -3\n0 0 -> 0\n1 11 -> 1\n\n1 2147483647\n";
+    expect(&rt, "outputs", &text, wanted);
     Ok(())
 }
 

@@ -89,6 +89,10 @@ mod automaton_texts;
 #[cfg(test)]
 mod hostile_files;
 
+// files of automatic words
+#[cfg(test)]
+mod word_files;
+
 // the branching automata of files, and the steps of their relations
 #[cfg(test)]
 mod reading_steps;

@@ -3,7 +3,7 @@
 ghost use Rattle.std.specs.Prelude.{◌≡◌, IsTrue, map};
 ghost use Rattle.std.specs.Rc.{rc_value};
 ghost use Rattle.numeration.specs.Spelling.{sizes_of};
-ghost use Rattle.number_relations.specs.Relations.{HaveOneWay, systems_of};
+ghost use Rattle.num_system.specs.Tracks.{HaveOneWay, systems_of};
 
 use crate::row_fault::RowFault;
 use base_k::base_k::BaseK;

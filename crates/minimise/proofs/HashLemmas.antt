@@ -1,16 +1,14 @@
 -- Hashes of states.
-use Rattle.std.proofs.Common.{◌≡◌, ◌≢◌, ℕ, ◌+◌, ◌*◌, ◌<◌, ◌^◌, Bool, List, [], ◌∷◌, ◌++◌, take, length, get_or, refl, sym, ap, ◌∙◌, arith}
+use Rattle.std.proofs.Common.{◌≡◌, ◌≢◌, ℕ, ◌+◌, ◌*◌, ◌<◌, ◌^◌, List, [], ◌∷◌, ◌++◌, take, length, get_or, refl, sym, ap, ◌∙◌, arith}
 use Rattle.std.proofs.lemmas.List.{get_or_default}
-use Rattle.digit_tuple.specs.Deterministic.{Automaton, IsTable, letters_of, states_of, accepting_of, edges_of}
+use Rattle.digit_tuple.specs.Deterministic.{Automaton, IsTable, letters_of, states_of, edges_of}
 use Rattle.digit_tuple.specs.declared.edges.Edge.{Edge}
 use Rattle.minimise.specs.Classes.{class_of, dead_class}
-use Rattle.minimise.specs.CoarseClasses.{AreCoarseClasses}
-use Rattle.minimise.specs.Refinement.{AreAlike}
-use Rattle.minimise.specs.Signatures.{class_edges, bit_of}
+use Rattle.minimise.specs.Refinement.{AreAlike, KeepAlike}
+use Rattle.minimise.specs.Signatures.{class_edges}
 use Rattle.minimise.specs.Hashes.{mixed, hash_edges, hash_of}
 use Rattle.minimise.proofs.NumberedLemmas.{AreNumberedBy, same_number}
 use Rattle.minimise.proofs.StabilityLemmas.{rows_from_alike}
-use Rattle.minimise.proofs.ResidualLemmas.{alike_residual}
 use Rattle.minimise.proofs.SignatureLemmas.{class_edge, class_edges-dead, class_edges-live}
 
 -- one more edge
@@ -32,18 +30,16 @@ module _ (d : Automaton) (classes : List ℕ) (table : IsTable (letters_of d) d.
   -- states that are alike have one hash
   one_hash : (p q : ℕ) → AreAlike d classes p q → hash_of d classes p ≡ hash_of d classes q
   one_hash p q alike =
-      ap (λ (b : Bool). hash_edges (mixed 0 (2 * class_of classes p + bit_of b)) (class_edges classes (dead_class d classes) (edges_of d p))) alike.accepting
-      ∙ ap (λ (c : ℕ). hash_edges (mixed 0 (2 * c + bit_of (accepting_of d q))) (class_edges classes (dead_class d classes) (edges_of d p))) alike.own
-      ∙ ap (hash_edges (mixed 0 (2 * class_of classes q + bit_of (accepting_of d q)))) (rows_from_alike d classes table p q alike)
+      ap (λ (c : ℕ). hash_edges (mixed 0 c) (class_edges classes (dead_class d classes) (edges_of d p))) alike.own
+      ∙ ap (hash_edges (mixed 0 (class_of classes q))) (rows_from_alike d classes table p q alike)
 
   -- states numbered by hashes
-  pub AreCoarseClasses-hashed : (keys : List (List ℕ)) (numbers : List ℕ) (count : ℕ) → count ≡ states_of d + 1 → AreCoarseClasses d classes → AreNumberedBy (λ q. hash_of d classes q ∷ []) keys numbers count → AreCoarseClasses d numbers
-  AreCoarseClasses-hashed keys numbers count all coarse done = record {
+  pub KeepAlike-hashed : (keys : List (List ℕ)) (numbers : List ℕ) (count : ℕ) → count ≡ states_of d + 1 → AreNumberedBy (λ q. hash_of d classes q ∷ []) keys numbers count → KeepAlike d classes numbers
+  KeepAlike-hashed keys numbers count all done = record {
     width = done.width ∙ all;
     below = λ k z within.
         let low = done.below k (omega (arith, within, done.width)) in
         omega (arith, low, done.small, all, get_or_default numbers k z 0 within);
-    coarse = λ p q small low same.
-        (same_number (λ r. hash_of d classes r ∷ []) keys numbers count done p q (omega arith) (omega arith)).1
-        (ap (λ (h : ℕ). h ∷ []) (one_hash p q (alike_residual d table classes p q coarse.coarse small low same)));
+    same = λ p q small low alike.
+        (same_number (λ r. hash_of d classes r ∷ []) keys numbers count done p q (omega arith) (omega arith)).1 (ap (λ (h : ℕ). h ∷ []) (one_hash p q alike));
   }

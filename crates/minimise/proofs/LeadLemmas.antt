@@ -1,25 +1,18 @@
 -- Where words lead in an automaton when missing edges lead to its sink.
-use Rattle.std.proofs.Common.{◌≡◌, ◌==◌, ℕ, ◌<◌, Bool, true, false, not, ◌&&◌, List, [], ◌∷◌, ◌++◌, length, Option, None, Some, unwrap_or, ◌⊎◌, inl, inr, refl, sym, ap, ◌∙◌, subst, arith, if◌then◌else◌}
+use Rattle.std.proofs.Common.{◌≡◌, ◌==◌, ℕ, ◌<◌, Bool, true, false, not, ◌&&◌, List, [], ◌∷◌, ◌++◌, length, inl, inr, refl, sym, ap, ◌∙◌, if◌then◌else◌}
 use Rattle.std.specs.Option.{option_map_or}
 use Rattle.std.proofs.lemmas.Bool.Decides.{Decides-eqb}
 use Rattle.std.proofs.lemmas.List.{nil_from_length}
 use Rattle.digit_tuple.specs.declared.edges.Edge.{Edge}
 use Rattle.digit_tuple.specs.Letters.{IsWord}
-use Rattle.digit_tuple.specs.Deterministic.{Automaton, IsRow, letters_of, states_of, accepting_of, edges_of, step_of, target_by, accepts_from, accepts_of}
-use Rattle.minimise.specs.Residuals.{SameResidual, SameAfter, IsDead}
+use Rattle.digit_tuple.specs.Deterministic.{Automaton, letters_of, states_of, accepting_of, edges_of, target_by, accepts_from, accepts_of}
+use Rattle.minimise.specs.Residuals.{SameResidual, SameAfter}
 use Rattle.minimise.specs.Canonical.{IsCanonical}
 use Rattle.minimise.specs.Classes.{next_of, first_of}
-use Rattle.minimise.proofs.SinkLemmas.{no_edges_past, sink_refuses, accepts_from-next, row_of}
-use Rattle.minimise.proofs.CanonicalLemmas.{step_within, one_state}
-
--- where a word leads from a state
-abbrev pub lead : Automaton → ℕ → List ℕ → ℕ
-lead d q [] = q
-lead d q (a ∷ w) = lead d (next_of d q a) w
-
--- the sink, or a state from which some word is accepted
-abbrev pub IsPlace : Automaton → ℕ → Type 0
-IsPlace d q = (q ≡ states_of d) ⊎ ((q < states_of d) × ¬ IsDead d q)
+use Rattle.minimise.proofs.SinkLemmas.{sink_refuses, accepts_from-next}
+use Rattle.minimise.proofs.CanonicalLemmas.{one_state}
+use Rattle.minimise.proofs.PlaceLemmas.{first_is_place, next_is_place, lead_is_place}
+pub use Rattle.minimise.proofs.PlaceLemmas.{lead, IsPlace}
 
 module _ (d : Automaton) where
   -- what is accepted after a word is accepted from where it leads
@@ -52,35 +45,14 @@ module _ (d : Automaton) where
   SameAfter-lead w v same u over = after_first w u ∙ ap (λ q. accepts_from d q u) same ∙ sym (after_first v u)
 
 module _ (d : Automaton) (canonical : IsCanonical d) where
-  live_edges : (es : List Edge) → edges_of d 0 ≡ es → ¬ (length es ≡ 0) → ¬ IsDead d 0
-  live_edges [] are some dead = some refl
-  live_edges (e ∷ es) are some dead =
-      let row : IsRow (letters_of d) (states_of d) (e ∷ es) = subst (λ (xs : List Edge). IsRow (letters_of d) (states_of d) xs) are (row_of d canonical.table 0) in
-      let small : e.letter < letters_of d = (row.in_range 0 e (omega arith)).0 in
-      let step : step_of d 0 e.letter ≡ Some e.target =
-      ap (λ (xs : List Edge). target_by xs e.letter) are ∙ ap (λ b. if b then Some e.target else target_by es e.letter) ((Decides-eqb e.letter e.letter).1 refl) in
-      canonical.live 0 e.letter e.target canonical.table.initial small step
-      (λ w over. sym (ap (λ (o : Option ℕ). option_map_or (λ p. accepts_from d p w) o false) step) ∙ dead (e.letter ∷ w) (small, over))
-
   pub first_place : IsPlace d (first_of d)
-  first_place = by (accepting_of d 0) (length (edges_of d 0) == 0) refl refl
-    where
-      by : (b z : Bool) → accepting_of d 0 ≡ b → (length (edges_of d 0) == 0) ≡ z → IsPlace d (if not b && z then states_of d else 0)
-      by true z is none = inr (canonical.table.initial, λ dead. let no : accepting_of d 0 ≡ false = dead [] tt in cc)
-      by false true is none = inl refl
-      by false false is some = inr (canonical.table.initial, live_edges (edges_of d 0) refl (λ empty. let yes : (length (edges_of d 0) == 0) ≡ true = (Decides-eqb (length (edges_of d 0)) 0).1 empty in cc))
+  first_place = first_is_place d canonical.table canonical.live
 
   pub next_place : (q a : ℕ) → IsPlace d q → a < letters_of d → IsPlace d (next_of d q a)
-  next_place q a (inl sink) small = inl (ap (λ (es : List Edge). unwrap_or (target_by es a) (states_of d)) (no_edges_past d q (omega (arith, sink))))
-  next_place q a (inr live) small = by (step_of d q a) refl
-    where
-      by : (o : Option ℕ) → step_of d q a ≡ o → IsPlace d (unwrap_or o (states_of d))
-      by None none = inl refl
-      by (Some t) some = inr (step_within d q a t canonical.table live.0 some, canonical.live q a t live.0 small some)
+  next_place = next_is_place d canonical.table canonical.live
 
   pub lead_place : (w : List ℕ) (q : ℕ) → IsPlace d q → IsWord (letters_of d) w → IsPlace d (lead d q w)
-  lead_place [] q place over = place
-  lead_place (a ∷ w) q place over = lead_place w (next_of d q a) (next_place q a place over.0) over.1
+  lead_place = lead_is_place d canonical.table canonical.live
 
   -- places with one residual are one
   pub one_place : (p q : ℕ) → IsPlace d p → IsPlace d q → SameResidual d p d q → p ≡ q

@@ -1,7 +1,12 @@
 pub mod OrderLemmas
 pub mod EdgeLemmas
-pub mod CanonicalLemmas
 pub mod SinkLemmas
+pub mod ClassFromLemmas
+pub mod BitLemmas
+pub mod OutputLemmas
+pub mod RunLemmas
+pub mod ClassFormLemmas
+pub mod CanonicalLemmas
 pub mod SignatureLemmas
 pub mod NumberedLemmas
 pub mod RefiningLemmas
@@ -14,7 +19,9 @@ pub mod LeastLemmas
 pub mod SameLemmas
 pub mod GatheringLemmas
 pub mod PartitionLemmas
+pub mod PlaceLemmas
 pub mod LeadLemmas
+pub mod ClassLeadLemmas
 pub mod NoWordLemmas
 pub mod ApartLemmas
 pub mod KeySizes

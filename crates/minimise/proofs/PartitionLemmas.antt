@@ -1,5 +1,5 @@
--- Classes that are parted by sets of states with the same residual languages.
-use Rattle.std.proofs.Common.{◌≡◌, ◌==◌, ℕ, suc, ◌+◌, ◌<◌, ◌≤◌, Bool, true, false, List, [], ◌∷◌, ◌++◌, set, take, length, get_or, Option, None, Some, unwrap_or, if◌then◌else◌, ◌⊎◌, inl, inr, refl, sym, ap, ◌∙◌, subst, Vec, Global, eq-eqb, arith, get_or-set_same, get_or-set_other, length-set}
+-- Classes that are parted by sets of states from which words lead to the same outputs.
+use Rattle.std.proofs.Common.{◌≡◌, ◌≢◌, ◌↔◌, ◌==◌, ℕ, suc, ◌+◌, ◌<◌, ◌≤◌, Bool, true, false, List, [], ◌∷◌, ◌++◌, set, take, length, get_or, Option, None, Some, unwrap_or, if◌then◌else◌, ◌⊎◌, inl, inr, refl, sym, ap, ◌∙◌, subst, Vec, Global, eq-eqb, arith, get_or-set_same, get_or-set_other, length-set}
 use Rattle.std.specs.List.{All, Contains, flat_map}
 use Rattle.std.specs.Option.{IfSome, option_to_list}
 use Rattle.std.proofs.lemmas.Bool.{cases_lt, cases_eq, eqb-true}
@@ -9,15 +9,15 @@ use Rattle.std.proofs.lemmas.List.Elements.{All-push, All-map, All-pop, All-filt
 use Rattle.digit_tuple.specs.declared.edges.Edge.{Edge}
 use Rattle.digit_tuple.specs.Automaton as branching
 use Rattle.digit_tuple.specs.Automaton.{Branching, Leads}
-use Rattle.digit_tuple.specs.Deterministic.{Automaton, IsTable, letters_of, states_of, accepting_of, edges_of, step_of, target_by}
+use Rattle.digit_tuple.specs.Deterministic.{Automaton, IsTable, letters_of, states_of, edges_of, step_of, target_by}
 use Rattle.digit_tuple.specs.Reversed.{IsReversal, edge_to}
-use Rattle.digit_tuple.specs.AcceptingStates.{AreAccepting}
 use Rattle.digit_tuple.proofs.MemberLemmas.{Contains-none, Contains-head, Contains-tail, Contains-cases, Contains-filter, Contains-from_filter, Contains-map, Contains-from_map, Contains-flat_map, Contains-from_flat_map}
 use Rattle.minimise.specs.Classes.{class_of, next_of}
 use Rattle.minimise.specs.Gathering.{IsGathered, edges_by_class}
 use Rattle.minimise.specs.CoarseClasses.{IsCoarse, AreCoarseClasses}
 use Rattle.minimise.specs.Partition.{IsUnion, states_with, IsGiven, IsOneOf, AreParted, list_at, lists_in}
-use Rattle.minimise.proofs.SinkLemmas.{row_of, no_edges_past, not_accepting_past, accepts_from-next, next_within}
+use Rattle.minimise.proofs.SinkLemmas.{row_of, no_edges_past, next_within}
+use Rattle.minimise.proofs.ClassFromLemmas.{class_from-next, no_class_past}
 
 -- the items of a list of the code
 pub list_at-item : (lists : List (Vec ℕ Global)) (place : ℕ) (list : Vec ℕ Global) → place < length lists → list ≡ get_or lists place list → list_at (lists_in lists) place ≡ list.items
@@ -50,7 +50,7 @@ letter_within letters states (e ∷ es) a t range leads = by (e.letter == a) ref
     by true is leads rest = omega (arith, (range 0 e (omega arith)).0, eqb-true e.letter a is)
     by false is leads rest = rest leads
 
-module _ (d : Automaton) (table : IsTable (letters_of d) d.states) where
+module _ (d : Automaton) (outputs : List ℕ) (given : length outputs ≡ states_of d) (table : IsTable (letters_of d) d.states) where
   -- a letter leads where next_of says
   next_is : (q a t : ℕ) → step_of d q a ≡ Some t → next_of d q a ≡ t
   next_is q a t leads = ap (λ (o : Option ℕ). unwrap_or o (states_of d)) leads
@@ -70,7 +70,7 @@ module _ (d : Automaton) (table : IsTable (letters_of d) d.states) where
       by (inr past) = absurd (none-some t (sym (ap (λ (es : List Edge). target_by es a) (no_edges_past d q past)) ∙ leads))
 
   -- the states from which a letter leads into a union
-  module _ (n : Branching) (turned : IsReversal d n) (into : List ℕ) (union : IsUnion d into) (a : ℕ) (sources : List ℕ) (gathered : IsGathered (flat_map (branching.edges_of n) into) a sources) where
+  module _ (n : Branching) (turned : IsReversal d n) (into : List ℕ) (union : IsUnion d outputs into) (a : ℕ) (sources : List ℕ) (gathered : IsGathered (flat_map (branching.edges_of n) into) a sources) where
     led : (q : ℕ) → Contains sources q → (t : ℕ) × Contains into t × (q < states_of d) × (step_of d q a ≡ Some t)
     led q there =
         let found = Contains-from_flat_map (branching.edges_of n) into (edge_to a q) ((gathered.targets q).0 there) in
@@ -83,33 +83,35 @@ module _ (d : Automaton) (table : IsTable (letters_of d) d.states) where
         let leads = step_is q a inside in
         (gathered.targets q).1 (Contains-flat_map (branching.edges_of n) into (next_of d q a) (edge_to a q) there ((turned.leads (next_of d q a) a q).1 (from_within q a (next_of d q a) leads, leads)))
 
-    pub IsUnion-sources : IsUnion d sources
+    pub IsUnion-sources : IsUnion d outputs sources
     IsUnion-sources = record {
       within = λ k z inside. (led (get_or sources k z) (Contains-get_or sources k z inside)).2;
       whole = λ p q small low same there.
           let from = led p there in
           let letter = letter_within (letters_of d) (states_of d) (edges_of d p) a from.0 (row_of d table p).in_range from.3 in
           leading q (union.whole (next_of d p a) (next_of d q a) (next_within d table p a) (next_within d table q a)
-          (λ w over. sym (accepts_from-next d p a w) ∙ same (a ∷ w) (letter, over) ∙ accepts_from-next d q a w)
+          (λ w over. sym (class_from-next d outputs given p a w) ∙ same (a ∷ w) (letter, over) ∙ class_from-next d outputs given q a w)
           (subst (Contains into) (sym (next_is p a from.0 from.3)) from.1));
     }
 
-module _ (d : Automaton) where
-  -- the accepting states
-  pub IsUnion-accepting : (states : List ℕ) → AreAccepting d states → IsUnion d states
-  IsUnion-accepting states are = record {
-    within = λ k z inside. ((are.members (get_or states k z)).0 (Contains-get_or states k z inside)).0;
-    whole = λ p q small low same there.
-        let accepts : accepting_of d q ≡ true = sym (same [] tt) ∙ ((are.members p).0 there).1 in
-        (are.members q).1 (by q accepts (cases_lt q (states_of d)), accepts);
-  }
-    where
-      by : (q : ℕ) → accepting_of d q ≡ true → (q < states_of d) ⊎ (states_of d ≤ q) → q < states_of d
-      by q accepts (inl less) = less
-      by q accepts (inr past) = let refuses : accepting_of d q ≡ false = not_accepting_past d q past in absurd (cc)
+-- the states with outputs
+pub IsUnion-outputs : (d : Automaton) (outputs states : List ℕ) → length outputs ≡ states_of d → ((q : ℕ) → Contains states q ↔ (class_of outputs q ≢ 0)) → IsUnion d outputs states
+IsUnion-outputs d outputs states given are = record {
+  within = λ k z inside. by (get_or states k z) ((are (get_or states k z)).0 (Contains-get_or states k z inside)) (cases_lt (get_or states k z) (states_of d));
+  whole = λ p q small low same there. (are q).1 (λ none. (are p).0 there (same [] tt ∙ none));
+}
+  where
+    by : (q : ℕ) → class_of outputs q ≢ 0 → (q < states_of d) ⊎ (states_of d ≤ q) → q < states_of d
+    by q some (inl less) = less
+    by q some (inr past) = absurd (some (no_class_past d outputs given q past))
 
+-- outputs part no residuals
+pub IsCoarse-outputs : (d : Automaton) (outputs : List ℕ) → IsCoarse d outputs outputs
+IsCoarse-outputs d outputs p q small low same = same [] tt
+
+module _ (d : Automaton) (outputs : List ℕ) where
   -- the states of a class in a union
-  module _ (classes : List ℕ) (coarse : IsCoarse d classes) (union : List ℕ) (is : IsUnion d union) (class : ℕ) (states : List ℕ) (gathered : IsGathered (edges_by_class classes union) class states) where
+  module _ (classes : List ℕ) (coarse : IsCoarse d outputs classes) (union : List ℕ) (is : IsUnion d outputs union) (class : ℕ) (states : List ℕ) (gathered : IsGathered (edges_by_class classes union) class states) where
     in_class : (q : ℕ) → Contains (edges_by_class classes union) (edge_to class q) → Contains union q × (class_of classes q ≡ class)
     in_class q there =
         let found = Contains-from_map (λ (x : ℕ). edge_to (class_of classes x) x) union (edge_to class q) there in
@@ -121,7 +123,7 @@ module _ (d : Automaton) where
     of_class q there one = (gathered.targets q).1
         (subst (λ (a : ℕ). Contains (edges_by_class classes union) (edge_to a q)) one (Contains-map (λ (x : ℕ). edge_to (class_of classes x) x) union q there))
 
-    pub IsUnion-class : IsUnion d states
+    pub IsUnion-class : IsUnion d outputs states
     IsUnion-class = record {
       within = λ k z inside.
           let x = get_or states k z in
@@ -167,18 +169,18 @@ IsGiven-more old mid states class i within inside given = record {
     got q (inr other) (inl before) = get_or-set_other mid x q class 0 other ∙ given.there q before
     got q (inr other) (inr is) = absurd (other (sym is))
 
-module _ (d : Automaton) (old new states : List ℕ) (class : ℕ) (union : IsUnion d states) (given : IsGiven old new states class) where
-  -- a new class for a union parts no states with one residual language
-  pub IsCoarse-given : IsCoarse d old → IsCoarse d new
+module _ (d : Automaton) (outputs old new states : List ℕ) (class : ℕ) (union : IsUnion d outputs states) (given : IsGiven old new states class) where
+  -- a new class for a union parts no states from which words lead to the same outputs
+  pub IsCoarse-given : IsCoarse d outputs old → IsCoarse d outputs new
   IsCoarse-given coarse p q small low same = by (cases_contains states p)
     where
       by : Contains states p ⊎ (Contains states p → ⊥) → class_of new p ≡ class_of new q
       by (inl there) = given.there p there ∙ sym (given.there q (union.whole p q small low same there))
       by (inr none) = given.elsewhere p none ∙ coarse p q small low same ∙ sym (given.elsewhere q (λ there. none (union.whole q p low small (λ w over. sym (same w over)) there)))
 
-  module _ (sizes : List ℕ) (members pending : List (List ℕ)) (parted : AreParted d old sizes members pending) (count : class ≡ length members) where
+  module _ (sizes : List ℕ) (members pending : List (List ℕ)) (parted : AreParted d outputs old sizes members pending) (count : class ≡ length members) where
     -- the states left in a class
-    pub IsUnion-left : (kept : ℕ) → 0 < kept → kept < length members → IsUnion d (states_with new (list_at members kept) kept)
+    pub IsUnion-left : (kept : ℕ) → 0 < kept → kept < length members → IsUnion d outputs (states_with new (list_at members kept) kept)
     IsUnion-left kept other before = record {
       within = All-filter (λ q. class_of new q == kept) (λ q. q < states_of d) (list_at members kept) inside;
       whole = λ p q small low same there.
@@ -199,12 +201,12 @@ module _ (d : Automaton) (old new states : List ℕ) (class : ℕ) (union : IsUn
             let is : q ≡ states_of d = omega arith in
             absurd (omega (arith, given.elsewhere q none, one, other, ap (class_of old) is, parted.sink))
 
-    pub IsUnion-one_of : (kept : ℕ) (set : List ℕ) → kept < length members → IsOneOf set states kept (states_with new (list_at members kept) kept) → IsUnion d set
-    IsUnion-one_of kept set before (inl is) = subst (IsUnion d) (sym is) union
-    IsUnion-one_of kept set before (inr left) = subst (IsUnion d) (sym left.1) (IsUnion-left kept left.0 before)
+    pub IsUnion-one_of : (kept : ℕ) (set : List ℕ) → kept < length members → IsOneOf set states kept (states_with new (list_at members kept) kept) → IsUnion d outputs set
+    IsUnion-one_of kept set before (inl is) = subst (IsUnion d outputs) (sym is) union
+    IsUnion-one_of kept set before (inr left) = subst (IsUnion d outputs) (sym left.1) (IsUnion-left kept left.0 before)
 
     -- the classes with a new one
-    pub AreParted-split : (more : List ℕ) (set : List ℕ) → length more ≡ length sizes + 1 → class ≤ states_of d → IsUnion d set → AreParted d new more (members ++ states ∷ []) (pending ++ set ∷ [])
+    pub AreParted-split : (more : List ℕ) (set : List ℕ) → length more ≡ length sizes + 1 → class ≤ states_of d → IsUnion d outputs set → AreParted d outputs new more (members ++ states ∷ []) (pending ++ set ∷ [])
     AreParted-split more set sized room next = record {
       table = parted.table;
       width = given.width ∙ parted.width;
@@ -215,7 +217,7 @@ module _ (d : Automaton) (old new states : List ℕ) (class : ℕ) (union : IsUn
       coarse = IsCoarse-given parted.coarse;
       inside = All-push (All (λ q. q < states_of d)) members states parted.inside union.within;
       covered = λ q less some. covered q less some (cases_contains states q);
-      unions = All-push (IsUnion d) pending set parted.unions next;
+      unions = All-push (IsUnion d outputs) pending set parted.unions next;
     }
       where
         size : length (members ++ states ∷ []) ≡ length members + 1
@@ -237,9 +239,9 @@ module _ (d : Automaton) (old new states : List ℕ) (class : ℕ) (union : IsUn
             (subst (λ (xs : List ℕ). Contains xs q) (sym (get_or_append_left members (states ∷ []) [] (class_of old q) (parted.below q (omega arith)))) (parted.covered q less (omega (arith, kept, some))))
 
 -- one set is no longer pending
-pub AreParted-pop : (d : Automaton) (classes sizes : List ℕ) (members : List (List ℕ)) (old new : List (Vec ℕ Global)) (r : Option (Vec ℕ Global)) → old ≡ new ++ option_to_list r → AreParted d classes sizes members (lists_in old)
-    → AreParted d classes sizes members (lists_in new) × IfSome r (λ (v : Vec ℕ Global). IsUnion d v.items)
-AreParted-pop d classes sizes members old new r is parted = (
+pub AreParted-pop : (d : Automaton) (outputs classes sizes : List ℕ) (members : List (List ℕ)) (old new : List (Vec ℕ Global)) (r : Option (Vec ℕ Global)) → old ≡ new ++ option_to_list r → AreParted d outputs classes sizes members (lists_in old)
+    → AreParted d outputs classes sizes members (lists_in new) × IfSome r (λ (v : Vec ℕ Global). IsUnion d outputs v.items)
+AreParted-pop d outputs classes sizes members old new r is parted = (
   record {
     table = parted.table;
     width = parted.width;
@@ -250,20 +252,20 @@ AreParted-pop d classes sizes members old new r is parted = (
     coarse = parted.coarse;
     inside = parted.inside;
     covered = parted.covered;
-    unions = All-map (IsUnion d) (λ (v : Vec ℕ Global). v.items) new both.0;
+    unions = All-map (IsUnion d outputs) (λ (v : Vec ℕ Global). v.items) new both.0;
   },
   both.1,
 )
   where
-    all : All (λ (v : Vec ℕ Global). IsUnion d v.items) old
-    all k z within = subst (IsUnion d) (get_or-map (λ (v : Vec ℕ Global). v.items) old k z z.items within) (parted.unions k z.items (omega (arith, within, length-map old (λ (v : Vec ℕ Global). v.items))))
+    all : All (λ (v : Vec ℕ Global). IsUnion d outputs v.items) old
+    all k z within = subst (IsUnion d outputs) (get_or-map (λ (v : Vec ℕ Global). v.items) old k z z.items within) (parted.unions k z.items (omega (arith, within, length-map old (λ (v : Vec ℕ Global). v.items))))
 
-    both : All (λ (v : Vec ℕ Global). IsUnion d v.items) new × IfSome r (λ (v : Vec ℕ Global). IsUnion d v.items)
-    both = All-pop (λ (v : Vec ℕ Global). IsUnion d v.items) old new r is all
+    both : All (λ (v : Vec ℕ Global). IsUnion d outputs v.items) new × IfSome r (λ (v : Vec ℕ Global). IsUnion d outputs v.items)
+    both = All-pop (λ (v : Vec ℕ Global). IsUnion d outputs v.items) old new r is all
 
 -- the classes of a partition
-pub AreCoarseClasses-parted : (d : Automaton) (classes sizes : List ℕ) (members pending : List (List ℕ)) → AreParted d classes sizes members pending → AreCoarseClasses d classes
-AreCoarseClasses-parted d classes sizes members pending parted = record {
+pub AreCoarseClasses-parted : (d : Automaton) (outputs classes sizes : List ℕ) (members pending : List (List ℕ)) → AreParted d outputs classes sizes members pending → AreCoarseClasses d outputs classes
+AreCoarseClasses-parted d outputs classes sizes members pending parted = record {
   width = parted.width;
   below = λ k z within.
       let low = parted.below k (omega (arith, within, parted.width)) in

@@ -1,24 +1,26 @@
 -- The automaton whose states are classes is canonical.
-use Rattle.std.proofs.Common.{◌≡◌, ◌≢◌, ◌==◌, ℕ, ◌+◌, ◌<◌, ◌≤◌, Bool, true, false, List, [], ◌∷◌, ◌++◌, map, take, length, get_or, Option, None, Some, MatchOption, if◌then◌else◌, refl, sym, ap, ◌∙◌, subst, append_assoc, arith}
+use Rattle.std.proofs.Common.{◌≡◌, ◌≢◌, ◌↔◌, ◌==◌, IsTrue, not, true≢false, ℕ, ◌+◌, ◌<◌, ◌≤◌, Bool, true, false, List, [], ◌∷◌, ◌++◌, map, take, length, get_or, Option, None, Some, MatchOption, if◌then◌else◌, refl, sym, ap, ◌∙◌, subst, append_assoc, arith}
 use Rattle.std.specs.List.{All}
-use Rattle.std.specs.Option.{option_map, option_map_or}
+use Rattle.std.specs.Option.{option_map, option_map_or, option_and_then}
 use Rattle.std.proofs.lemmas.Bool.{eqb-true, eqb-false}
 use Rattle.std.proofs.lemmas.List.{get_or-map, length-map, map-append}
 use Rattle.std.proofs.lemmas.Option.{none-some, same_Some}
 use Rattle.digit_tuple.specs.declared.edges.Edge.{Edge}
-use Rattle.digit_tuple.specs.Deterministic.{Automaton, IsTable, letters_of, states_of, step_of, edges_of, target_by, accepts_from}
+use Rattle.digit_tuple.specs.Deterministic.{Automaton, IsTable, letters_of, states_of, accepting_of, step_of, edges_of, target_by, run_of}
 use Rattle.digit_tuple.specs.FirstWords.{IsNumberedByFirsts}
 use Rattle.digit_tuple.specs.Letters.{product, IsWord}
 use Rattle.digit_tuple.specs.Keys.{KeyEdge, AreKeyEdges, key_by}
 use Rattle.digit_tuple.specs.Explored.{IsExplored, key_at}
-use Rattle.minimise.specs.Residuals.{SameResidual, SameLanguage}
-use Rattle.minimise.specs.Canonical.{IsCanonical}
+use Rattle.minimise.specs.ClassFunctions.{class_from, SameClassFunction}
+use Rattle.minimise.specs.Outputs.{SameOutputs}
+use Rattle.minimise.specs.Canonical.{IsCanonicalWithClasses}
 use Rattle.minimise.specs.Classes.{class_of, next_of, dead_class}
 use Rattle.minimise.specs.CoarseClasses.{AreResidualClasses}
 use Rattle.minimise.specs.Leaders.{AreLeaders}
 use Rattle.minimise.specs.Signatures.{class_edges}
-use Rattle.minimise.specs.Quotient.{IsQuotient, IsClass, leader_of, class_after, class_accepts, key_edge}
-use Rattle.minimise.proofs.SinkLemmas.{sink_refuses, accepts_from-next, row_of, next_within}
+use Rattle.minimise.specs.Quotient.{IsQuotient, IsClass, leader_of, next_class, key_output, class_accepts, key_edge}
+use Rattle.minimise.proofs.SinkLemmas.{row_of, next_within}
+use Rattle.minimise.proofs.ClassFromLemmas.{class_from-sink, class_from-next}
 use Rattle.minimise.proofs.SignatureLemmas.{class_edge, class_edges-dead, class_edges-live, class_edges-all, class_edges-pairs, class_edges-lead}
 
 -- key edges lead where the edges do
@@ -33,7 +35,7 @@ key_by-edges (e ∷ es) a = by (e.letter == a) (key_by-edges es a)
 
 -- the key edges from a class
 pub AreKeyEdges-class : (d : Automaton) (classes leaders key : List ℕ) → IsTable (letters_of d) d.states
-    → AreKeyEdges (letters_of d) (class_after d classes leaders key) (map key_edge (class_edges classes (dead_class d classes) (edges_of d (leader_of leaders key))))
+    → AreKeyEdges (letters_of d) (next_class d classes leaders key) (map key_edge (class_edges classes (dead_class d classes) (edges_of d (leader_of leaders key))))
 AreKeyEdges-class d classes leaders key table = record {
   in_range = λ k z within.
       let inside : k < length es = omega (arith, within, length-map es key_edge) in
@@ -60,16 +62,16 @@ module _ (d : Automaton) (classes leaders key : List ℕ) (a : ℕ) where
   n = next_of d (leader_of leaders key) a
 
   -- where a letter leads to no class
-  class_after-none : class_after d classes leaders key a ≡ None → class_of classes n ≡ dead_class d classes
-  class_after-none = by (class_of classes n == dead_class d classes) refl
+  next_class-none : next_class d classes leaders key a ≡ None → class_of classes n ≡ dead_class d classes
+  next_class-none = by (class_of classes n == dead_class d classes) refl
     where
       by : (b : Bool) → (class_of classes n == dead_class d classes) ≡ b → option_map (λ class. class ∷ []) (if b then None else Some (class_of classes n)) ≡ None → class_of classes n ≡ dead_class d classes
       by true is none = eqb-true (class_of classes n) (dead_class d classes) is
       by false is none = absurd (none-some (class_of classes n ∷ []) (sym none))
 
   -- where it leads to one
-  class_after-some : (next : List ℕ) → class_after d classes leaders key a ≡ Some next → (class_of classes n ≢ dead_class d classes) × (class_of classes n ∷ [] ≡ next)
-  class_after-some next = by (class_of classes n == dead_class d classes) refl
+  next_class-some : (next : List ℕ) → next_class d classes leaders key a ≡ Some next → (class_of classes n ≢ dead_class d classes) × (class_of classes n ∷ [] ≡ next)
+  next_class-some next = by (class_of classes n == dead_class d classes) refl
     where
       by : (b : Bool) → (class_of classes n == dead_class d classes) ≡ b → option_map (λ class. class ∷ []) (if b then None else Some (class_of classes n)) ≡ Some next → (class_of classes n ≢ dead_class d classes) × (class_of classes n ∷ [] ≡ next)
       by true is some = absurd (none-some next some)
@@ -81,54 +83,64 @@ one_number [] one = absurd (omega arith)
 one_number (k ∷ []) one = refl
 one_number (k ∷ l ∷ ls) one = absurd (omega arith)
 
-module _ (d least : Automaton) (classes leaders : List ℕ) (quotient : IsQuotient d classes leaders) (keys : List (List ℕ))
-    (explored : IsExplored (letters_of d) (class_of classes 0 ∷ []) (class_after d classes leaders) (class_accepts d leaders) keys least) (valid : All (IsClass d classes leaders) keys) where
+module _ (d least : Automaton) (outputs classes leaders : List ℕ) (quotient : IsQuotient d outputs classes leaders) (keys : List (List ℕ))
+    (explored : IsExplored (letters_of d) (class_of classes 0 ∷ []) (next_class d classes leaders) (class_accepts outputs leaders) keys least) (valid : All (IsClass d classes leaders) keys) where
   -- the state of d whose residual a state of the least automaton has
   abbrev state : ℕ → ℕ
   state q = leader_of leaders (key_at keys q)
+
+  -- the outputs of the least automaton's states
+  abbrev made : List ℕ
+  made = map (key_output outputs leaders) keys
+
+  made_at : (q : ℕ) → q < states_of least → class_of made q ≡ class_of outputs (state q)
+  made_at q within = get_or-map (key_output outputs leaders) keys q [] 0 (omega (arith, within, explored.count))
 
   class_at : (q : ℕ) → q < states_of least → IsClass d classes leaders (key_at keys q)
   class_at q within = valid q [] (omega (arith, within, explored.count))
 
   -- what the class of a letter's target tells of residuals
-  same_next : (t n : ℕ) → t < states_of least → n ≤ states_of d → class_of classes n ∷ [] ≡ key_at keys t → SameResidual d (state t) d n
+  same_next : (t n : ℕ) → t < states_of least → n ≤ states_of d → class_of classes n ∷ [] ≡ key_at keys t → SameOutputs d outputs (state t) n
   same_next t n within inside is =
       let at = class_at t within in
       (quotient.residuals (state t) n (omega (arith, at.leader)) inside).0 (at.itself ∙ ap (λ key. class_of key 0) (sym is))
 
-  residual : (w : List ℕ) (q : ℕ) → IsWord (letters_of d) w → q < states_of least → accepts_from least q w ≡ accepts_from d (state q) w
-  residual [] q over within = explored.accepting q within
-  residual (a ∷ w) q over within = by (step_of least q a) (explored.edges q a within over.0) (λ t inside. residual w t over.1 inside) ∙ sym (accepts_from-next d (state q) a w)
+  residual : (w : List ℕ) (q : ℕ) → IsWord (letters_of d) w → q < states_of least → class_from least made q w ≡ class_from d outputs (state q) w
+  residual [] q over within = made_at q within
+  residual (a ∷ w) q over within = by (step_of least q a) (explored.edges q a within over.0) (λ t inside. residual w t over.1 inside) ∙ sym (class_from-next d outputs quotient.outputs_are (state q) a w)
     where
-      by : (o : Option ℕ) → MatchOption o (class_after d classes leaders (key_at keys q) a ≡ None) (λ t. (t < states_of least) × (class_after d classes leaders (key_at keys q) a ≡ Some (key_at keys t)))
-          → ((t : ℕ) → t < states_of least → accepts_from least t w ≡ accepts_from d (state t) w) → option_map_or (λ p. accepts_from least p w) o false ≡ accepts_from d (next_of d (state q) a) w
+      by : (o : Option ℕ) → MatchOption o (next_class d classes leaders (key_at keys q) a ≡ None) (λ t. (t < states_of least) × (next_class d classes leaders (key_at keys q) a ≡ Some (key_at keys t)))
+          → ((t : ℕ) → t < states_of least → class_from least made t w ≡ class_from d outputs (state t) w)
+          → option_map_or (λ p. class_of made p) (option_and_then (λ p. run_of least p w) o) 0 ≡ class_from d outputs (next_of d (state q) a) w
       by None none rest =
-          let dead = class_after-none d classes leaders (key_at keys q) a none in
-          sym ((quotient.residuals (next_of d (state q) a) (states_of d) (next_within d quotient.table (state q) a) (omega arith)).0 dead w over.1 ∙ sink_refuses d w)
+          let dead = next_class-none d classes leaders (key_at keys q) a none in
+          sym ((quotient.residuals (next_of d (state q) a) (states_of d) (next_within d quotient.table (state q) a) (omega arith)).0 dead w over.1 ∙ class_from-sink d outputs quotient.outputs_are w)
       by (Some t) some rest =
-          let live = class_after-some d classes leaders (key_at keys q) a (key_at keys t) some.1 in
+          let live = next_class-some d classes leaders (key_at keys q) a (key_at keys t) some.1 in
           rest t some.0 ∙ same_next t (next_of d (state q) a) some.0 (next_within d quotient.table (state q) a) live.1 w over.1
 
-  pub SameLanguage-explored : 0 < states_of least → SameLanguage d least
-  SameLanguage-explored some w over = sym (residual w 0 over some ∙ same_next 0 0 some (omega arith) (sym explored.start_is) w over)
+  pub SameClassFunction-explored : 0 < states_of least → SameClassFunction d outputs least made
+  SameClassFunction-explored some w over = sym (residual w 0 over some ∙ same_next 0 0 some (omega arith) (sym explored.start_is) w over)
 
-  pub IsCanonical-explored : IsTable (letters_of least) least.states → (firsts : List (List ℕ)) → IsNumberedByFirsts least firsts → least.sizes ≡ d.sizes → IsCanonical least
+  pub IsCanonical-explored : IsTable (letters_of least) least.states → (firsts : List (List ℕ)) → IsNumberedByFirsts least firsts → least.sizes ≡ d.sizes → IsCanonicalWithClasses least made
   IsCanonical-explored table firsts numbered sizes = record {
     table = table;
+    count = length-map keys (key_output outputs leaders) ∙ explored.count;
+    accepting = λ q within. accepts (class_of outputs (state q)) (class_of made q) (accepting_of least q) (made_at q within) (explored.accepting q within);
     firsts = firsts;
     numbered = numbered;
     distinct = λ p q less within same.
         let one = class_at p (omega arith) in
         let two = class_at q within in
-        let residuals : SameResidual d (state p) d (state q) = λ w over. sym (residual w p over (omega arith)) ∙ same w (word w over) ∙ residual w q over within in
+        let residuals : SameOutputs d outputs (state p) (state q) = λ w over. sym (residual w p over (omega arith)) ∙ same w (word w over) ∙ residual w q over within in
         let class : class_of (key_at keys p) 0 ≡ class_of (key_at keys q) 0 = sym one.itself ∙ (quotient.residuals (state p) (state q) (omega (arith, one.leader)) (omega (arith, two.leader))).1 residuals ∙ two.itself in
         explored.apart p q [] less (omega (arith, within, explored.count)) (one_number (key_at keys p) one.one ∙ ap (λ c. c ∷ []) class ∙ sym (one_number (key_at keys q) two.one));
-    live = λ p a q within small leads dead.
-        let step = subst (λ (o : Option ℕ). MatchOption o (class_after d classes leaders (key_at keys p) a ≡ None) (λ t. (t < states_of least) × (class_after d classes leaders (key_at keys p) a ≡ Some (key_at keys t)))) leads (explored.edges p a within (letter a small)) in
-        let some = class_after-some d classes leaders (key_at keys p) a (key_at keys q) step.1 in
+    live = λ p a q within small leads none.
+        let step = subst (λ (o : Option ℕ). MatchOption o (next_class d classes leaders (key_at keys p) a ≡ None) (λ t. (t < states_of least) × (next_class d classes leaders (key_at keys p) a ≡ Some (key_at keys t)))) leads (explored.edges p a within (letter a small)) in
+        let some = next_class-some d classes leaders (key_at keys p) a (key_at keys q) step.1 in
         let at = class_at q step.0 in
         some.0 (ap (λ key. class_of key 0) some.1 ∙ sym at.itself
-        ∙ (quotient.residuals (state q) (states_of d) (omega (arith, at.leader)) (omega arith)).1 (λ w over. sym (residual w q over step.0) ∙ dead w (word w over) ∙ sym (sink_refuses d w)));
+        ∙ (quotient.residuals (state q) (states_of d) (omega (arith, at.leader)) (omega arith)).1 (λ w over. sym (residual w q over step.0) ∙ none w (word w over) ∙ sym (class_from-sink d outputs quotient.outputs_are w)));
   }
     where
       letters : letters_of d ≡ letters_of least
@@ -140,10 +152,19 @@ module _ (d least : Automaton) (classes leaders : List ℕ) (quotient : IsQuotie
       letter : (a : ℕ) → a < letters_of least → a < letters_of d
       letter a small = omega (arith, small, letters)
 
+      accepts : (output class : ℕ) (b : Bool) → class ≡ output → b ≡ not (output == 0) → IsTrue b ↔ (class ≢ 0)
+      accepts output class b is flag = by (output == 0) refl
+        where
+          by : (z : Bool) → (output == 0) ≡ z → IsTrue b ↔ (class ≢ 0)
+          by true none = ((λ yes. let no : b ≡ false = flag ∙ ap not none in absurd (true≢false (sym yes ∙ no))), (λ some. absurd (some (is ∙ eqb-true output 0 none))))
+          by false some = ((λ yes none. eqb-false output 0 some (sym is ∙ none)), (λ other. flag ∙ ap not some))
+
 -- the classes and their leaders, read through a slice
-pub IsQuotient-read : (d : Automaton) (classes leaders read : List ℕ) (count : ℕ) → read ≡ leaders → count ≡ states_of d → IsTable (letters_of d) d.states → AreResidualClasses d classes → AreLeaders classes leaders count → IsQuotient d classes read
-IsQuotient-read d classes leaders read count is all table are led = subst (λ (ls : List ℕ). IsQuotient d classes ls) (sym is) (record {
+pub IsQuotient-read : (d : Automaton) (outputs classes leaders read : List ℕ) (count : ℕ) → length outputs ≡ states_of d → read ≡ leaders → count ≡ states_of d → IsTable (letters_of d) d.states → AreResidualClasses d outputs classes → AreLeaders classes leaders count
+    → IsQuotient d outputs classes read
+IsQuotient-read d outputs classes leaders read count given is all table are led = subst (λ (ls : List ℕ). IsQuotient d outputs classes ls) (sym is) (record {
   table = table;
+  outputs_are = given;
   width = are.width;
   below = λ q within. are.below q 0 (omega (arith, within, are.width));
   residuals = are.residuals;

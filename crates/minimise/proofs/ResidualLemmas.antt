@@ -1,48 +1,72 @@
--- Classes that are refined until they are the residual languages.
-use Rattle.std.proofs.Common.{◌≡◌, ℕ, ◌+◌, ◌<◌, ◌≤◌, List, [], ◌∷◌, length, replicate, get_or, refl, sym, ap, ◌∙◌, arith}
+-- Classes that are refined until they are the residuals.
+use Rattle.std.proofs.Common.{◌≡◌, ℕ, ◌+◌, ◌<◌, ◌≤◌, List, [], ◌∷◌, length, refl, sym, ap, ◌∙◌, arith}
 use Rattle.std.specs.List.{All}
-use Rattle.std.proofs.lemmas.List.{get_or_default, get_or-replicate, length-replicate}
-use Rattle.digit_tuple.specs.Deterministic.{Automaton, IsTable, letters_of, states_of, accepts_from}
+use Rattle.std.proofs.lemmas.List.{get_or_default}
+use Rattle.digit_tuple.specs.Deterministic.{Automaton, IsTable, letters_of, states_of}
 use Rattle.digit_tuple.specs.Letters.{IsWord}
-use Rattle.minimise.specs.Residuals.{SameResidual}
-use Rattle.minimise.specs.Classes.{class_of, next_of, AreResiduals}
-use Rattle.minimise.specs.Refinement.{AreAlike, AreCounted, AreRefined}
-use Rattle.minimise.specs.CoarseClasses.{IsCoarse, AreCoarseClasses, AreResidualClasses}
+use Rattle.minimise.specs.Outputs.{SameOutputs, AreOutputClasses}
+use Rattle.minimise.specs.ClassFunctions.{class_from}
+use Rattle.minimise.specs.Classes.{class_of, next_of}
+use Rattle.minimise.specs.Refinement.{AreAlike, AreCounted, AreRefined, KeepAlike}
+use Rattle.minimise.specs.CoarseClasses.{IsCoarse, AreResiduals, AreCoarseClasses, AreResidualClasses}
 use Rattle.digit_tuple.proofs.PigeonLemmas.{StandsIn, onto_least, onto_one, choose}
-use Rattle.minimise.proofs.StabilityLemmas.{IsStable}
-use Rattle.minimise.proofs.SinkLemmas.{accepts_from-next, next_within}
+use Rattle.minimise.proofs.StabilityLemmas.{IsStable, TellOutputs}
+use Rattle.minimise.proofs.SinkLemmas.{next_within}
+use Rattle.minimise.proofs.ClassFromLemmas.{class_from-next}
 
--- classes that part no states with one residual language
-pub record AreCoarse (d : Automaton) (classes : List ℕ) (count : ℕ) : Type 0 where
+-- classes that part only states from which words lead to different outputs, and all states of different outputs
+pub record AreCoarse (d : Automaton) (outputs classes : List ℕ) (count : ℕ) : Type 0 where
   pub counted : AreCounted d classes count
-  pub coarse : IsCoarse d classes
+  pub coarse : IsCoarse d outputs classes
+  pub tell : TellOutputs d outputs classes
 
-module _ (d : Automaton) (table : IsTable (letters_of d) d.states) where
-  -- what is alike for all rounds has one residual language; what has one is alike
-  pub alike_residual : (classes : List ℕ) (p q : ℕ) → IsCoarse d classes → p ≤ states_of d → q ≤ states_of d → SameResidual d p d q → AreAlike d classes p q
+module _ (d : Automaton) (outputs : List ℕ) (given : length outputs ≡ states_of d) (table : IsTable (letters_of d) d.states) where
+  -- what has one residual is alike
+  pub alike_residual : (classes : List ℕ) (p q : ℕ) → IsCoarse d outputs classes → p ≤ states_of d → q ≤ states_of d → SameOutputs d outputs p q → AreAlike d classes p q
   alike_residual classes p q coarse small low same = record {
-    accepting = same [] tt;
     own = coarse p q small low same;
     next = λ a inside. coarse (next_of d p a) (next_of d q a) (next_within d table p a) (next_within d table q a)
-        (λ w over. sym (accepts_from-next d p a w) ∙ same (a ∷ w) (inside, over) ∙ accepts_from-next d q a w);
+        (λ w over. sym (class_from-next d outputs given p a w) ∙ same (a ∷ w) (inside, over) ∙ class_from-next d outputs given q a w);
   }
 
-  pub AreCoarse-refined : (old new : List ℕ) (more : ℕ) → IsCoarse d old → AreRefined d old new more → AreCoarse d new more
-  AreCoarse-refined old new more coarse refined = record {
+  pub AreCoarse-refined : (old new : List ℕ) (count more : ℕ) → AreCoarse d outputs old count → AreRefined d old new more → AreCoarse d outputs new more
+  AreCoarse-refined old new count more are refined = record {
     counted = refined.counted;
-    coarse = λ p q small low same. (refined.same p q small low).1 (alike_residual old p q coarse small low same);
+    coarse = λ p q small low same. (refined.same p q small low).1 (alike_residual old p q are.coarse small low same);
+    tell = λ p q small low same. are.tell p q small low ((refined.same p q small low).0 same).own;
   }
 
-  -- what stays alike has one residual language
-  module _ (classes : List ℕ) (stable : (p q : ℕ) → p ≤ states_of d → q ≤ states_of d → class_of classes p ≡ class_of classes q → AreAlike d classes p q) where
-    pub residual_from_class : (w : List ℕ) (p q : ℕ) → p ≤ states_of d → q ≤ states_of d → class_of classes p ≡ class_of classes q → IsWord (letters_of d) w → accepts_from d p w ≡ accepts_from d q w
-    residual_from_class [] p q small low same over = (stable p q small low same).accepting
-    residual_from_class (a ∷ w) p q small low same over =
-        accepts_from-next d p a w
-        ∙ residual_from_class w (next_of d p a) (next_of d q a) (next_within d table p a) (next_within d table q a) ((stable p q small low same).next a over.0) over.1
-        ∙ sym (accepts_from-next d q a w)
+  -- a round that keeps together what is alike
+  pub AreCoarseClasses-kept : (old new : List ℕ) → AreCoarseClasses d outputs old → KeepAlike d old new → AreCoarseClasses d outputs new
+  AreCoarseClasses-kept old new are kept = record {
+    width = kept.width;
+    below = kept.below;
+    coarse = λ p q small low same. kept.same p q small low (alike_residual old p q are.coarse small low same);
+  }
 
-  module _ (old new : List ℕ) (count more : ℕ) (coarse : AreCoarse d old count) (refined : AreRefined d old new more) where
+  -- what stays alike, and has one output, has one residual
+  module _ (classes : List ℕ) (stable : IsStable d classes) (tell : TellOutputs d outputs classes) where
+    pub residual_from_class : (w : List ℕ) (p q : ℕ) → p ≤ states_of d → q ≤ states_of d → class_of classes p ≡ class_of classes q → IsWord (letters_of d) w → class_from d outputs p w ≡ class_from d outputs q w
+    residual_from_class [] p q small low same over = tell p q small low same
+    residual_from_class (a ∷ w) p q small low same over =
+        class_from-next d outputs given p a w
+        ∙ residual_from_class w (next_of d p a) (next_of d q a) (next_within d table p a) (next_within d table q a) ((stable p q small low same).next a over.0) over.1
+        ∙ sym (class_from-next d outputs given q a w)
+
+  -- classes that letters keep, each of one output, are the residuals
+  pub AreResidualClasses-stable : (classes : List ℕ) → AreCoarseClasses d outputs classes → IsStable d classes → TellOutputs d outputs classes → AreResidualClasses d outputs classes
+  AreResidualClasses-stable classes coarse stable tell = record {
+    width = coarse.width;
+    below = coarse.below;
+    residuals = λ p q small low. ((λ same w over. residual_from_class classes stable tell w p q small low same over), (λ same. coarse.coarse p q small low same));
+  }
+
+  -- the residuals are classes that letters keep
+  pub AreAlike-residuals : (classes : List ℕ) → AreResidualClasses d outputs classes → (p q : ℕ) → p ≤ states_of d → q ≤ states_of d → class_of classes p ≡ class_of classes q → AreAlike d classes p q
+  AreAlike-residuals classes are p q small low same =
+      alike_residual classes p q (λ r s one two alike. (are.residuals r s one two).1 alike) small low ((are.residuals p q small low).0 same)
+
+  module _ (old new : List ℕ) (count more : ℕ) (coarse : AreCoarse d outputs old count) (refined : AreRefined d old new more) where
     -- a state of the new class, and its old one
     abbrev IsOld : ℕ → ℕ → Type 0
     IsOld k c = (q : ℕ) × (q ≤ states_of d) × (class_of new q ≡ k) × (c ≡ class_of old q)
@@ -70,10 +94,10 @@ module _ (d : Automaton) (table : IsTable (letters_of d) d.states) where
         (onto_one count olds.0 all_stand (olds.1 ∙ all) (class_of new p) (class_of new q) (omega (arith, refined.counted.below p small, olds.1)) (omega (arith, refined.counted.below q low, olds.1))
         (old_class p small ∙ same ∙ sym (old_class q low)))
 
-    -- and the classes are the residual languages
-    pub AreResiduals-done : more ≡ count → AreResiduals d old
+    -- and the classes are the residuals
+    pub AreResiduals-done : more ≡ count → AreResiduals d outputs old
     AreResiduals-done all p q small low = (
-      (λ same w over. residual_from_class old (stable_classes all) w p q small low same over),
+      (λ same w over. residual_from_class old (stable_classes all) coarse.tell w p q small low same over),
       (λ same. coarse.coarse p q small low same),
     )
 
@@ -83,25 +107,26 @@ All-counted d classes count counted k z within =
     let low = counted.below k (omega (arith, within, counted.width)) in
     omega (arith, low, counted.small, get_or_default classes k z 0 within)
 
--- classes that letters keep are the residual languages
-pub AreResidualClasses-stable : (d : Automaton) (classes : List ℕ) → IsTable (letters_of d) d.states → AreCoarseClasses d classes → IsStable d classes → AreResidualClasses d classes
-AreResidualClasses-stable d classes table coarse stable = record {
-  width = coarse.width;
-  below = coarse.below;
-  residuals = λ p q small low. ((λ same w over. residual_from_class d table classes stable w p q small low same over), (λ same. coarse.coarse p q small low same));
+-- the classes by outputs are counted
+AreCounted-outputs : (d : Automaton) (outputs classes : List ℕ) (count : ℕ) → length outputs ≡ states_of d → AreOutputClasses outputs classes count → AreCounted d classes count
+AreCounted-outputs d outputs classes count given are = record {
+  width = are.width ∙ ap (λ n. n + 1) given;
+  small = omega (arith, are.small, given);
+  below = λ q within. are.below q (omega (arith, within, given));
+  onto = λ k within. let there = are.onto k within in (there.0, omega (arith, there.1, given), there.2);
 }
 
--- the residual languages are classes that letters keep
-pub AreAlike-residuals : (d : Automaton) (classes : List ℕ) → IsTable (letters_of d) d.states → AreCoarseClasses d classes → AreResidualClasses d classes → (p q : ℕ) → p ≤ states_of d → q ≤ states_of d → class_of classes p ≡ class_of classes q → AreAlike d classes p q
-AreAlike-residuals d classes table coarse are p q small low same = alike_residual d table classes p q coarse.coarse small low ((are.residuals p q small low).0 same)
-
--- one class for all
-pub AreCoarseClasses-one : (d : Automaton) (classes : List ℕ) → classes ≡ replicate (states_of d + 1) 0 → AreCoarseClasses d classes
-AreCoarseClasses-one d classes one = record {
-  width = ap length one ∙ length-replicate {A = ℕ} (states_of d + 1) 0;
-  below = λ k z within. let at = zero_at k z (omega (arith, within, ap length one, length-replicate {A = ℕ} (states_of d + 1) 0)) in omega (arith, at);
-  coarse = λ p q small low same. zero_at p 0 (omega arith) ∙ sym (zero_at q 0 (omega arith));
+-- and part no residuals
+pub AreCoarse-outputs : (d : Automaton) (outputs classes : List ℕ) (count : ℕ) → length outputs ≡ states_of d → AreOutputClasses outputs classes count → AreCoarse d outputs classes count
+AreCoarse-outputs d outputs classes count given are = record {
+  counted = AreCounted-outputs d outputs classes count given are;
+  coarse = λ p q small low same. (are.same p q (omega (arith, small, given)) (omega (arith, low, given))).1 (same [] tt);
+  tell = λ p q small low same. (are.same p q (omega (arith, small, given)) (omega (arith, low, given))).0 same;
 }
-  where
-    zero_at : (k z : ℕ) → k < states_of d + 1 → get_or classes k z ≡ 0
-    zero_at k z within = ap (λ (cs : List ℕ). get_or cs k z) one ∙ get_or-replicate (states_of d + 1) k 0 z within
+
+pub AreCoarseClasses-counted : (d : Automaton) (outputs classes : List ℕ) (count : ℕ) → AreCoarse d outputs classes count → AreCoarseClasses d outputs classes
+AreCoarseClasses-counted d outputs classes count are = record {
+  width = are.counted.width;
+  below = All-counted d classes count are.counted;
+  coarse = are.coarse;
+}

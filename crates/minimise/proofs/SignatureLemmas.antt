@@ -7,13 +7,13 @@ use Rattle.std.proofs.lemmas.List.Elements.{All-cons}
 use Rattle.std.proofs.lemmas.List.Kept.{AllPairs-cons}
 use Rattle.std.proofs.lemmas.Option.{none-some, same_Some}
 use Rattle.digit_tuple.specs.declared.edges.Edge.{Edge}
-use Rattle.digit_tuple.specs.Deterministic.{Automaton, IsTable, IsByEarlier, letters_of, states_of, accepting_of, edges_of, target_by}
+use Rattle.digit_tuple.specs.Deterministic.{Automaton, IsTable, IsByEarlier, letters_of, states_of, edges_of, target_by}
 use Rattle.digit_tuple.proofs.DfaLemmas.{target_by-other, target_by-first}
 use Rattle.minimise.specs.Classes.{class_of, next_of, dead_class, live_class}
-use Rattle.minimise.specs.Signatures.{class_edges, numbers_in, bit_of, signature_of}
+use Rattle.minimise.specs.Signatures.{class_edges, numbers_in, signature_of}
 use Rattle.minimise.specs.Refinement.{AreAlike}
 use Rattle.minimise.proofs.EdgeLemmas.{rest_pairs, target_by-early, same_edges}
-use Rattle.minimise.proofs.SinkLemmas.{row_of, not_accepting_past, no_edges_past}
+use Rattle.minimise.proofs.SinkLemmas.{row_of}
 
 -- the edge of the class that an edge leads to
 abbrev pub class_edge : List ℕ → Edge → Edge
@@ -126,20 +126,12 @@ module _ (d : Automaton) (classes : List ℕ) where
     leads_at : (q a : ℕ) → target_by (edges_at q) a ≡ live_class d classes (next_of d q a)
     leads_at q a = class_edges-lead (edges_of d q) a (row_of d table q).ascending
 
-    bit_of-tells : (b c : Bool) → bit_of b ≡ bit_of c → b ≡ c
-    bit_of-tells true true same = refl
-    bit_of-tells true false same = absurd (omega arith)
-    bit_of-tells false true same = absurd (omega arith)
-    bit_of-tells false false same = refl
-
     pub alike_from_signature : (p q : ℕ) → signature_of d classes p ≡ signature_of d classes q → AreAlike d classes p q
     alike_from_signature p q same =
-        let bit : bit_of (accepting_of d p) ≡ bit_of (accepting_of d q) = cc in
         let own : class_of classes p ≡ class_of classes q = cc in
         let numbers : numbers_in (edges_at p) ≡ numbers_in (edges_at q) = cc in
         let edges : edges_at p ≡ edges_at q = numbers_in-tells (edges_at p) (edges_at q) numbers in
         record {
-          accepting = bit_of-tells (accepting_of d p) (accepting_of d q) bit;
           own = own;
           next = λ a small. live_class-tells (next_of d p a) (next_of d q a) (sym (leads_at p a) ∙ ap (λ (es : List Edge). target_by es a) edges ∙ leads_at q a);
         }
@@ -150,12 +142,4 @@ module _ (d : Automaton) (classes : List ℕ) where
         let pairs = λ (x : ℕ). class_edges-pairs classes (dead_class d classes) (edges_of d x) (row_of d table x).ascending in
         let edges : edges_at p ≡ edges_at q = same_edges (letters_of d) (edges_at p) (edges_at q) (pairs p) (pairs q) (small p) (small q)
         (λ a inside. leads_at p a ∙ ap (λ (c : ℕ). if c == dead_class d classes then None else Some c) (alike.next a inside) ∙ sym (leads_at q a)) in
-        ap (λ (b : Bool). bit_of b ∷ class_of classes p ∷ numbers_in (edges_at p)) alike.accepting
-        ∙ ap (λ (c : ℕ). bit_of (accepting_of d q) ∷ c ∷ numbers_in (edges_at p)) alike.own
-        ∙ ap (λ (es : List Edge). bit_of (accepting_of d q) ∷ class_of classes q ∷ numbers_in es) edges
-
-  -- the signature of the sink
-  pub signature_of-sink : signature_of d classes (states_of d) ≡ 0 ∷ dead_class d classes ∷ []
-  signature_of-sink =
-      ap (λ (b : Bool). bit_of b ∷ dead_class d classes ∷ numbers_in (class_edges classes (dead_class d classes) (edges_of d (states_of d)))) (not_accepting_past d (states_of d) (omega arith))
-      ∙ ap (λ (es : List Edge). 0 ∷ dead_class d classes ∷ numbers_in (class_edges classes (dead_class d classes) es)) (no_edges_past d (states_of d) (omega arith))
+        ap (λ (c : ℕ). c ∷ numbers_in (edges_at p)) alike.own ∙ ap (λ (es : List Edge). class_of classes q ∷ numbers_in es) edges

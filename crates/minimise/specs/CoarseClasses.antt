@@ -1,22 +1,26 @@
--- Classes that part no states with one residual language.
-use Rattle.std.specs.Prelude.{◌≡◌, ℕ, ◌+◌, ◌≤◌, List, length}
+-- Classes that part no states from which all words lead to the same outputs.
+use Rattle.std.specs.Prelude.{◌≡◌, ℕ, ◌+◌, ◌≤◌, List, length, ◌↔◌}
 use Rattle.std.specs.List.{All}
 use Rattle.digit_tuple.specs.Deterministic.{Automaton, states_of}
-use Rattle.minimise.specs.Residuals.{SameResidual}
-use Rattle.minimise.specs.Classes.{AreResiduals, class_of}
+use Rattle.minimise.specs.Classes.{class_of}
+use Rattle.minimise.specs.Outputs.{SameOutputs}
 
--- states with one residual language have one class
-abbrev pub IsCoarse : Automaton → List ℕ → Type 0
-IsCoarse d classes = (p q : ℕ) → p ≤ states_of d → q ≤ states_of d → SameResidual d p d q → class_of classes p ≡ class_of classes q
+-- states from which words lead to the same outputs have one class
+abbrev pub IsCoarse : Automaton → List ℕ → List ℕ → Type 0
+IsCoarse d outputs classes = (p q : ℕ) → p ≤ states_of d → q ≤ states_of d → SameOutputs d outputs p q → class_of classes p ≡ class_of classes q
 
--- a class for each state and the sink, at most the sink's number, and one where states have one residual language
-pub record AreCoarseClasses (d : Automaton) (classes : List ℕ) : Type 0 where
+-- states have one class exactly where words lead to the same outputs
+abbrev pub AreResiduals : Automaton → List ℕ → List ℕ → Type 0
+AreResiduals d outputs classes = (p q : ℕ) → p ≤ states_of d → q ≤ states_of d → class_of classes p ≡ class_of classes q ↔ SameOutputs d outputs p q
+
+-- a class for each state and the sink, at most the sink's number, and one where words lead to the same outputs
+pub record AreCoarseClasses (d : Automaton) (outputs classes : List ℕ) : Type 0 where
   pub width : length classes ≡ states_of d + 1
   pub below : All (λ class. class ≤ states_of d) classes
-  pub coarse : IsCoarse d classes
+  pub coarse : IsCoarse d outputs classes
 
--- the same, and one exactly where they have
-pub record AreResidualClasses (d : Automaton) (classes : List ℕ) : Type 0 where
+-- the same, and one exactly where they do
+pub record AreResidualClasses (d : Automaton) (outputs classes : List ℕ) : Type 0 where
   pub width : length classes ≡ states_of d + 1
   pub below : All (λ class. class ≤ states_of d) classes
-  pub residuals : AreResiduals d classes
+  pub residuals : AreResiduals d outputs classes

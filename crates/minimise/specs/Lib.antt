@@ -1,7 +1,9 @@
 pub mod Residuals
+pub mod Classes
+pub mod ClassFunctions
+pub mod Outputs
 pub mod Canonical
 pub mod Tracked
-pub mod Classes
 pub mod CoarseClasses
 pub mod Signatures
 pub mod Refinement

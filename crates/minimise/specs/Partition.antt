@@ -3,15 +3,16 @@ use Rattle.std.specs.Prelude.{◌≡◌, ◌==◌, ℕ, ◌+◌, ◌<◌, ◌≤
 use Rattle.std.specs.List.{All, Contains}
 use Rattle.std.specs.declared.alloc.Global.{Global}
 use Rattle.digit_tuple.specs.Deterministic.{Automaton, IsTable, letters_of, states_of}
-use Rattle.minimise.specs.Residuals.{SameResidual}
+use Rattle.minimise.specs.Outputs.{SameOutputs}
 use Rattle.minimise.specs.Classes.{class_of}
 use Rattle.minimise.specs.CoarseClasses.{IsCoarse}
+use Rattle.minimise.specs.declared.machine.Machine.{Machine}
 use Rattle.minimise.specs.declared.partition.Partition.{Partition}
 
--- with a state, the set has all states that have its residual language; the sink is none of them
-pub record IsUnion (d : Automaton) (set : List ℕ) : Type 0 where
+-- with a state, the set has all states from which words lead to the same outputs; the sink is none of them
+pub record IsUnion (d : Automaton) (outputs set : List ℕ) : Type 0 where
   pub within : All (λ q. q < states_of d) set
-  pub whole : (p q : ℕ) → p ≤ states_of d → q ≤ states_of d → SameResidual d p d q → Contains set p → Contains set q
+  pub whole : (p q : ℕ) → p ≤ states_of d → q ≤ states_of d → SameOutputs d outputs p q → Contains set p → Contains set q
 
 -- the states of the list that have the class
 abbrev pub states_with : List ℕ → List ℕ → ℕ → List ℕ
@@ -32,21 +33,21 @@ abbrev pub list_at : List (List ℕ) → ℕ → List ℕ
 list_at lists place = slice_index_or lists place []
 
 -- the states of each class but the sink's, 0, stand in the class's list of members, and pending sets are unions of classes
--- of states with one residual language, which are never parted
-pub record AreParted (d : Automaton) (classes sizes : List ℕ) (members pending : List (List ℕ)) : Type 0 where
+-- of states from which words lead to the same outputs, which are never parted
+pub record AreParted (d : Automaton) (outputs classes sizes : List ℕ) (members pending : List (List ℕ)) : Type 0 where
   pub table : IsTable (letters_of d) d.states
   pub width : length classes ≡ states_of d + 1
   pub counts : length sizes ≡ length members
   pub few : length members ≤ states_of d + 1
   pub below : (q : ℕ) → q ≤ states_of d → class_of classes q < length members
   pub sink : class_of classes (states_of d) ≡ 0
-  pub coarse : IsCoarse d classes
+  pub coarse : IsCoarse d outputs classes
   pub inside : All (All (λ q. q < states_of d)) members
   pub covered : (q : ℕ) → q < states_of d → 0 < class_of classes q → Contains (list_at members (class_of classes q)) q
-  pub unions : All (IsUnion d) pending
+  pub unions : All (IsUnion d outputs) pending
 
 abbrev pub lists_in : List (Vec ℕ Global) → List (List ℕ)
 lists_in lists = map (λ (list : Vec ℕ Global). list.items) lists
 
-abbrev pub IsPartition : Automaton → Partition → Type 0
-IsPartition d p = AreParted d p.classes.items p.sizes.items (lists_in p.members.items) (lists_in p.pending.items)
+abbrev pub IsPartition : Machine → Partition → Type 0
+IsPartition m p = AreParted m.dfa.now m.outputs.now p.classes.items p.sizes.items (lists_in p.members.items) (lists_in p.pending.items)

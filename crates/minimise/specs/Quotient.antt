@@ -1,18 +1,20 @@
 -- The automaton whose states are classes.
-use Rattle.std.specs.Prelude.{◌≡◌, ℕ, ◌+◌, ◌<◌, ◌≤◌, Bool, List, [], ◌∷◌, length, Option}
+use Rattle.std.specs.Prelude.{◌≡◌, ◌==◌, ℕ, ◌+◌, ◌<◌, ◌≤◌, Bool, not, List, [], ◌∷◌, length, Option}
 use Rattle.std.specs.Option.{option_map}
-use Rattle.digit_tuple.specs.Deterministic.{Automaton, IsTable, letters_of, states_of, accepting_of}
+use Rattle.digit_tuple.specs.Deterministic.{Automaton, IsTable, letters_of, states_of}
 use Rattle.digit_tuple.specs.declared.edges.Edge.{Edge}
 use Rattle.digit_tuple.specs.Keys.{KeyEdge}
 use Rattle.minimise.specs.Leaders.{AreLeaders}
-use Rattle.minimise.specs.Classes.{AreResiduals, class_of, next_of, live_class}
+use Rattle.minimise.specs.Classes.{class_of, next_of, live_class}
+use Rattle.minimise.specs.CoarseClasses.{AreResiduals}
 
--- the classes are residual languages, and each has a state
-pub record IsQuotient (d : Automaton) (classes leaders : List ℕ) : Type 0 where
+-- the classes are residuals, and each has a state
+pub record IsQuotient (d : Automaton) (outputs classes leaders : List ℕ) : Type 0 where
   pub table : IsTable (letters_of d) d.states
+  pub outputs_are : length outputs ≡ states_of d
   pub width : length classes ≡ states_of d + 1
   pub below : (q : ℕ) → q ≤ states_of d → class_of classes q ≤ states_of d
-  pub residuals : AreResiduals d classes
+  pub residuals : AreResiduals d outputs classes
   pub leaders_are : AreLeaders classes leaders (states_of d)
 
 -- the state of the class that is the key
@@ -26,13 +28,17 @@ pub record IsClass (d : Automaton) (classes leaders key : List ℕ) : Type 0 whe
   pub leader : leader_of leaders key < states_of d
   pub itself : class_of classes (leader_of leaders key) ≡ class_of key 0
 
--- the class of where a letter leads, unless nothing is accepted there
-abbrev pub class_after : Automaton → List ℕ → List ℕ → List ℕ → ℕ → Option (List ℕ)
-class_after d classes leaders key a = option_map (λ class. class ∷ []) (live_class d classes (next_of d (leader_of leaders key) a))
+-- the class of where a letter leads, unless it is the sink's
+abbrev pub next_class : Automaton → List ℕ → List ℕ → List ℕ → ℕ → Option (List ℕ)
+next_class d classes leaders key a = option_map (λ class. class ∷ []) (live_class d classes (next_of d (leader_of leaders key) a))
 
--- whether the states of the class accept
-abbrev pub class_accepts : Automaton → List ℕ → List ℕ → Bool
-class_accepts d leaders key = accepting_of d (leader_of leaders key)
+-- the output of the states of the class
+abbrev pub key_output : List ℕ → List ℕ → List ℕ → ℕ
+key_output outputs leaders key = class_of outputs (leader_of leaders key)
+
+-- whether it is one
+abbrev pub class_accepts : List ℕ → List ℕ → List ℕ → Bool
+class_accepts outputs leaders key = not (key_output outputs leaders key == 0)
 
 -- the key edge that an edge to a class stands for
 abbrev pub key_edge : Edge → KeyEdge

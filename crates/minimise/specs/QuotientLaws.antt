@@ -6,9 +6,9 @@ use Rattle.std.proofs.lemmas.Bool.{cases_lt, eqb-false}
 use Rattle.digit_tuple.specs.Deterministic.{Automaton, letters_of, states_of, step_of, edges_of}
 use Rattle.digit_tuple.proofs.DfaLemmas.{row_at, target_by-in_range}
 use Rattle.minimise.specs.Classes.{class_of, next_of, dead_class}
-use Rattle.minimise.specs.Quotient.{IsQuotient, IsClass, class_after, leader_of}
+use Rattle.minimise.specs.Quotient.{IsQuotient, IsClass, next_class, leader_of}
 
-module _ (d : Automaton) (classes leaders : List ℕ) (quotient : IsQuotient d classes leaders) where
+module _ (d : Automaton) (outputs classes leaders : List ℕ) (quotient : IsQuotient d outputs classes leaders) where
   -- the class of a state
   class_is_key : (q : ℕ) → q < states_of d → IsClass d classes leaders (class_of classes q ∷ [])
   class_is_key q within = record {
@@ -31,8 +31,8 @@ module _ (d : Automaton) (classes leaders : List ℕ) (quotient : IsQuotient d c
       by false live (inl within) = class_is_key n within
       by false live (inr past) = let same : n ≡ states_of d = omega arith in absurd (eqb-false (class_of classes n) (dead_class d classes) live (ap (class_of classes) same))
 
-  pub class_after_is_class : (key : List ℕ) (a : ℕ) → IsClass d classes leaders key → MatchOption (class_after d classes leaders key a) ⊤ (IsClass d classes leaders)
-  class_after_is_class key a is = live_is_class (next_of d (leader_of leaders key) a)
+  pub next_class_is_class : (key : List ℕ) (a : ℕ) → IsClass d classes leaders key → MatchOption (next_class d classes leaders key a) ⊤ (IsClass d classes leaders)
+  next_class_is_class key a is = live_is_class (next_of d (leader_of leaders key) a)
       (by (step_of d (leader_of leaders key) a) (target_by-in_range (letters_of d) (states_of d) (edges_of d (leader_of leaders key)) a (row_at d (leader_of leaders key) quotient.table is.leader).in_range))
     where
       by : (o : Option ℕ) → IfSome o (λ t. t < states_of d) → unwrap_or o (states_of d) ≤ states_of d

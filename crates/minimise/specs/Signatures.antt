@@ -1,6 +1,6 @@
 -- Signatures of states: what tells states of one class apart.
-use Rattle.std.specs.Prelude.{◌==◌, ℕ, Bool, List, [], ◌∷◌, if◌then◌else◌}
-use Rattle.digit_tuple.specs.Deterministic.{Automaton, accepting_of, edges_of}
+use Rattle.std.specs.Prelude.{◌==◌, ℕ, List, [], ◌∷◌, if◌then◌else◌}
+use Rattle.digit_tuple.specs.Deterministic.{Automaton, edges_of}
 use Rattle.digit_tuple.specs.declared.edges.Edge.{Edge}
 use Rattle.minimise.specs.Classes.{class_of, dead_class}
 
@@ -15,9 +15,6 @@ abbrev pub numbers_in : List Edge → List ℕ
 numbers_in [] = []
 numbers_in (edge ∷ edges) = edge.letter ∷ edge.target ∷ numbers_in edges
 
-abbrev pub bit_of : Bool → ℕ
-bit_of b = if b then 1 else 0
-
--- whether a state accepts, its class, and its edges to classes
+-- the class of a state, and its edges to classes
 abbrev pub signature_of : Automaton → List ℕ → ℕ → List ℕ
-signature_of d classes q = bit_of (accepting_of d q) ∷ class_of classes q ∷ numbers_in (class_edges classes (dead_class d classes) (edges_of d q))
+signature_of d classes q = class_of classes q ∷ numbers_in (class_edges classes (dead_class d classes) (edges_of d q))

@@ -4,13 +4,13 @@ ghost use Rattle.std.specs.Prelude.{◌≡◌, ◌↔◌, ℕ, List, IfOk, IsTru
 ghost use Rattle.digit_tuple.specs.FirstWords.{IsNumberedByFirsts};
 ghost use Rattle.minimise.specs.Residuals.{SameLanguage};
 ghost use Rattle.minimise.specs.Canonical.{IsCanonical};
-ghost use Rattle.minimise.specs.CoarseClasses.{AreResidualClasses};
 
+use crate::canonical_classes::canonical_classes;
 use crate::classes::residual_classes;
-use crate::leaders::{are_alone, leaders};
-use crate::quotient::Quotient;
+use crate::leaders::are_alone;
+use crate::least::least;
+use crate::machine::{Machine, accepting_outputs};
 use digit_tuple::dfa::Dfa;
-use digit_tuple::exploration::explore;
 use digit_tuple::faults::OutOfMemory;
 use std::alloc::Global;
 
@@ -22,8 +22,9 @@ pub fn canonical(alloc: Global, d: &Dfa) -> Result<Dfa, OutOfMemory>
     ensures language { IfOk result (λ least. SameLanguage d.now least) }
     ensures canonical { IfOk result (λ least. IsCanonical least) }
 {
-    let classes = residual_classes(alloc, d)?;
-    quotient(alloc, d, &classes)
+    let outputs = accepting_outputs(alloc, d)?;
+    let (least, _) = canonical_classes(alloc, d, &outputs)?;
+    Ok(least)
 }
 
 /// The canonical automaton with the same language as an automaton whose states are numbered in the
@@ -35,29 +36,15 @@ pub fn canonical_of_numbered(alloc: Global, d: Dfa) -> Result<Dfa, OutOfMemory>
     ensures language { IfOk result (λ least. SameLanguage d least) }
     ensures canonical { IfOk result (λ least. IsCanonical least) }
 {
-    let classes = residual_classes(alloc, &d)?;
+    let outputs = accepting_outputs(alloc, &d)?;
+    let machine = Machine {
+        dfa: &d,
+        outputs: &outputs,
+    };
+    let classes = residual_classes(alloc, &machine)?;
     if are_alone(alloc, &classes)? {
         return Ok(d);
     }
-    quotient(alloc, &d, &classes)
-}
-
-// The automaton of the classes that words lead to.
-fn quotient(alloc: Global, d: &Dfa, classes: &[u32]) -> Result<Dfa, OutOfMemory>
-    requires { AreResidualClasses d.now classes.now }
-    ensures sizes { IfOk result (λ least. least.sizes ≡ d.now.sizes) }
-    ensures language { IfOk result (λ least. SameLanguage d.now least) }
-    ensures canonical { IfOk result (λ least. IsCanonical least) }
-{
-    let alphabet = d.alphabet().copy(alloc)?;
-    let leaders = leaders(alloc, classes, d.states() as usize)?;
-    let quotient = Quotient {
-        dfa: d,
-        classes,
-        leaders: &leaders,
-    };
-    match explore(alloc, &quotient, alphabet, u32::MAX) {
-        Ok(stepped) => Ok(stepped.result),
-        Err(_) => Err(OutOfMemory),
-    }
+    let (least, _) = least(alloc, &machine, &classes)?;
+    Ok(least)
 }

@@ -7,13 +7,12 @@ ghost use Rattle.digit_tuple.specs.Deterministic.{states_of};
 ghost use Rattle.minimise.specs.Signatures.{class_edges};
 ghost use Rattle.minimise.specs.Hashes.{mixed, hash_edges, hash_of};
 
-use crate::sink::is_accepting;
 use digit_tuple::dfa::Dfa;
 use digit_tuple::edges::Edge;
 use digit_tuple::faults::OutOfMemory;
 
-/// The hash of a state or the sink: of whether it accepts, its class, and its edges to classes other
-/// than the sink's. The buffer may hold anything.
+/// The hash of a state or the sink: of its class, and its edges to classes other than the sink's. The
+/// buffer may hold anything.
 pub fn state_hash(
     dfa: &Dfa,
     classes: &[u32],
@@ -24,8 +23,7 @@ pub fn state_hash(
     requires state { state ≤ states_of dfa.now }
     ensures { IfOk result (λ hash. hash ≡ hash_of dfa.now classes.now state) }
 {
-    let own = 2 * u64::from(classes[state as usize]) + u64::from(is_accepting(dfa, state));
-    let hash = mix(0, own);
+    let hash = mix(0, u64::from(classes[state as usize]));
     let states = dfa.states();
     if state == states {
         return Ok(hash);

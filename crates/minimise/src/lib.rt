@@ -4,6 +4,12 @@
 /// Laws of canonical automata.
 pub mod laws;
 
+/// Automata with outputs, and the outputs that acceptance gives.
+mod machine;
+
+/// Classes of states by their outputs.
+mod output_classes;
+
 /// Sets of states, gathered by the letters that lead from them, and by their classes.
 mod gathering;
 
@@ -31,7 +37,7 @@ mod refinement;
 /// Rounds that part states by hashes.
 mod rounds;
 
-/// The classes of states that are the residual languages.
+/// The classes of states that are the residuals.
 mod classes;
 
 /// States of automata with a sink.
@@ -39,6 +45,12 @@ pub mod sink;
 
 /// The automaton whose states are classes, as a source of keys.
 mod quotient;
+
+/// The automaton of the residuals that words lead to.
+mod least;
+
+/// The canonical automaton of a function from words to classes.
+pub mod canonical_classes;
 
 /// The canonical automaton of a language.
 pub mod canonical;

@@ -13,14 +13,13 @@
 
 ghost use Rattle.std.specs.Prelude.{◌≡◌, ◌<◌, ◌≤◌, length, IfOk, OnOk};
 ghost use Rattle.std.specs.List.{All};
-ghost use Rattle.digit_tuple.specs.Deterministic.{states_of};
 ghost use Rattle.digit_tuple.specs.Reversed.{IsReversal};
 ghost use Rattle.minimise.specs.CoarseClasses.{AreCoarseClasses};
+ghost use Rattle.minimise.specs.Outputs.{HasOutputs};
 ghost use Rattle.minimise.specs.Partition.{IsUnion, IsGiven, IsOneOf, IsPartition, states_with};
 
 use crate::gathering::{states_by_class, targets_by_letter};
-use digit_tuple::accepting_states::accepting_states;
-use digit_tuple::dfa::Dfa;
+use crate::machine::{Machine, states_with_output};
 use digit_tuple::edges::Edge;
 use digit_tuple::faults::OutOfMemory;
 use digit_tuple::key_edges::KeyEdges;
@@ -29,19 +28,19 @@ use digit_tuple::reversed::reversed;
 use std::alloc::Global;
 
 /// The class of each state, and last that of the sink, where missing edges lead. States from which
-/// the same words are accepted have one class.
-pub fn parted(alloc: Global, dfa: &Dfa) -> Result<Vec<u32>, OutOfMemory>
-    ensures { IfOk result (λ classes. AreCoarseClasses dfa.now classes.items) }
+/// words lead to the same outputs have one class.
+pub fn parted(alloc: Global, machine: &Machine) -> Result<Vec<u32>, OutOfMemory>
+    requires { HasOutputs machine.now }
+    ensures { IfOk result (λ classes. AreCoarseClasses machine.now.dfa.now machine.now.outputs.now classes.items) }
 {
-    let turned = reversed(alloc, dfa)?;
-    let accepting = accepting_states(alloc, dfa)?;
-    let mut partition = Partition::new(alloc, dfa)?;
-    partition.split(dfa, 0, &accepting)?;
+    let turned = reversed(alloc, machine.dfa)?;
+    let mut partition = Partition::new(alloc, machine)?;
     let mut buffers = Buffers::new(alloc);
+    partition.part_by_output(machine, &mut buffers)?;
     // Each class but the sink's makes one set pending, so there are no more sets than states.
-    for _ in 0..dfa.states() {
+    for _ in 0..machine.dfa.states() {
         match partition.pending.pop() {
-            Some(set) => partition.part_by(dfa, &turned, &set, &mut buffers)?,
+            Some(set) => partition.part_by(machine, &turned, &set, &mut buffers)?,
             None => return Ok(partition.classes),
         }
     }
@@ -64,11 +63,10 @@ pub struct Partition {
 
 impl Partition {
     // One class of all states.
-    fn new(alloc: Global, dfa: &Dfa) -> Result<Self, OutOfMemory>
-        ensures partition { IfOk result (IsPartition dfa.now) }
-        ensures one { IfOk result (λ partition. length partition.members.items ≡ 1) }
+    fn new(alloc: Global, machine: &Machine) -> Result<Self, OutOfMemory>
+        ensures { IfOk result (IsPartition machine.now) }
     {
-        let count = dfa.states() as usize + 1;
+        let count = machine.dfa.states() as usize + 1;
         let mut members = Vec::new(alloc);
         members.push(Vec::new(alloc))?;
         Ok(Partition {
@@ -80,18 +78,38 @@ impl Partition {
         })
     }
 
+    // Parts the class of all states by their outputs, of which 0 stays with the sink.
+    fn part_by_output(
+        &mut self,
+        machine: &Machine,
+        buffers: &mut Buffers,
+    ) -> Result<(), OutOfMemory>
+        requires partition { IsPartition machine.now self.old }
+        requires outputs { HasOutputs machine.now }
+        ensures { OnOk result (IsPartition machine.now self.new) }
+    {
+        let outputs = machine.outputs;
+        let states = states_with_output(self.alloc, outputs)?;
+        states_by_class(outputs, &states, &mut buffers.edges, &mut buffers.parts)?;
+        for place in 0..buffers.parts.len() {
+            self.split(machine, 0, buffers.parts.key(place))?;
+        }
+        Ok(())
+    }
+
     // Parts classes by whether letters lead into the set.
     fn part_by(
         &mut self,
-        dfa: &Dfa,
+        machine: &Machine,
         turned: &Nfa,
         set: &[u32],
         buffers: &mut Buffers,
     ) -> Result<(), OutOfMemory>
-        requires partition { IsPartition dfa.now self.old }
-        requires turned { IsReversal dfa.now turned.now }
-        requires set { IsUnion dfa.now set.now }
-        ensures { OnOk result (IsPartition dfa.now self.new) }
+        requires partition { IsPartition machine.now self.old }
+        requires outputs { HasOutputs machine.now }
+        requires turned { IsReversal machine.now.dfa.now turned.now }
+        requires set { IsUnion machine.now.dfa.now machine.now.outputs.now set.now }
+        ensures { OnOk result (IsPartition machine.now self.new) }
     {
         let Buffers {
             edges,
@@ -100,7 +118,7 @@ impl Partition {
         } = buffers;
         targets_by_letter(turned, set, edges, sources)?;
         for place in 0..sources.len() {
-            self.part(dfa, sources.key(place), edges, parts)?;
+            self.part(machine, sources.key(place), edges, parts)?;
         }
         Ok(())
     }
@@ -108,33 +126,33 @@ impl Partition {
     // Parts classes by whether states are in the set. The buffers may hold anything.
     fn part(
         &mut self,
-        dfa: &Dfa,
+        machine: &Machine,
         set: &[u32],
         edges: &mut Vec<Edge>,
         parts: &mut KeyEdges,
     ) -> Result<(), OutOfMemory>
-        requires partition { IsPartition dfa.now self.old }
-        requires set { IsUnion dfa.now set.now }
-        ensures { OnOk result (IsPartition dfa.now self.new) }
+        requires partition { IsPartition machine.now self.old }
+        requires set { IsUnion machine.now.dfa.now machine.now.outputs.now set.now }
+        ensures { OnOk result (IsPartition machine.now self.new) }
     {
         states_by_class(&self.classes, set, edges, parts)?;
         for place in 0..parts.len() {
-            self.split(dfa, parts.letter(place), parts.key(place))?;
+            self.split(machine, parts.letter(place), parts.key(place))?;
         }
         Ok(())
     }
 
     // Gives states of a class a new one, unless the class has no others.
-    fn split(&mut self, dfa: &Dfa, class: u32, states: &[u32]) -> Result<(), OutOfMemory>
-        requires partition { IsPartition dfa.now self.old }
+    fn split(&mut self, machine: &Machine, class: u32, states: &[u32]) -> Result<(), OutOfMemory>
+        requires partition { IsPartition machine.now self.old }
         requires class { class < length self.old.members.items }
-        requires states { IsUnion dfa.now states.now }
-        ensures partition { OnOk result (IsPartition dfa.now self.new) }
+        requires states { IsUnion machine.now.dfa.now machine.now.outputs.now states.now }
+        ensures partition { OnOk result (IsPartition machine.now self.new) }
         ensures grown { OnOk result (length self.old.members.items ≤ length self.new.members.items) }
     {
         let count = self.members.len();
         let size = self.sizes[class as usize];
-        if states.len() >= size || count > dfa.states() as usize {
+        if states.len() >= size || count > machine.dfa.states() as usize {
             return Ok(());
         }
         let left = size - states.len();

@@ -5,8 +5,8 @@ ghost use Rattle.std.specs.List.{All};
 ghost use Rattle.digit_tuple.specs.Deterministic.{letters_of};
 ghost use Rattle.minimise.specs.Classes.{class_of};
 ghost use Rattle.minimise.specs.Signatures.{class_edges};
-ghost use Rattle.minimise.specs.Quotient.{IsQuotient, IsClass, class_after, class_accepts, key_edge};
-ghost use Rattle.minimise.specs.QuotientLaws.{start_is_class, class_after_is_class};
+ghost use Rattle.minimise.specs.Quotient.{IsQuotient, IsClass, next_class, class_accepts, key_edge, key_output};
+ghost use Rattle.minimise.specs.QuotientLaws.{start_is_class, next_class_is_class};
 
 use digit_tuple::dfa::Dfa;
 use digit_tuple::edges::Edge;
@@ -15,11 +15,12 @@ use digit_tuple::key_edges::KeyEdges;
 use digit_tuple::key_graph::KeyGraph;
 use std::alloc::Global;
 
-/// The classes of an automaton's states and its sink, and a state of each class. A key is a class
+/// The outputs of an automaton's states, the classes of these and its sink, and a state of each class. A key is a class
 /// other than the dead one, or the initial state's.
 #[derive(Clone, Copy)]
 pub struct Quotient<'a> {
     pub dfa: &'a Dfa,
+    pub outputs: &'a [u32],
     pub classes: &'a [u32],
     pub leaders: &'a [u32],
 }
@@ -27,19 +28,19 @@ pub struct Quotient<'a> {
 impl KeyGraph for Quotient<'_> {
     ghost letters = { λ g. letters_of g.dfa.now };
 
-    ghost is_graph = { λ g. IsQuotient g.dfa.now g.classes.now g.leaders.now };
+    ghost is_graph = { λ g. IsQuotient g.dfa.now g.outputs.now g.classes.now g.leaders.now };
 
     ghost is_key = { λ g. IsClass g.dfa.now g.classes.now g.leaders.now };
 
     ghost start = { λ g. class_of g.classes.now 0 ∷ [] };
 
-    ghost after = { λ g. class_after g.dfa.now g.classes.now g.leaders.now };
+    ghost after = { λ g. next_class g.dfa.now g.classes.now g.leaders.now };
 
-    ghost accepts = { λ g. class_accepts g.dfa.now g.leaders.now };
+    ghost accepts = { λ g. class_accepts g.outputs.now g.leaders.now };
 
-    ghost start_is_key = { λ g quotient. start_is_class g.dfa.now g.classes.now g.leaders.now quotient };
+    ghost start_is_key = { λ g quotient. start_is_class g.dfa.now g.outputs.now g.classes.now g.leaders.now quotient };
 
-    ghost after_is_key = { λ g key letter quotient is_class small. class_after_is_class g.dfa.now g.classes.now g.leaders.now quotient key letter is_class };
+    ghost after_is_key = { λ g key letter quotient is_class small. next_class_is_class g.dfa.now g.outputs.now g.classes.now g.leaders.now quotient key letter is_class };
 
     fn first_key(&self, alloc: Global) -> Result<Vec<u32>, OutOfMemory> {
         Ok(vec![in alloc; self.classes[0]]?)
@@ -54,7 +55,18 @@ impl KeyGraph for Quotient<'_> {
     }
 
     fn is_accepting(&self, key: &[u32]) -> bool {
-        self.dfa.accepting(self.leaders[key[0] as usize])
+        self.output(key) != 0
+    }
+}
+
+impl Quotient<'_> {
+    /// The output of the states of the class.
+    pub fn output(&self, key: &[u32]) -> u32
+        requires graph { IsQuotient self.now.dfa.now self.now.outputs.now self.now.classes.now self.now.leaders.now }
+        requires key { IsClass self.now.dfa.now self.now.classes.now self.now.leaders.now key.now }
+        ensures { result ≡ key_output self.now.outputs.now self.now.leaders.now key.now }
+    {
+        self.outputs[self.leaders[key[0] as usize] as usize]
     }
 }
 

@@ -1,13 +1,16 @@
-//! Classes that are refined, round after round, until they are the residual languages (Edward Moore,
-//! "Gedanken-experiments on sequential machines"): a round parts states by their acceptance and by the
-//! classes that letters lead to, in time linear in the table.
+//! Classes of one output that are refined, round after round, until they are the residuals (Edward Moore,
+//! "Gedanken-experiments on sequential machines"): a round parts states by the classes that letters lead
+//! to, in time linear in the table.
 
 ghost use Rattle.std.specs.Prelude.{◌≡◌, ◌+◌, length, IfOk};
 ghost use Rattle.digit_tuple.specs.Deterministic.{IsTable, letters_of, states_of};
-ghost use Rattle.minimise.specs.CoarseClasses.{AreCoarseClasses, AreResidualClasses};
+ghost use Rattle.minimise.specs.CoarseClasses.{AreResidualClasses};
+ghost use Rattle.minimise.specs.Outputs.{HasOutputs};
 ghost use Rattle.minimise.specs.Refinement.{AreRefined};
 
 use crate::class_row::ClassRow;
+use crate::machine::Machine;
+use crate::output_classes::{Classes, output_classes};
 use crate::signatures::write_signature;
 use digit_tuple::dfa::Dfa;
 use digit_tuple::faults::OutOfMemory;
@@ -15,28 +18,22 @@ use digit_tuple::numbering::Numbering;
 use std::alloc::Global;
 
 /// The classes after rounds that part states by their signatures, until one parts none.
-pub fn refined_classes(alloc: Global, dfa: &Dfa, start: &[u32]) -> Result<Vec<u32>, OutOfMemory>
-    requires { AreCoarseClasses dfa.now start.now }
-    ensures { IfOk result (λ classes. AreResidualClasses dfa.now classes.items) }
+pub fn refined_classes(alloc: Global, machine: &Machine) -> Result<Vec<u32>, OutOfMemory>
+    requires { HasOutputs machine.now }
+    ensures { IfOk result (λ classes. AreResidualClasses machine.now.dfa.now machine.now.outputs.now classes.items) }
 {
-    let first = refined(alloc, dfa, start)?;
+    let _table = machine.dfa.states();
+    let first = output_classes(alloc, machine.outputs)?;
     let mut classes = first.numbers;
     let mut count = first.count;
     'refine: loop {
-        let next = refined(alloc, dfa, &classes)?;
+        let next = refined(alloc, machine.dfa, &classes)?;
         if next.count == count {
             return Ok(classes);
         }
         classes = next.numbers;
         count = next.count;
     }
-}
-
-// Classes, and how many there are.
-#[derive(Drop)]
-struct Classes {
-    numbers: Vec<u32>,
-    count: usize,
 }
 
 // Parts states that are not alike.

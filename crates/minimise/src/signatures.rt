@@ -5,12 +5,11 @@ ghost use Rattle.digit_tuple.specs.Deterministic.{states_of};
 ghost use Rattle.minimise.specs.Signatures.{signature_of};
 
 use crate::class_row::ClassRow;
-use crate::sink::is_accepting;
 use digit_tuple::dfa::Dfa;
 use digit_tuple::faults::OutOfMemory;
 
-/// Writes the signature of a state or the sink: whether it accepts, its class, and its edges to classes
-/// other than the dead one. The buffers may hold anything.
+/// Writes the signature of a state or the sink: its class, and its edges to classes other than the
+/// sink's. The buffers may hold anything.
 pub fn write_signature(
     dfa: &Dfa,
     classes: &[u32],
@@ -24,7 +23,6 @@ pub fn write_signature(
 {
     row.read(dfa, classes, state)?;
     signature.clear();
-    signature.push(u32::from(is_accepting(dfa, state)))?;
     signature.push(classes[state as usize])?;
     for edge in row.as_slice() {
         signature.push(edge.letter)?;

@@ -4,27 +4,33 @@ ghost use Rattle.std.specs.Prelude.{◌≡◌, ◌+◌, ◌↔◌, length, IfOk,
 ghost use Rattle.digit_tuple.specs.Deterministic.{IsTable, letters_of, states_of};
 ghost use Rattle.minimise.specs.Classes.{class_of};
 ghost use Rattle.minimise.specs.CoarseClasses.{AreCoarseClasses, AreResidualClasses};
+ghost use Rattle.minimise.specs.Outputs.{HasOutputs};
 ghost use Rattle.minimise.specs.Refinement.{AreAlike};
 
 use crate::class_row::ClassRow;
 use crate::leaders::leaders;
-use crate::sink::is_accepting;
+use crate::machine::Machine;
 use digit_tuple::dfa::Dfa;
 use digit_tuple::faults::OutOfMemory;
 use std::alloc::Global;
 
-/// Whether no round parts the classes, so that they are the residual languages: each state and the sink
-/// is compared with one of its class, up to the first that is not alike.
-pub fn is_stable(alloc: Global, dfa: &Dfa, classes: &[u32]) -> Result<bool, OutOfMemory>
-    requires { AreCoarseClasses dfa.now classes.now }
-    ensures { IfOk result (λ stable. IsTrue stable ↔ AreResidualClasses dfa.now classes.now) }
+/// Whether no round parts the classes and each has one output, so that they are the residuals: each state
+/// and the sink is compared with one of its class, up to the first that differs.
+pub fn is_stable(alloc: Global, machine: &Machine, classes: &[u32]) -> Result<bool, OutOfMemory>
+    requires outputs { HasOutputs machine.now }
+    requires classes { AreCoarseClasses machine.now.dfa.now machine.now.outputs.now classes.now }
+    ensures { IfOk result (λ stable. IsTrue stable ↔ AreResidualClasses machine.now.dfa.now machine.now.outputs.now classes.now) }
 {
+    let dfa = machine.dfa;
     let count = dfa.states() as usize + 1;
     let leaders = leaders(alloc, classes, count)?;
     let mut rows = RowPair::new(alloc);
     for place in 0..count {
         let state = place as u32;
         let leader = leaders[classes[place] as usize];
+        if machine.output(state) != machine.output(leader) {
+            return Ok(false);
+        }
         if leader != state && !rows.are_alike(dfa, classes, state, leader)? {
             return Ok(false);
         }
@@ -55,10 +61,6 @@ impl RowPair {
         requires own { class_of classes.now p ≡ class_of classes.now q }
         ensures { IfOk result (λ alike. IsTrue alike ↔ AreAlike dfa.now classes.now p q) }
     {
-        let one_kind = is_accepting(dfa, p) == is_accepting(dfa, q);
-        if !one_kind {
-            return Ok(false);
-        }
         self.one.read(dfa, classes, p)?;
         self.other.read(dfa, classes, q)?;
         Ok(self.one.as_slice() == self.other.as_slice())

@@ -1,4 +1,9 @@
 pub mod SealLemmas
+pub mod HoldLemmas
+pub mod SealedLemmas
+pub mod LineLemmas
+pub mod UnderNames
+pub mod ReadTracks
 pub mod ValidWords
 pub mod ProductLinks
 pub mod NamedLinks

@@ -10,5 +10,6 @@ pub mod Spellings
 pub mod Successor
 pub mod SuccessorSteps
 pub mod Sealed
+pub mod Tracks
 pub mod Sealing
 pub mod Links

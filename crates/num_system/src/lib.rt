@@ -13,6 +13,15 @@ mod relations;
 /// Sealed systems.
 pub mod system;
 
+/// What sealed systems tell, seen from outside.
+pub mod sealed;
+
+/// The systems of several tracks.
+pub mod tracks;
+
+/// Comparisons of two numbers or letters.
+pub mod comparison;
+
 /// How a system is sealed.
 pub mod seal;
 

@@ -8,9 +8,9 @@ use Rattle.num_system.specs.Sealed.{SystemValue, system_of, IsSealed}
 use Rattle.number_relations.specs.Relations.{RelationValue, HoldsOver, IsClosedOver}
 use Rattle.number_relations.specs.Placed.{each_once}
 use Rattle.number_relations.specs.Comparisons.{Compares, IsAnyNumber, IsComparison, IsOverOne, IsSumRelation, compared_names}
-use Rattle.number_relations.specs.declared.comparison.Comparison.{Comparison}
-use Rattle.number_relations.specs.declared.comparison.Comparison.TheVariants.{Equal, Unequal, Less, Greater, AtMost, AtLeast}
-use Rattle.number_relations.proofs.HoldLemmas.{closed_from, holds_spelling, spelling_holds}
+use Rattle.num_system.specs.declared.comparison.Comparison.{Comparison}
+use Rattle.num_system.specs.declared.comparison.Comparison.TheVariants.{Equal, Unequal, Less, Greater, AtMost, AtLeast}
+use Rattle.num_system.proofs.HoldLemmas.{closed_from, holds_spelling, spelling_holds}
 use Rattle.number_relations.proofs.PairLemmas.{language_holds, numbers_are, pairs_hold, repeated, repeated_two, sums_are}
 use Rattle.number_relations.proofs.RelationLemmas.{same_relation}
 

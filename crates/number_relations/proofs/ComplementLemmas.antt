@@ -7,12 +7,11 @@ use Rattle.product_op.specs.Validity.{AreLanguages}
 use Rattle.numeration.specs.Relations.{HoldsOf}
 use Rattle.num_system.specs.Sealed.{SystemValue, system_of, IsSealed}
 use Rattle.num_system.proofs.ValidityLinks.{complement_holds as complement_says}
-use Rattle.number_relations.specs.Relations.{RelationValue, HaveOneWay, IsRelation, RelationHolds, named_of, systems_of, way_of}
-use Rattle.number_relations.specs.Joins.{languages_of}
+use Rattle.num_system.specs.Tracks.{HaveOneWay, systems_of, way_of, languages_of}
+use Rattle.number_relations.specs.Relations.{RelationValue, IsRelation, RelationHolds, named_of}
 use Rattle.number_relations.specs.Complements.{IsRelationComplement}
-use Rattle.number_relations.proofs.HoldLemmas.{closed_from, holds_spelling, spelling_holds}
-use Rattle.number_relations.proofs.RelationLemmas.{are_systems}
-use Rattle.number_relations.proofs.SealedLemmas.{languages_are, languages_fit}
+use Rattle.num_system.proofs.HoldLemmas.{closed_from, holds_spelling, spelling_holds}
+use Rattle.num_system.proofs.SealedLemmas.{are_systems, languages_are, languages_fit}
 
 module _ (a : RelationValue) (is_a : IsRelation a) where
   -- there is a language for each track

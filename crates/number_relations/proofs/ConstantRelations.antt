@@ -4,10 +4,11 @@ use Rattle.std.specs.List.{AllByRecursion}
 use Rattle.digit_tuple.specs.Names.{AreDistinct}
 use Rattle.numeration.specs.Relations.{HoldsOf}
 use Rattle.num_system.specs.Sealed.{SystemValue, IsSealed}
-use Rattle.number_relations.specs.Relations.{RelationValue, HaveOneWay, IsRelation, RelationHolds, systems_of, way_of}
+use Rattle.num_system.specs.Tracks.{HaveOneWay, systems_of, way_of}
+use Rattle.number_relations.specs.Relations.{RelationValue, IsRelation, RelationHolds}
 use Rattle.number_relations.specs.Constants.{IsRelationConstant}
-use Rattle.number_relations.proofs.HoldLemmas.{closed_from, holds_spelling, spelling_holds}
-use Rattle.number_relations.proofs.RelationLemmas.{are_systems}
+use Rattle.num_system.proofs.HoldLemmas.{closed_from, holds_spelling, spelling_holds}
+use Rattle.num_system.proofs.SealedLemmas.{are_systems}
 
 one_name : (name : List ℕ) → AreDistinct (name ∷ [])
 one_name name i j d before within = absurd (omega (arith, before, within))

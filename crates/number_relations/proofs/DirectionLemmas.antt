@@ -9,7 +9,7 @@ use Rattle.digit_tuple.specs.declared.direction.Direction.TheVariants.{Msd}
 use Rattle.numeration.specs.Spelling.{Spells, letters_in}
 use Rattle.numeration.specs.Relations.{HoldsOf}
 use Rattle.num_system.specs.Sealed.{SystemValue}
-use Rattle.number_relations.specs.Relations.{way_of, systems_of}
+use Rattle.num_system.specs.Tracks.{way_of, systems_of}
 
 -- over no tracks each word spells what any word spells
 no_tracks : (v w ns : List ℕ) → Spells [] v ns → Spells [] w ns

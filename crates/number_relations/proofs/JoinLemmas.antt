@@ -15,12 +15,12 @@ use Rattle.numeration.specs.SomeTracks.{systems_at}
 use Rattle.num_system.specs.Joined.{joined, IsBound}
 use Rattle.num_system.specs.Sealed.{SystemValue, system_of, IsSealed}
 use Rattle.num_system.proofs.NamedLinks.{in_product_holds}
-use Rattle.number_relations.specs.Relations.{RelationValue, HaveOneWay, IsRelation, RelationHolds, named_of, system_under, systems_of, way_of}
-use Rattle.number_relations.specs.Joins.{AgreeOnSystems, HaveOneDirection, IsRelationJoin, joint_systems, languages_of}
-use Rattle.number_relations.proofs.HoldLemmas.{closed_from, holds_spelling, spelling_holds}
-use Rattle.number_relations.proofs.RelationLemmas.{are_systems}
+use Rattle.num_system.specs.Tracks.{HaveOneWay, systems_of, way_of, system_under, languages_of}
+use Rattle.number_relations.specs.Relations.{RelationValue, IsRelation, RelationHolds, named_of}
+use Rattle.number_relations.specs.Joins.{AgreeOnSystems, HaveOneDirection, IsRelationJoin, joint_systems}
+use Rattle.num_system.proofs.HoldLemmas.{closed_from, holds_spelling, spelling_holds}
 use Rattle.number_relations.proofs.DirectionLemmas.{way_from, way_to}
-use Rattle.number_relations.proofs.SealedLemmas.{AreAllWay, languages_are, languages_fit, one_way_from}
+use Rattle.num_system.proofs.SealedLemmas.{AreAllWay, are_systems, languages_are, languages_fit, one_way_from}
 use Rattle.number_relations.proofs.JointSystems.{first_systems, first_ways, joint_all, joint_sizes_are, second_systems, second_ways}
 
 module _ (a b : RelationValue) (is_a : IsRelation a) (is_b : IsRelation b) (agree : AgreeOnSystems a b) where

@@ -1,5 +1,5 @@
 -- The systems of the tracks of two relations that agree.
-use Rattle.std.proofs.Common.{◌≡◌, ℕ, List, [], ◌∷◌, ◌++◌, map, length, inl, inr, ◌⊎◌, refl, ap, sym, ◌∙◌, subst, arith}
+use Rattle.std.proofs.Common.{◌≡◌, ℕ, ◌<◌, List, [], ◌∷◌, ◌++◌, map, get_or, length, inl, inr, ◌⊎◌, refl, ap, sym, ◌∙◌, subst, arith}
 use Rattle.std.specs.List.{All, AllByRecursion, Contains}
 use Rattle.std.proofs.lemmas.Bool.{cases_lt}
 use Rattle.std.proofs.lemmas.List.{get_or-map, length-map}
@@ -7,17 +7,28 @@ use Rattle.std.proofs.lemmas.List.Elements.{All-contains_itself, All-head, All-t
 use Rattle.digit_tuple.specs.Names.{AreJoint, joint_names, place_of, places_of}
 use Rattle.digit_tuple.proofs.JointNames.{AreJoint-joint_names}
 use Rattle.digit_tuple.proofs.NameLemmas.{place_of-contained}
+use Rattle.minimise.specs.Tracked.{size_of}
 use Rattle.product_op.specs.Tracks.{AgreeOnShared, joint_size, joint_sizes}
 use Rattle.product_op.proofs.SizeLemmas.{contained_from_place, joint_size-first, joint_size-second}
 use Rattle.numeration.specs.Systems.{System}
 use Rattle.numeration.specs.Spelling.{sizes_of}
 use Rattle.numeration.specs.SomeTracks.{no_system as no_digits, system_at, systems_at}
 use Rattle.num_system.specs.Sealed.{SystemValue, system_of}
-use Rattle.number_relations.specs.Relations.{RelationValue, IsRelation, HaveOneWay, named_of, absent_system, system_named, system_under, systems_of, way_of}
-use Rattle.number_relations.specs.Placed.{systems_under}
+use Rattle.num_system.proofs.UnderNames.{under_each, under_left, under_own, under_right}
+use Rattle.num_system.specs.Tracks.{HaveOneWay, systems_of, way_of, absent_system, system_under, systems_under}
+use Rattle.number_relations.specs.Relations.{RelationValue, IsRelation, named_of, system_named}
 use Rattle.number_relations.specs.Joins.{AgreeOnSystems, joint_systems}
-use Rattle.number_relations.proofs.NamedSystems.{under_own, under_each, under_left, under_right, size_named}
-use Rattle.number_relations.proofs.SealedLemmas.{AreAllWay}
+use Rattle.num_system.proofs.SealedLemmas.{AreAllWay}
+
+-- the size of a relation's track is the number of digits of its system
+size_named : (r : RelationValue) (name : List ℕ) → IsRelation r → Contains r.names name → size_of (named_of r) name ≡ (system_named r name).digits
+size_named r name is found =
+    let spot = place_of-contained r.names name found in
+    let place : ℕ = place_of r.names name in
+    let within : place < length r.systems = omega (arith, spot.0, is.count) in
+    ap (λ (sizes : List ℕ). get_or sizes place 0) is.closed.sizes
+    ∙ get_or-map (λ (s : System). s.digits) (systems_of r.systems) place (system_of absent_system) 0 (omega (arith, within, length-map r.systems system_of))
+    ∙ ap (λ (s : System). s.digits) (get_or-map system_of r.systems place absent_system (system_of absent_system) within)
 
 -- the first have the direction of all, and so have the second, where the two have one
 pub first_ways : (xs ys : List SystemValue) → HaveOneWay xs → AreAllWay (way_of (xs ++ ys)) xs

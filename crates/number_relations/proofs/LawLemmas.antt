@@ -4,7 +4,8 @@ use Rattle.std.specs.Bool.{⊤}
 use Rattle.std.proofs.lemmas.Simd.{map-map}
 use Rattle.digit_tuple.specs.Names.{place_of}
 use Rattle.number_relations.specs.Relations.{RelationHolds, HoldsOver}
-use Rattle.number_relations.specs.Placed.{each_once, systems_under}
+use Rattle.num_system.specs.Tracks.{systems_under}
+use Rattle.number_relations.specs.Placed.{each_once}
 use Rattle.number_relations.specs.Comparisons.{Compares, compared_names}
 use Rattle.number_relations.specs.Laws.{ComparisonsHold, NumbersHold, OneAnyNumber, OneComparison, OnePlaced, OneSum, PlacedHolds, SumsHold}
 use Rattle.number_relations.proofs.RelationLemmas.{one_relation, tuples_hold}

@@ -1,5 +1,4 @@
 pub mod OnceLemmas
-pub mod HoldLemmas
 pub mod RelationLemmas
 pub mod PlacedLemmas
 pub mod RenamedLemmas
@@ -10,8 +9,6 @@ pub mod TruthLemmas
 pub mod SentenceLemmas
 pub mod LawLemmas
 pub mod DirectionLemmas
-pub mod SealedLemmas
-pub mod NamedSystems
 pub mod JointSystems
 pub mod JoinLemmas
 pub mod ComplementLemmas

@@ -14,7 +14,7 @@ use Rattle.num_system.specs.Sealed.{SystemValue, IsSealed}
 use Rattle.number_relations.specs.Relations.{RelationValue, IsRelation, RelationHolds}
 use Rattle.number_relations.specs.Placed.{each_once}
 use Rattle.number_relations.specs.Comparisons.{IsComparison, IsSumRelation}
-use Rattle.number_relations.specs.declared.comparison.Comparison.TheVariants.{Equal}
+use Rattle.num_system.specs.declared.comparison.Comparison.TheVariants.{Equal}
 use Rattle.number_relations.specs.Constants.{IsRelationConstant}
 use Rattle.number_relations.specs.Joins.{AgreeOnSystems, HaveOneDirection, IsRelationJoin}
 use Rattle.number_relations.specs.Multiples.{addend, AreGrown, AreMultipleSteps, factors, factors_within, IsGrown, IsMultiple, IsNothing, lesser_factor}

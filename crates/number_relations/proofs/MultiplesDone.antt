@@ -1,8 +1,8 @@
 -- The steps of a multiple, one after another.
-use Rattle.std.proofs.Common.{◌≡◌, ◌≢◌, ℕ, zero, suc, ◌<◌, IfOk, List, [], ◌∷◌, ◌++◌, append_assoc, Result, Ok, Err, inl, inr, ◌⊎◌, refl, sym, ap, ◌∙◌, subst, arith}
+use Rattle.std.proofs.Common.{◌≡◌, ◌≢◌, ℕ, zero, suc, ◌<◌, IfOk, List, [], ◌∷◌, ◌++◌, Result, Ok, Err, inl, inr, ◌⊎◌, refl, sym, ap, ◌∙◌, subst, arith}
 use Rattle.digit_tuple.specs.Names.{AreDistinct}
 use Rattle.digit_tuple.specs.StepResults.{IsDone, IsRefusedBy}
-use Rattle.digit_tuple.specs.Steps.{StepLog, with_line}
+use Rattle.digit_tuple.specs.Steps.{StepLog, with_line, with_lines}
 use Rattle.digit_tuple.specs.declared.step_fault.StepFault.{StepFault}
 use Rattle.digit_tuple.specs.declared.step_fault.StepFault.TheVariants as faults
 use Rattle.digit_tuple.specs.declared.steps.StepLine.{StepLine}
@@ -14,12 +14,9 @@ use Rattle.number_relations.specs.Comparisons.{IsAnyNumber, IsSumRelation}
 use Rattle.number_relations.specs.Constants.{IsRelationConstantStep}
 use Rattle.number_relations.specs.Joins.{DoesRelationJoin, IsRelationJoinStep, RelationJoinExceedsLetters, RelationJoinExceeds}
 use Rattle.number_relations.specs.Projections.{DoesRelationProject, IsRelationProjectStep, RelationProjectExceedsLetters, RelationProjectExceeds}
-use Rattle.number_relations.specs.Multiples.{addend, AreGrown, AreMultiplesDone, DoesGrowth, DoesMultiple, factors, IsGrowth, IsGrowthDone, IsMultiple, lesser_factor, PassesGrowth, PassesMultiple, PassGrowing, with_lines}
+use Rattle.number_relations.specs.Multiples.{addend, AreGrown, AreMultiplesDone, DoesGrowth, DoesMultiple, factors, IsGrowth, IsGrowthDone, IsMultiple, lesser_factor, PassesGrowth, PassesMultiple, PassGrowing}
+use Rattle.num_system.proofs.LineLemmas.{with_more}
 use Rattle.number_relations.proofs.MultipleLemmas.{factors_above, lesser_step, nothing_multiple, steps_above, steps_multiple}
-
--- lines after lines
-pub with_more : (log : StepLog) (first more : List StepLine) → with_lines (with_lines log first) more ≡ with_lines log (first ++ more)
-with_more log first more = λ i. record { limit = log.limit; lines = append_assoc log.lines first more i }
 
 module _ (old mid new : StepLog) (system : SystemValue) (z y w : List ℕ) (lesser sum : RelationValue) (sum_is : IsSumRelation system w z y sum) where
   -- the two steps of a growth were done

@@ -14,11 +14,11 @@ use Rattle.digit_tuple.proofs.NameLemmas.{place_of-contained}
 use Rattle.product_op.specs.declared.op.Op.{Op}
 use Rattle.project_close.proofs.ProjectionLemmas.{names_without-there}
 use Rattle.num_system.specs.Joined.{Joined, IsBound}
-use Rattle.num_system.specs.Sealed.{system_of}
-use Rattle.number_relations.specs.Relations.{RelationValue, IsRelation, IsRelationOf, RelationHolds, number_under}
+use Rattle.num_system.specs.Sealed.{system_of, SystemValue}
+use Rattle.num_system.specs.Tracks.{number_under}
+use Rattle.number_relations.specs.Relations.{RelationValue, IsRelation, IsRelationOf, RelationHolds}
 use Rattle.number_relations.specs.Joins.{AgreeOnSystems, HaveOneDirection, IsRelationJoin}
 use Rattle.number_relations.specs.Projections.{IsRelationProjection}
-use Rattle.num_system.specs.Sealed.{SystemValue}
 use Rattle.number_relations.proofs.JoinLemmas.{join_holds}
 use Rattle.number_relations.proofs.PlacedLemmas.{picked_numbers}
 use Rattle.number_relations.proofs.ProjectLemmas.{projection_holds}

@@ -10,8 +10,9 @@ use Rattle.minimise.specs.Tracked.{NamedAutomaton}
 use Rattle.product_op.proofs.SizeLemmas.{AreDistinct-ordered}
 use Rattle.project_close.specs.Substitution.{sizes_under, word_under}
 use Rattle.num_system.specs.Sealed.{SystemValue}
-use Rattle.number_relations.specs.Relations.{RelationValue, IsRelation, absent_system, named_of, relation_over}
-use Rattle.number_relations.specs.Placed.{AgreeUnder, IsOrdered, systems_under}
+use Rattle.num_system.specs.Tracks.{absent_system, AgreeUnder, systems_under}
+use Rattle.number_relations.specs.Relations.{RelationValue, IsRelation, named_of, relation_over}
+use Rattle.number_relations.specs.Placed.{IsOrdered}
 use Rattle.number_relations.proofs.PlacedLemmas.{AreTheNames, placed_as}
 
 pub ordered_names : (names : List (List ℕ)) → AreTheNames names (joint_names names [])

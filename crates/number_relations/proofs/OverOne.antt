@@ -7,7 +7,7 @@ use Rattle.number_relations.specs.Relations.{RelationValue, IsRelation}
 use Rattle.number_relations.specs.Placed.{each_once}
 use Rattle.number_relations.specs.Comparisons.{IsOverOne}
 use Rattle.number_relations.specs.Joins.{AgreeOnSystems, HaveOneDirection}
-use Rattle.number_relations.proofs.NamedSystems.{under_each}
+use Rattle.num_system.proofs.UnderNames.{under_each}
 use Rattle.number_relations.proofs.OnceLemmas.{once_contains, once_others}
 
 module _ (system : SystemValue) where

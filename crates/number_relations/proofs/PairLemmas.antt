@@ -18,10 +18,11 @@ use Rattle.product_op.specs.Validity.{AreLanguages, no_language}
 use Rattle.numeration.specs.SomeTracks.{no_system}
 use Rattle.num_system.specs.Joined.{AreLanguagesOf}
 use Rattle.num_system.specs.Sealed.{SystemValue, system_of, IsSealed}
-use Rattle.number_relations.specs.Relations.{RelationValue, HaveOneWay, HoldsOver, absent_system}
-use Rattle.number_relations.specs.Placed.{AgreeUnder, IsPlaced, each_once, systems_under}
+use Rattle.num_system.specs.Tracks.{HaveOneWay, absent_system, AgreeUnder, systems_under}
+use Rattle.number_relations.specs.Relations.{RelationValue, HoldsOver}
+use Rattle.number_relations.specs.Placed.{IsPlaced, each_once}
 use Rattle.number_relations.specs.Comparisons.{IsOverOne}
-use Rattle.number_relations.proofs.HoldLemmas.{holds_spelling, spelling_holds}
+use Rattle.num_system.proofs.HoldLemmas.{holds_spelling, spelling_holds}
 use Rattle.number_relations.proofs.OnceLemmas.{once_others}
 
 -- one system for each name

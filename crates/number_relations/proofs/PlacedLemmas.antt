@@ -21,11 +21,12 @@ use Rattle.num_system.specs.Sealed.{SystemValue, system_of, IsSealed}
 use Rattle.num_system.proofs.NamedLinks.{place_among}
 use Rattle.project_close.specs.Substitution.{IsSubstitution, sizes_under, word_under}
 use Rattle.project_close.proofs.SubstitutionLemmas.{size_under, sizes_under-map}
-use Rattle.number_relations.specs.Relations.{IsRelation, IsClosedOver, HaveOneWay, HoldsOver, RelationHolds, absent_system, IsRelationOf, relation_over, system_under, systems_of, way_of}
-use Rattle.number_relations.specs.Placed.{AgreeUnder, IsPlaced, each_once, systems_under}
-use Rattle.number_relations.proofs.HoldLemmas.{closed_from, holds_spelling, spelling_holds}
+use Rattle.num_system.specs.Tracks.{HaveOneWay, systems_of, way_of, absent_system, system_under, AgreeUnder, systems_under}
+use Rattle.number_relations.specs.Relations.{IsRelation, IsClosedOver, HoldsOver, RelationHolds, IsRelationOf, relation_over}
+use Rattle.number_relations.specs.Placed.{IsPlaced, each_once}
+use Rattle.num_system.proofs.HoldLemmas.{closed_from, holds_spelling, spelling_holds}
 use Rattle.number_relations.proofs.OnceLemmas.{once_distinct, once_others, once_there}
-use Rattle.number_relations.proofs.RelationLemmas.{are_systems}
+use Rattle.num_system.proofs.SealedLemmas.{are_systems}
 
 -- what holds of each system holds of each name's system
 pub all_under : (Q : SystemValue → Type 0) (under : List (List ℕ)) (systems : List SystemValue) → length under ≡ length systems → AllByRecursion Q systems

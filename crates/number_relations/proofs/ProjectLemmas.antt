@@ -11,14 +11,14 @@ use Rattle.numeration.specs.Relations.{HoldsOf}
 use Rattle.numeration.specs.SomeTracks.{completed}
 use Rattle.num_system.specs.Sealed.{SystemValue, system_of, IsSealed}
 use Rattle.num_system.proofs.NamedProjections.{named_projection_holds}
-use Rattle.number_relations.specs.Relations.{RelationValue, HaveOneWay, IsRelation, RelationHolds, named_of, system_under, systems_in, systems_of, way_of}
+use Rattle.num_system.specs.Tracks.{HaveOneWay, systems_of, way_of, system_under}
+use Rattle.number_relations.specs.Relations.{RelationValue, IsRelation, RelationHolds, named_of, systems_in}
 use Rattle.number_relations.specs.Projections.{IsRelationProjection, staying_systems}
-use Rattle.number_relations.proofs.HoldLemmas.{closed_from, holds_spelling, spelling_holds}
-use Rattle.number_relations.proofs.RelationLemmas.{are_systems}
+use Rattle.num_system.proofs.HoldLemmas.{closed_from, holds_spelling, spelling_holds}
 use Rattle.number_relations.proofs.DirectionLemmas.{way_from}
-use Rattle.number_relations.proofs.NamedSystems.{at_places}
+use Rattle.num_system.proofs.UnderNames.{at_places}
 use Rattle.number_relations.proofs.PlacedLemmas.{all_under}
-use Rattle.number_relations.proofs.SealedLemmas.{AreAllWay, one_way_from}
+use Rattle.num_system.proofs.SealedLemmas.{AreAllWay, are_systems, one_way_from}
 
 module _ (track : List ℕ) (a c : RelationValue) (is_a : IsRelation a) (made : IsRelationProjection track a c) where
   abbrev names : List (List ℕ)

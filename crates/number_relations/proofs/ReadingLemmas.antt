@@ -23,13 +23,12 @@ use Rattle.num_system.proofs.ValidityLinks.{valid_part_spells}
 use Rattle.automaton_steps.specs.Numbered.{numbered, track_numbers}
 use Rattle.automaton_steps.proofs.DirectionLemmas.{same_strip, same_without_zeros}
 use Rattle.automaton_steps.proofs.TrackNumbers.{length-track_numbers, numbers_distinct}
-use Rattle.number_relations.specs.Relations.{RelationValue, IsRelation, RelationHolds, HaveOneWay, systems_of, way_of}
-use Rattle.number_relations.specs.Joins.{languages_of}
+use Rattle.num_system.specs.Tracks.{HaveOneWay, systems_of, way_of, languages_of}
+use Rattle.number_relations.specs.Relations.{RelationValue, IsRelation, RelationHolds}
 use Rattle.number_relations.specs.Readings.{IsListedOf, AreReadingSteps}
 use Rattle.number_relations.specs.StepLaws.{ReadingsHold, ReadingsAreRelations}
-use Rattle.number_relations.proofs.HoldLemmas.{closed_from, holds_spelling, spelling_holds}
-use Rattle.number_relations.proofs.RelationLemmas.{are_systems}
-use Rattle.number_relations.proofs.SealedLemmas.{languages_are}
+use Rattle.num_system.proofs.HoldLemmas.{closed_from, holds_spelling, spelling_holds}
+use Rattle.num_system.proofs.SealedLemmas.{are_systems, languages_are}
 
 module _ (limit : ℕ) (systems : List SystemValue) (listed : Branching) (r : RelationValue) (lines : List StepLine) (sealed : AllByRecursion IsSealed systems) (one : HaveOneWay systems)
     (sizes : listed.sizes ≡ sizes_of (systems_of systems)) (steps : AreReadingSteps limit systems listed r lines) where

@@ -4,7 +4,7 @@ use Rattle.digit_tuple.specs.Automaton.{Branching}
 use Rattle.digit_tuple.specs.Deterministic.{Automaton}
 use Rattle.digit_tuple.specs.Letters.{IsAlphabet}
 use Rattle.digit_tuple.specs.StepResults.{IsDone, IsRefusedBy}
-use Rattle.digit_tuple.specs.Steps.{StepLog, with_line}
+use Rattle.digit_tuple.specs.Steps.{StepLog, with_line, with_lines}
 use Rattle.digit_tuple.specs.declared.step_fault.StepFault.{StepFault}
 use Rattle.digit_tuple.specs.declared.step_fault.StepFault.TheVariants as faults
 use Rattle.minimise.specs.Tracked.{NamedAutomaton}
@@ -13,11 +13,10 @@ use Rattle.automaton_steps.specs.PadSteps.{IsPadStep, DoesPad, PadExceeds}
 use Rattle.automaton_steps.specs.ReadSteps.{IsReadStep, DoesRead}
 use Rattle.automaton_steps.specs.ValidSteps.{IsValidStep, DoesValid, ValidExceeds}
 use Rattle.num_system.specs.Sealed.{SystemValue}
-use Rattle.number_relations.specs.Relations.{relation_over, way_of}
-use Rattle.number_relations.specs.Joins.{languages_of}
-use Rattle.number_relations.specs.Multiples.{with_lines}
+use Rattle.num_system.specs.Tracks.{way_of, languages_of}
+use Rattle.number_relations.specs.Relations.{relation_over}
 use Rattle.number_relations.specs.Readings.{IsPaddedReading, IsReadDone, PassesReading}
-use Rattle.number_relations.proofs.MultiplesDone.{with_more}
+use Rattle.num_system.proofs.LineLemmas.{with_more}
 
 -- the first step is refused
 pub read_stops : (old new : StepLog) (systems : List SystemValue) (listed : Branching) (fault : StepFault) → DoesRead old listed (Err fault) new → (fault ≡ faults.Memory) ⊎ PassesReading old systems listed fault

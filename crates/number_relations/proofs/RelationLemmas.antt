@@ -13,14 +13,11 @@ use Rattle.numeration.specs.Systems.{AreSystems}
 use Rattle.numeration.specs.Spelling.{letters_in}
 use Rattle.numeration.proofs.RankLemmas.{same_tests}
 use Rattle.num_system.specs.Sealed.{SystemValue, system_of, IsSealed}
-use Rattle.number_relations.specs.Relations.{RelationValue, IsRelationOf, IsClosedOver, HoldsOver, RelationHolds, number_under, systems_of, way_of}
+use Rattle.num_system.specs.Tracks.{systems_of, way_of, number_under}
+use Rattle.number_relations.specs.Relations.{RelationValue, IsRelationOf, IsClosedOver, HoldsOver, RelationHolds}
 use Rattle.number_relations.specs.Laws.{RelationsAreDecided, TuplesTellRelations}
-use Rattle.number_relations.proofs.HoldLemmas.{decided, spelled_count}
-
--- sealed systems have the laws of systems
-pub are_systems : (systems : List SystemValue) → AllByRecursion IsSealed systems → AreSystems (systems_of systems)
-are_systems [] sealed = tt
-are_systems (s ∷ ss) sealed = (sealed.0.laws, are_systems ss sealed.1)
+use Rattle.num_system.proofs.HoldLemmas.{decided, spelled_count}
+use Rattle.num_system.proofs.SealedLemmas.{are_systems}
 
 pub relations_decided : RelationsAreDecided
 relations_decided r ns is = decided (way_of r.systems) (systems_of r.systems) r.automaton (are_systems r.systems is.sealed) is.closed ns

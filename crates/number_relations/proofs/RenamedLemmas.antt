@@ -8,8 +8,8 @@ use Rattle.std.proofs.lemmas.List.Elements.{Contains-get_or}
 use Rattle.digit_tuple.specs.Names.{AreDistinct}
 use Rattle.digit_tuple.proofs.NameLemmas.{place_of-is}
 use Rattle.num_system.specs.Sealed.{SystemValue}
-use Rattle.number_relations.specs.Relations.{absent_system, system_under}
-use Rattle.number_relations.specs.Placed.{AgreeUnder, changed_name, changed_names}
+use Rattle.num_system.specs.Tracks.{absent_system, system_under, AgreeUnder}
+use Rattle.number_relations.specs.Placed.{changed_name, changed_names}
 
 module _ (names : List (List ℕ)) (systems : List SystemValue) (from to : List ℕ) (distinct : AreDistinct names)
     (agree : Contains names from → Contains names to → system_under names systems from ≡ system_under names systems to) where

@@ -16,9 +16,9 @@ use Rattle.automaton_steps.specs.StepLines.{IsStepLine}
 use Rattle.automaton_steps.proofs.OneLines.{one_line, not_beside}
 use Rattle.automaton_steps.proofs.OneOutcomes.{complement_outcome, join_outcome, project_outcome}
 use Rattle.number_relations.specs.Relations.{RelationValue, named_of, relation_over}
-use Rattle.number_relations.specs.Joins.{joint_systems, languages_of}
+use Rattle.num_system.specs.Tracks.{languages_of, way_of}
+use Rattle.number_relations.specs.Joins.{joint_systems}
 use Rattle.number_relations.specs.StepLaws.{RelationComplementHasOneOutcome, RelationConstantHasOneOutcome, RelationJoinHasOneOutcome, RelationProjectHasOneOutcome}
-use Rattle.number_relations.specs.Relations.{way_of}
 
 -- relations with one named automaton and the same systems are equal
 pub same_relation : (r s : RelationValue) → named_of r ≡ named_of s → r.systems ≡ s.systems → r ≡ s

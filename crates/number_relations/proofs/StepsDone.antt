@@ -1,7 +1,5 @@
 -- A step on automata is one on relations.
 use Rattle.std.proofs.Common.{◌≡◌, ℕ, List, [], ◌∷◌, Result, Err, ap, sym, ◌∙◌, subst}
-use Rattle.std.specs.Prelude.{IsErrAnd}
-use Rattle.std.proofs.lemmas.Result.{err_from_is_err_and}
 use Rattle.digit_tuple.specs.Deterministic.{Automaton}
 use Rattle.digit_tuple.specs.StepResults.{IsDone, IsRefusedBy}
 use Rattle.digit_tuple.specs.Steps.{StepLog}
@@ -17,15 +15,12 @@ use Rattle.automaton_steps.specs.StepLines.{IsRefused}
 use Rattle.automaton_steps.specs.JoinSteps.{IsJoinStep, JoinExceedsLetters, JoinExceeds}
 use Rattle.automaton_steps.specs.ComplementSteps.{IsComplementStep, ComplementExceeds}
 use Rattle.automaton_steps.specs.ProjectSteps.{IsProjectStep, ProjectExceedsLetters, ProjectExceeds}
-use Rattle.number_relations.specs.Relations.{RelationValue, named_of, relation_over, way_of}
-use Rattle.number_relations.specs.Joins.{IsRelationJoinStep, RelationJoinExceedsLetters, RelationJoinExceeds, joint_systems, languages_of}
+use Rattle.num_system.specs.Tracks.{way_of, languages_of}
+use Rattle.number_relations.specs.Relations.{RelationValue, named_of, relation_over}
+use Rattle.number_relations.specs.Joins.{IsRelationJoinStep, RelationJoinExceedsLetters, RelationJoinExceeds, joint_systems}
 use Rattle.number_relations.specs.Complements.{IsRelationComplement, IsRelationComplementStep, RelationComplementExceeds}
 use Rattle.number_relations.specs.Projections.{IsRelationProjectStep, RelationProjectExceedsLetters, RelationProjectExceeds, staying_systems}
 use Rattle.number_relations.specs.Constants.{IsRelationConstant, IsRelationConstantStep, RelationConstantExceeds}
-
--- a fault that was handed on
-pub handed_on : (D : Result RelationValue StepFault → Type 0) (r : Result RelationValue StepFault) (fault : StepFault) → IsErrAnd r (λ e. e ≡ fault) → D (Err fault) → D r
-handed_on D r fault given does = let out = err_from_is_err_and r given in subst D (sym (out.1 ∙ ap Err out.2)) does
 
 module _ (old new : StepLog) (op : Op) (a b : RelationValue) (systems : List SystemValue) (languages : List Automaton) (same : systems ≡ joint_systems a b) (are : languages ≡ languages_of systems) where
   languages_joint : languages ≡ languages_of (joint_systems a b)

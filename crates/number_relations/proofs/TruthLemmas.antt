@@ -13,7 +13,7 @@ use Rattle.product_op.specs.Products.{in_complement}
 use Rattle.product_op.specs.Validity.{is_valid}
 use Rattle.number_relations.specs.Relations.{IsRelation, relation_over}
 use Rattle.number_relations.specs.Comparisons.{IsTruth}
-use Rattle.number_relations.proofs.HoldLemmas.{closed_from, holds_spelling, spelling_holds}
+use Rattle.num_system.proofs.HoldLemmas.{closed_from, holds_spelling, spelling_holds}
 
 -- an automaton of all words or of none, over no tracks
 module _ (holds : Bool) (t : NamedAutomaton) (names : t.names ≡ []) (sizes : t.automaton.sizes ≡ []) (canonical : IsCanonical t.automaton)

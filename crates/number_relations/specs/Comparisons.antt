@@ -3,8 +3,8 @@ use Rattle.std.specs.Prelude.{◌≡◌, ◌≢◌, ℕ, ◌+◌, ◌<◌, ◌�
 use Rattle.num_system.specs.Sealed.{SystemValue}
 use Rattle.number_relations.specs.Relations.{RelationValue, IsRelationOf}
 use Rattle.number_relations.specs.Placed.{each_once}
-use Rattle.number_relations.specs.declared.comparison.Comparison.{Comparison}
-use Rattle.number_relations.specs.declared.comparison.Comparison.TheVariants.{Equal, Unequal, Less, Greater, AtMost, AtLeast}
+use Rattle.num_system.specs.declared.comparison.Comparison.{Comparison}
+use Rattle.num_system.specs.declared.comparison.Comparison.TheVariants.{Equal, Unequal, Less, Greater, AtMost, AtLeast}
 
 -- what a comparison says of two numbers
 abbrev pub Compares : Comparison → ℕ → ℕ → Type 0

@@ -7,7 +7,7 @@ use Rattle.digit_tuple.specs.declared.steps.StepLine.{StepLine}
 use Rattle.automaton_steps.specs.ComplementSteps.{IsComplement, IsComplementStep, ComplementExceeds}
 use Rattle.automaton_steps.specs.StepLines.{IsRefused}
 use Rattle.number_relations.specs.Relations.{RelationValue, named_of}
-use Rattle.number_relations.specs.Joins.{languages_of}
+use Rattle.num_system.specs.Tracks.{languages_of}
 
 -- the relation on the same tracks whose automaton is the complement among the valid words
 pub record IsRelationComplement (a c : RelationValue) : Type 0 where

@@ -9,10 +9,10 @@ use Rattle.digit_tuple.specs.declared.step_fault.StepFault.{StepFault}
 use Rattle.digit_tuple.specs.declared.steps.StepLine.{StepLine}
 use Rattle.product_op.specs.declared.op.Op.{Op}
 use Rattle.num_system.specs.Sealed.{SystemValue}
+use Rattle.num_system.specs.Tracks.{languages_of, systems_under}
 use Rattle.automaton_steps.specs.JoinSteps.{IsJoin, IsJoinStep, JoinExceedsLetters, JoinExceeds}
 use Rattle.automaton_steps.specs.StepLines.{IsRefused}
 use Rattle.number_relations.specs.Relations.{RelationValue, named_of, system_named}
-use Rattle.number_relations.specs.Placed.{systems_under}
 
 -- tracks of one name stand over one system
 abbrev pub AgreeOnSystems : RelationValue → RelationValue → Type 0
@@ -25,10 +25,6 @@ HaveOneDirection a b = (s t : SystemValue) → Contains a.systems s → Contains
 -- the systems of the tracks of both, in byte order of the names: each that of the track of its name in the one, or else in the other
 abbrev pub joint_systems : RelationValue → RelationValue → List SystemValue
 joint_systems a b = systems_under (a.names ++ b.names) (a.systems ++ b.systems) (joint_names a.names b.names)
-
--- the languages of systems
-abbrev pub languages_of : List SystemValue → List Automaton
-languages_of systems = map (λ (s : SystemValue). s.language) systems
 
 -- the relation on the tracks of both, in byte order of their names, whose automaton is the product of the two
 pub record IsRelationJoin (op : Op) (a b c : RelationValue) : Type 0 where

@@ -4,10 +4,11 @@ use Rattle.digit_tuple.specs.Deterministic.{Automaton}
 use Rattle.digit_tuple.specs.Names.{places_of}
 use Rattle.digit_tuple.specs.Parts.{picked}
 use Rattle.num_system.specs.Sealed.{SystemValue}
-use Rattle.number_relations.specs.Relations.{RelationValue, IsRelation, RelationHolds, HoldsOver, number_under}
+use Rattle.num_system.specs.Tracks.{number_under}
+use Rattle.number_relations.specs.Relations.{RelationValue, IsRelation, RelationHolds, HoldsOver}
 use Rattle.number_relations.specs.Placed.{IsPlaced}
 use Rattle.number_relations.specs.Comparisons.{Compares, IsComparison, IsSumRelation, IsAnyNumber}
-use Rattle.number_relations.specs.declared.comparison.Comparison.{Comparison}
+use Rattle.num_system.specs.declared.comparison.Comparison.{Comparison}
 
 -- a relation holds of a tuple or it does not
 abbrev pub RelationsAreDecided : Type 0

@@ -2,7 +2,7 @@
 use Rattle.std.specs.Prelude.{◌≡◌, ℕ, zero, suc, ◌*◌, ◌/◌, ◌%◌, ◌-◌, nat_eq, nat_lt, List, [], ◌∷◌, ◌++◌, map, Result, MatchResult, ◌⊎◌, ◌↔◌, if◌then◌else◌}
 use Rattle.std.specs.List.{AllByRecursion, Contains}
 use Rattle.digit_tuple.specs.StepResults.{IsRefusedBy}
-use Rattle.digit_tuple.specs.Steps.{StepLog, with_line}
+use Rattle.digit_tuple.specs.Steps.{StepLog, with_line, with_lines}
 use Rattle.digit_tuple.specs.declared.step_fault.StepFault.{StepFault}
 use Rattle.digit_tuple.specs.declared.step_fault.StepFault.TheVariants as faults
 use Rattle.digit_tuple.specs.declared.steps.StepLine.{StepLine}
@@ -10,7 +10,7 @@ use Rattle.product_op.specs.declared.op.Op.TheVariants.{And}
 use Rattle.num_system.specs.Sealed.{SystemValue}
 use Rattle.number_relations.specs.Relations.{RelationValue, IsRelation, RelationHolds}
 use Rattle.number_relations.specs.Comparisons.{IsAnyNumber, IsComparison, IsSumRelation}
-use Rattle.number_relations.specs.declared.comparison.Comparison.TheVariants.{Equal}
+use Rattle.num_system.specs.declared.comparison.Comparison.TheVariants.{Equal}
 use Rattle.number_relations.specs.Constants.{IsRelationConstantStep, RelationConstantExceeds}
 use Rattle.number_relations.specs.Joins.{IsRelationJoinStep, RelationJoinExceedsLetters, RelationJoinExceeds}
 use Rattle.number_relations.specs.Projections.{IsRelationProjectStep, RelationProjectExceedsLetters, RelationProjectExceeds}
@@ -37,10 +37,6 @@ factors c = factors_within c c
 -- what is added to the lesser multiple w of x: itself for an even factor, x for an odd one
 abbrev pub addend : ℕ → List ℕ → List ℕ → List ℕ
 addend c x w = if nat_eq (c % 2) 0 then w else x
-
--- the steps with more of them after them
-abbrev pub with_lines : StepLog → List StepLine → StepLog
-with_lines log lines = record { limit = log.limit; lines = log.lines ++ lines }
 
 -- A lesser multiple, under the name w, is joined with the relation that y is the sum of w and z, by the step product, and then w is
 -- dropped, by the step project.

@@ -1,24 +1,16 @@
 -- Automata placed under names of which some may be the same: tracks under one name are one track.
-use Rattle.std.specs.Prelude.{◌≡◌, ℕ, ◌<◌, List, [], ◌∷◌, map, length, slice_index_or, if◌then◌else◌}
+use Rattle.std.specs.Prelude.{ℕ, List, [], ◌∷◌, map, if◌then◌else◌}
 use Rattle.std.specs.Str.{bytes_eq}
 use Rattle.digit_tuple.specs.Deterministic.{Automaton}
 use Rattle.digit_tuple.specs.Names.{joint_names, names_without}
 use Rattle.num_system.specs.Sealed.{SystemValue}
-use Rattle.number_relations.specs.Relations.{RelationValue, RelationHolds, IsRelationOf, HoldsOver, absent_system, system_under}
+use Rattle.num_system.specs.Tracks.{systems_under}
+use Rattle.number_relations.specs.Relations.{RelationValue, RelationHolds, IsRelationOf, HoldsOver}
 
 -- each name once, in order of first occurrence
 abbrev pub each_once : List (List ℕ) → List (List ℕ)
 each_once [] = []
 each_once (n ∷ names) = n ∷ names_without (each_once names) n
-
--- the systems of these names, each that of the first track under it
-abbrev pub systems_under : List (List ℕ) → List SystemValue → List (List ℕ) → List SystemValue
-systems_under under systems names = map (system_under under systems) names
-
--- tracks of one name have one system
-abbrev pub AgreeUnder : List (List ℕ) → List SystemValue → Type 0
-AgreeUnder under systems = (i j : ℕ) → i < length under → j < length under → slice_index_or under i [] ≡ slice_index_or under j []
-    → slice_index_or systems i absent_system ≡ slice_index_or systems j absent_system
 
 -- the relation that an automaton over these systems holds of, its tracks under these names
 abbrev pub IsPlaced : Automaton → List SystemValue → List (List ℕ) → RelationValue → Type 0

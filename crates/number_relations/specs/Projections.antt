@@ -8,8 +8,8 @@ use Rattle.digit_tuple.specs.declared.steps.StepLine.{StepLine}
 use Rattle.num_system.specs.Sealed.{SystemValue}
 use Rattle.automaton_steps.specs.ProjectSteps.{IsProjection, IsProjectStep, ProjectExceedsLetters, ProjectExceeds}
 use Rattle.automaton_steps.specs.StepLines.{IsRefused}
-use Rattle.number_relations.specs.Relations.{RelationValue, named_of, way_of}
-use Rattle.number_relations.specs.Placed.{systems_under}
+use Rattle.num_system.specs.Tracks.{way_of, systems_under}
+use Rattle.number_relations.specs.Relations.{RelationValue, named_of}
 
 -- the systems of the tracks that stay when one is dropped
 abbrev pub staying_systems : RelationValue → List ℕ → List SystemValue

@@ -5,7 +5,7 @@ use Rattle.digit_tuple.specs.Deterministic.{Automaton}
 use Rattle.digit_tuple.specs.Letters.{IsAlphabet, IsWord}
 use Rattle.digit_tuple.specs.Paddings.{in_order}
 use Rattle.digit_tuple.specs.StepResults.{IsRefusedBy}
-use Rattle.digit_tuple.specs.Steps.{StepLog, with_line}
+use Rattle.digit_tuple.specs.Steps.{StepLog, with_line, with_lines}
 use Rattle.digit_tuple.specs.declared.direction.Direction.{Direction}
 use Rattle.digit_tuple.specs.declared.step_fault.StepFault.{StepFault}
 use Rattle.digit_tuple.specs.declared.step_fault.StepFault.TheVariants as faults
@@ -17,9 +17,8 @@ use Rattle.automaton_steps.specs.PadSteps.{IsPadStep, PadExceeds}
 use Rattle.automaton_steps.specs.ReadSteps.{IsReadStep, ReadExceeds}
 use Rattle.automaton_steps.specs.ValidSteps.{IsValidStep, ValidExceeds}
 use Rattle.num_system.specs.Sealed.{SystemValue}
-use Rattle.number_relations.specs.Relations.{RelationValue, named_of, way_of}
-use Rattle.number_relations.specs.Joins.{languages_of}
-use Rattle.number_relations.specs.Multiples.{with_lines}
+use Rattle.num_system.specs.Tracks.{way_of, languages_of}
+use Rattle.number_relations.specs.Relations.{RelationValue, named_of}
 
 -- some word that spells the numbers is accepted by the listed automaton
 abbrev pub IsListedOf : Direction → List System → Branching → List ℕ → Type 0

@@ -1,14 +1,12 @@
 -- Relations on numbers: automata of their spellings, with a name and a system for each track.
-use Rattle.std.specs.Prelude.{◌≡◌, ℕ, List, [], ◌∷◌, map, length, slice_index_or, ◌↔◌}
+use Rattle.std.specs.Prelude.{◌≡◌, ℕ, List, [], ◌∷◌, map, length, ◌↔◌}
 use Rattle.std.specs.List.{AllByRecursion}
 use Rattle.digit_tuple.specs.Deterministic.{Automaton}
-use Rattle.digit_tuple.specs.Names.{place_of}
-use Rattle.digit_tuple.specs.declared.direction.Direction.{Direction}
-use Rattle.digit_tuple.specs.declared.direction.Direction.TheVariants.{Msd}
 use Rattle.minimise.specs.Tracked.{NamedAutomaton, IsTracked}
 use Rattle.numeration.specs.Systems.{System}
 use Rattle.numeration.specs.Relations.{HoldsOf}
-use Rattle.num_system.specs.Sealed.{SystemValue, system_of, IsSealed}
+use Rattle.num_system.specs.Sealed.{SystemValue, IsSealed}
+use Rattle.num_system.specs.Tracks.{way_of, HaveOneWay, systems_of, system_under}
 use Rattle.num_system.specs.Spellings.{HasSpelling}
 
 -- the names of the tracks, their systems, and the automaton of the spellings
@@ -24,19 +22,6 @@ relation_over a systems = record { names = a.names; systems = systems; automaton
 -- the automaton with its names
 abbrev pub named_of : RelationValue → NamedAutomaton
 named_of r = record { names = r.names; automaton = r.automaton }
-
--- the direction of the tracks, that of the first; of no tracks any does, and this is msd
-abbrev pub way_of : List SystemValue → Direction
-way_of [] = Msd
-way_of (s ∷ ss) = s.way
-
--- the tracks have one direction
-abbrev pub HaveOneWay : List SystemValue → Type 0
-HaveOneWay systems = AllByRecursion (λ (s : SystemValue). s.way ≡ way_of systems) systems
-
--- what their words and numbers are
-abbrev pub systems_of : List SystemValue → List System
-systems_of systems = map system_of systems
 
 -- the systems of the tracks
 abbrev pub systems_in : RelationValue → List System
@@ -63,33 +48,9 @@ pub record IsRelation (r : RelationValue) : Type 0 where
   pub one_way : HaveOneWay r.systems
   pub closed : IsClosedOver r.systems r.automaton
 
--- what stands for a system that is not there
-abbrev pub no_automaton : Automaton
-no_automaton = record { sizes = []; states = [] }
-
-abbrev pub absent_system : SystemValue
-absent_system = record {
-  digits = 0;
-  way = Msd;
-  language = no_automaton;
-  adder = no_automaton;
-  equal = no_automaton;
-  less = no_automaton;
-  successor = no_automaton;
-  zero = no_automaton;
-}
-
--- the system of the first track of this name, of tracks that have these names
-abbrev pub system_under : List (List ℕ) → List SystemValue → List ℕ → SystemValue
-system_under names systems name = slice_index_or systems (place_of names name) absent_system
-
 -- the system of the track of this name
 abbrev pub system_named : RelationValue → List ℕ → SystemValue
 system_named r name = system_under r.names r.systems name
-
--- the number of the first track of this name, of tracks that have these names and numbers
-abbrev pub number_under : List (List ℕ) → List ℕ → List ℕ → ℕ
-number_under names ns name = slice_index_or ns (place_of names name) 0
 
 -- the relation has these tracks, and holds of numbers where this is true of the number under each name
 pub record IsRelationOf (names : List (List ℕ)) (systems : List SystemValue) (holds : (List ℕ → ℕ) → Type 0) (r : RelationValue) : Type 0 where

@@ -12,7 +12,8 @@ use Rattle.numeration.specs.SomeTracks.{completed}
 use Rattle.num_system.specs.Joined.{joined, IsBound}
 use Rattle.num_system.specs.Sealed.{SystemValue, IsSealed}
 use Rattle.automaton_steps.specs.Laws.{HasOneOutcome}
-use Rattle.number_relations.specs.Relations.{RelationValue, IsRelation, RelationHolds, named_of, number_under, systems_in, HaveOneWay, systems_of, way_of}
+use Rattle.num_system.specs.Tracks.{HaveOneWay, systems_of, way_of, number_under}
+use Rattle.number_relations.specs.Relations.{RelationValue, IsRelation, RelationHolds, named_of, systems_in}
 use Rattle.number_relations.specs.Joins.{AgreeOnSystems, HaveOneDirection, IsRelationJoin, IsRelationJoinStep, RelationJoinExceedsLetters, RelationJoinExceeds}
 use Rattle.number_relations.specs.Complements.{IsRelationComplement, IsRelationComplementStep, RelationComplementExceeds}
 use Rattle.number_relations.specs.Projections.{IsRelationProjection, IsRelationProjectStep, RelationProjectExceedsLetters, RelationProjectExceeds}

@@ -7,13 +7,13 @@ ghost use Rattle.num_system.specs.Sealed.{system_of};
 ghost use Rattle.number_relations.specs.Relations.{HoldsOver, IsClosedOver};
 ghost use Rattle.number_relations.specs.Comparisons.{IsAnyNumber, IsComparison, IsOverOne, IsSumRelation, compared_names as compared_names_of};
 
-use crate::comparison::Comparison;
 use crate::relation::Relation;
-use crate::sealed::is_sealed;
 use digit_tuple::dfa::Dfa;
 use digit_tuple::faults::OutOfMemory;
 use digit_tuple::name::Name;
 use minimise::tracked::Tracked;
+use num_system::comparison::Comparison;
+use num_system::sealed::is_sealed;
 use num_system::system::System;
 use product_op::validity::complement_in;
 use std::alloc::Global;

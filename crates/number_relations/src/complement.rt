@@ -4,10 +4,10 @@ ghost use Rattle.number_relations.specs.Complements.{DoesRelationComplement};
 
 use crate::placed::systems_for;
 use crate::relation::Relation;
-use crate::track_systems::languages_of;
 use automaton_steps::complement_step::complement_step as complement_automaton;
 use digit_tuple::step_fault::StepFault;
 use digit_tuple::steps::Steps;
+use num_system::tracks::languages_of;
 use std::alloc::Global;
 
 /// The relation that holds of the tuples of numbers of which the other does not hold, by the step

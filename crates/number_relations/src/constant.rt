@@ -3,12 +3,12 @@
 ghost use Rattle.number_relations.specs.Constants.{DoesRelationConstant};
 
 use crate::relation::Relation;
-use crate::sealed::is_sealed;
 use constants::constant_step::constant_step as constant_automaton;
 use digit_tuple::name::Name;
 use digit_tuple::step_fault::StepFault;
 use digit_tuple::steps::Steps;
 use minimise::tracked::Tracked;
+use num_system::sealed::is_sealed;
 use num_system::system::System;
 use std::alloc::Global;
 use std::rc::Rc;

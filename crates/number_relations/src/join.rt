@@ -4,11 +4,12 @@ ghost use Rattle.num_system.specs.Joined.{IsBound};
 ghost use Rattle.number_relations.specs.Joins.{AgreeOnSystems, HaveOneDirection, DoesRelationJoin};
 
 use crate::relation::Relation;
-use crate::track_systems::{joint_systems, languages_of};
+use crate::track_systems::joint_systems;
 use automaton_steps::join_step::{Joining, join_step as join_automata};
 use digit_tuple::names::joint_names;
 use digit_tuple::step_fault::StepFault;
 use digit_tuple::steps::Steps;
+use num_system::tracks::languages_of;
 use product_op::op::Op;
 use std::alloc::Global;
 

@@ -5,9 +5,6 @@
 /// Relations, and what they tell.
 pub mod relation;
 
-/// What sealed systems tell.
-pub mod sealed;
-
 /// True and false sentences.
 pub mod truth;
 
@@ -16,9 +13,6 @@ pub mod placed;
 
 /// Relations with their tracks in byte order of names.
 pub mod ordered;
-
-/// Comparisons of two numbers.
-pub mod comparison;
 
 /// The comparisons, the sums and the numbers of one system.
 pub mod arithmetic;

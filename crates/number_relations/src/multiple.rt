@@ -7,15 +7,15 @@ ghost use Rattle.num_system.specs.Sealed.{SystemValue};
 ghost use Rattle.number_relations.specs.Relations.{IsRelation};
 ghost use Rattle.number_relations.specs.Multiples.{addend, DoesGrowth, DoesMultiple, IsMultiple, lesser_factor as lesser_factor_of};
 
-use crate::comparison::Comparison;
 use crate::constant::constant_step;
 use crate::join::join_step;
 use crate::projection::project_step;
 use crate::relation::Relation;
-use crate::sealed::is_sealed;
 use digit_tuple::name::Name;
 use digit_tuple::step_fault::StepFault;
 use digit_tuple::steps::Steps;
+use num_system::comparison::Comparison;
+use num_system::sealed::is_sealed;
 use num_system::system::System;
 use product_op::op::Op;
 use std::alloc::Global;

@@ -7,16 +7,17 @@ ghost use Rattle.digit_tuple.specs.Deterministic.{accepts_of};
 ghost use Rattle.digit_tuple.specs.Letters.{product, IsWord};
 ghost use Rattle.minimise.specs.Canonical.{IsCanonical};
 ghost use Rattle.project_close.specs.Substitution.{IsSubstitution, sizes_under, word_under};
-ghost use Rattle.number_relations.specs.Relations.{HaveOneWay, IsClosedOver, system_named, system_under};
-ghost use Rattle.number_relations.specs.Placed.{AgreeUnder, IsPlaced, IsRenamed, changed_name as changed_name_of, changed_names as changed_names_of, each_once as each_once_of, systems_under};
+ghost use Rattle.num_system.specs.Tracks.{HaveOneWay, system_under, AgreeUnder, systems_under};
+ghost use Rattle.number_relations.specs.Relations.{IsClosedOver, system_named};
+ghost use Rattle.number_relations.specs.Placed.{IsPlaced, IsRenamed, changed_name as changed_name_of, changed_names as changed_names_of, each_once as each_once_of};
 
 use crate::relation::Relation;
-use crate::sealed::are_sealed;
 use digit_tuple::dfa::Dfa;
 use digit_tuple::faults::OutOfMemory;
 use digit_tuple::name::Name;
 use digit_tuple::names::find_name;
 use minimise::tracked::Tracked;
+use num_system::sealed::are_sealed;
 use num_system::system::System;
 use project_close::substitution::substitute;
 use std::alloc::Global;
@@ -110,8 +111,9 @@ fn placed_table(
     Ok(Tracked::of_canonical(table, names))
 }
 
-/// The systems of these names.
-pub(crate) fn systems_for(
+/// The systems of these names, each that of the first track under it. Time is the number of names times
+/// that of tracks.
+pub fn systems_for(
     alloc: Global,
     systems: &[Rc<System>],
     under: &[Name],

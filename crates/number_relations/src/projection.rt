@@ -5,12 +5,12 @@ ghost use Rattle.number_relations.specs.Projections.{DoesRelationProject};
 
 use crate::placed::systems_for;
 use crate::relation::Relation;
-use crate::track_systems::direction_of;
 use automaton_steps::project_step::project_step as project_automaton;
 use digit_tuple::name::Name;
 use digit_tuple::names::names_without;
 use digit_tuple::step_fault::StepFault;
 use digit_tuple::steps::Steps;
+use num_system::tracks::direction_of;
 use std::alloc::Global;
 
 /// The relation that holds of numbers on the other tracks where some number on the track of this name

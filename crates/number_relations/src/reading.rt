@@ -3,12 +3,10 @@
 ghost use Rattle.std.specs.Prelude.{◌≡◌, map, IfOk};
 ghost use Rattle.std.specs.Rc.{rc_value};
 ghost use Rattle.numeration.specs.Spelling.{sizes_of};
-ghost use Rattle.number_relations.specs.Relations.{HaveOneWay, systems_of};
+ghost use Rattle.num_system.specs.Tracks.{HaveOneWay, systems_of};
 ghost use Rattle.number_relations.specs.Readings.{DoesReading};
 
 use crate::relation::Relation;
-use crate::sealed::are_sealed;
-use crate::track_systems::{direction_of, languages_of};
 use automaton_steps::numbered::numbered;
 use automaton_steps::pad_step::pad_step;
 use automaton_steps::read_step::read_step;
@@ -17,7 +15,9 @@ use digit_tuple::faults::OutOfMemory;
 use digit_tuple::nfa::Nfa;
 use digit_tuple::step_fault::StepFault;
 use digit_tuple::steps::Steps;
+use num_system::sealed::are_sealed;
 use num_system::system::System;
+use num_system::tracks::{direction_of, languages_of, shared};
 use std::alloc::Global;
 use std::rc::Rc;
 
@@ -47,15 +47,4 @@ pub fn reading_steps(
     let relation = numbered(alloc, closed)?;
     let valid = valid_step(alloc, &relation, &languages, steps)?;
     Ok(Relation::from_parts(valid, kept))
-}
-
-// The same systems once more.
-fn shared(alloc: Global, systems: &[Rc<System>]) -> Result<Vec<Rc<System>>, OutOfMemory>
-    ensures { IfOk result (λ again. map rc_value again.items ≡ map rc_value systems.now) }
-{
-    let mut again = Vec::with_capacity(alloc, systems.len())?;
-    for system in systems {
-        again.push(system.clone()?)?;
-    }
-    Ok(again)
 }

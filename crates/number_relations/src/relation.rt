@@ -34,8 +34,9 @@ impl Model for Relation {
 }
 
 impl Relation {
-    /// The relation of these tracks and systems.
-    pub(crate) fn from_parts(tracked: Tracked, systems: Vec<Rc<System>>) -> Self
+    /// The relation of a canonical automaton with named tracks over these systems: it accepts each spelling
+    /// of the numbers of which it accepts some spelling, and no other word. It takes no memory.
+    pub fn from_parts(tracked: Tracked, systems: Vec<Rc<System>>) -> Self
         requires { IsRelation (relation_over tracked (map rc_value systems.items)) }
         ensures { result ≡ relation_over tracked (map rc_value systems.items) }
     {

@@ -1,16 +1,12 @@
-//! The systems of a step's tracks, their languages and their direction.
+//! The systems of a step's tracks.
 
 ghost use Rattle.std.specs.Prelude.{◌≡◌, ◌++◌, ◌⊎◌, map, IfOk};
 ghost use Rattle.std.specs.List.{All, Contains};
 ghost use Rattle.std.specs.Rc.{rc_value};
-ghost use Rattle.number_relations.specs.Relations.{system_under, way_of};
-ghost use Rattle.number_relations.specs.Placed.{systems_under};
-ghost use Rattle.number_relations.specs.Joins.{languages_of as languages_of_systems};
+ghost use Rattle.num_system.specs.Tracks.{system_under, systems_under};
 
 use crate::placed::system_for;
 use crate::relation::Relation;
-use digit_tuple::dfa::Dfa;
-use digit_tuple::direction::Direction;
 use digit_tuple::faults::OutOfMemory;
 use digit_tuple::name::Name;
 use digit_tuple::names::find_name;
@@ -45,29 +41,5 @@ fn joint_system(a: &Relation, b: &Relation, name: &Name) -> Result<Rc<System>, O
     match find_name(names, name) {
         Some(place) => Ok(systems[place].clone()?),
         None => system_for(b.systems(), b.names(), name),
-    }
-}
-
-/// The languages of systems.
-pub(crate) fn languages_of(
-    alloc: Global,
-    systems: &[Rc<System>],
-) -> Result<Vec<Rc<Dfa>>, OutOfMemory>
-    ensures { IfOk result (λ languages. map rc_value languages.items ≡ languages_of_systems (map rc_value systems.now)) }
-{
-    let mut languages = Vec::with_capacity(alloc, systems.len())?;
-    for system in systems {
-        languages.push(system.as_ref().language().clone()?)?;
-    }
-    Ok(languages)
-}
-
-/// The direction of tracks over these systems.
-pub(crate) fn direction_of(systems: &[Rc<System>]) -> Direction
-    ensures { result ≡ way_of (map rc_value systems.now) }
-{
-    match systems.first() {
-        Some(system) => system.as_ref().direction(),
-        None => Direction::Msd,
     }
 }

@@ -10,7 +10,7 @@ use Rattle.digit_tuple.specs.Keys.{key_run, key_accepts, LeadAlike}
 use Rattle.minimise.specs.Classes.{next_of, first_of}
 use Rattle.digit_tuple.proofs.KeyLemmas.{key_accepts-run}
 use Rattle.product_op.specs.declared.rule.Rule.{Rule}
-use Rattle.product_op.specs.Readings.{Reading, AreReadings, AreAlike, no_reading, reading_at, part_read, word_read, state_at, first_key, next_key, flags_at, flags_of, combined}
+use Rattle.product_op.specs.Readings.{Reading, AreReadings, AreCanonical, AreAlike, no_reading, reading_at, part_read, word_read, state_at, first_key, next_key, flags_at, flags_of, combined}
 use Rattle.product_op.specs.SinkKeys.{is_dead_key, live_key, live_key_after}
 use Rattle.product_op.proofs.SinkKeyLemmas.{dead_next, dead_one, dead_refuses}
 use Rattle.digit_tuple.proofs.RangeLemmas.{map-range-same, map-range-list}
@@ -27,7 +27,7 @@ module _ (rs : List Reading) where
   length-next_key : (key : List ℕ) (a : ℕ) → length (next_key rs key a) ≡ length rs
   length-next_key key a = length-map-range_with_len (λ i. next_of (reading_at rs i).automaton (state_at key i) (part_read (reading_at rs i) a)) 0 (length rs)
 
-  length-first_key : length (first_key rs) ≡ length rs
+  pub length-first_key : length (first_key rs) ≡ length rs
   length-first_key = length-map rs (λ r. first_of r.automaton)
 
   lead_key-next : (key : List ℕ) (a : ℕ) (w : List ℕ) → lead_key (next_key rs key a) w ≡ lead_key key (a ∷ w)
@@ -38,13 +38,13 @@ module _ (rs : List Reading) where
       (λ i within. ap (λ q. lead (reading_at rs i).automaton q (word_read (reading_at rs i) w))
       (get_or-map-range_with_len (λ j. next_of (reading_at rs j).automaton (state_at key j) (part_read (reading_at rs j) a)) 0 (length rs) i i 0 within (omega arith)))
 
-  lead_key-nil : (key : List ℕ) → length key ≡ length rs → key ≡ lead_key key []
+  pub lead_key-nil : (key : List ℕ) → length key ≡ length rs → key ≡ lead_key key []
   lead_key-nil key long = fill_by_all (λ i. state_at key i) key (length rs) 0 long (λ k within. refl)
 
-  length-lead_key : (key w : List ℕ) → length (lead_key key w) ≡ length rs
+  pub length-lead_key : (key w : List ℕ) → length (lead_key key w) ≡ length rs
   length-lead_key key w = length-map-range_with_len (λ i. lead (reading_at rs i).automaton (state_at key i) (word_read (reading_at rs i) w)) 0 (length rs)
 
-  state_at-first : (i : ℕ) → i < length rs → state_at (first_key rs) i ≡ first_of (reading_at rs i).automaton
+  pub state_at-first : (i : ℕ) → i < length rs → state_at (first_key rs) i ≡ first_of (reading_at rs i).automaton
   state_at-first i within = get_or-map (λ r. first_of r.automaton) rs i no_reading 0 within
 
   -- the state of one of them
@@ -54,7 +54,7 @@ module _ (rs : List Reading) where
       ∙ ap (λ q. lead (reading_at rs i).automaton q (word_read (reading_at rs i) w)) (state_at-first i within)
 
   -- each accepts where its part of the word is accepted
-  flags_at-lead : (w : List ℕ) → flags_at rs (lead_key (first_key rs) w) ≡ flags_of rs w
+  pub flags_at-lead : (w : List ℕ) → flags_at rs (lead_key (first_key rs) w) ≡ flags_of rs w
   flags_at-lead w =
       map-range-same
       (λ i. accepting_of (reading_at rs i).automaton (state_at (lead_key (first_key rs) w) i))
@@ -67,7 +67,7 @@ module _ (rs : List Reading) where
 
   module _ (rule : Rule) where
     -- a dead key leads to dead keys
-    dead_lead : (w key : List ℕ) → length key ≡ length rs → is_dead_key rule rs key ≡ true → is_dead_key rule rs (lead_key key w) ≡ true
+    pub dead_lead : (w key : List ℕ) → length key ≡ length rs → is_dead_key rule rs key ≡ true → is_dead_key rule rs (lead_key key w) ≡ true
     dead_lead [] key long dead = sym (ap (is_dead_key rule rs) (lead_key-nil key long)) ∙ dead
     dead_lead (a ∷ w) key long dead = sym (ap (is_dead_key rule rs) (lead_key-next key a w)) ∙ dead_lead w (next_key rs key a) (length-next_key key a) (dead_next rs rule key a dead)
 
@@ -97,7 +97,7 @@ module _ (rs : List Reading) where
         by false false live alive same = some_value key other same
 
     module _ (live : is_dead_key rule rs (first_key rs) ≡ false) where
-      run_first : (w : List ℕ) → key_run (live_key_after rule rs) (first_key rs) w ≡ live_key rule rs (lead_key (first_key rs) w)
+      pub run_first : (w : List ℕ) → key_run (live_key_after rule rs) (first_key rs) w ≡ live_key rule rs (lead_key (first_key rs) w)
       run_first w = key_run-lead w (first_key rs) length-first_key live
 
       -- what the rule says of a word
@@ -113,10 +113,10 @@ module _ (rs : List Reading) where
           by true dead = sym (dead_refuses rs rule (lead_key (first_key rs) w) dead)
           by false alive = refl
 
-      lead_from_run : (w v : List ℕ) → LeadAlike (live_key_after rule rs) (first_key rs) w v → lead_key (first_key rs) w ≡ lead_key (first_key rs) v
+      pub lead_from_run : (w v : List ℕ) → LeadAlike (live_key_after rule rs) (first_key rs) w v → lead_key (first_key rs) w ≡ lead_key (first_key rs) v
       lead_from_run w v same = live_key-one (lead_key (first_key rs) w) (lead_key (first_key rs) v) (length-lead_key (first_key rs) w) (length-lead_key (first_key rs) v) (sym (run_first w) ∙ same ∙ run_first v)
 
-      run_from_lead : (w v : List ℕ) → lead_key (first_key rs) w ≡ lead_key (first_key rs) v → LeadAlike (live_key_after rule rs) (first_key rs) w v
+      pub run_from_lead : (w v : List ℕ) → lead_key (first_key rs) w ≡ lead_key (first_key rs) v → LeadAlike (live_key_after rule rs) (first_key rs) w v
       run_from_lead w v same = run_first w ∙ ap (live_key rule rs) same ∙ sym (run_first v)
 
   module _ (letters : ℕ) (are : AreReadings letters rs) where
@@ -127,14 +127,14 @@ module _ (rs : List Reading) where
         (is.within a 0 (omega (arith, is.count, over.0)), IsWord-read i w within over.1)
 
     -- words that lead to one key have one residual after them in each
-    alike_from_lead : (w v : List ℕ) → lead_key (first_key rs) w ≡ lead_key (first_key rs) v → AreAlike rs w v
+    pub alike_from_lead : (w v : List ℕ) → lead_key (first_key rs) w ≡ lead_key (first_key rs) v → AreAlike rs w v
     alike_from_lead w v keys i within =
         SameAfter-lead (reading_at rs i).automaton (word_read (reading_at rs i) w) (word_read (reading_at rs i) v)
         (sym (state_at-lead i w within) ∙ ap (λ key. state_at key i) keys ∙ state_at-lead i v within)
 
     -- and the other way round
-    lead_from_alike : (w v : List ℕ) → IsWord letters w → IsWord letters v → AreAlike rs w v → lead_key (first_key rs) w ≡ lead_key (first_key rs) v
-    lead_from_alike w v over there alike =
+    pub lead_from_alike : AreCanonical rs → (w v : List ℕ) → IsWord letters w → IsWord letters v → AreAlike rs w v → lead_key (first_key rs) w ≡ lead_key (first_key rs) v
+    lead_from_alike canonical w v over there alike =
         map-range-same
         (λ i. lead (reading_at rs i).automaton (state_at (first_key rs) i) (word_read (reading_at rs i) w))
         (λ i. lead (reading_at rs i).automaton (state_at (first_key rs) i) (word_read (reading_at rs i) v))
@@ -142,15 +142,15 @@ module _ (rs : List Reading) where
         (λ i within.
         let d = (reading_at rs i).automaton in
         ap (λ q. lead d q (word_read (reading_at rs i) w)) (state_at-first i within)
-        ∙ one_lead d (are i no_reading within).canonical (word_read (reading_at rs i) w) (word_read (reading_at rs i) v) (IsWord-read i w within over) (IsWord-read i v within there) (alike i within)
+        ∙ one_lead d (canonical i no_reading within) (word_read (reading_at rs i) w) (word_read (reading_at rs i) v) (IsWord-read i w within over) (IsWord-read i v within there) (alike i within)
         ∙ sym (ap (λ q. lead d q (word_read (reading_at rs i) v)) (state_at-first i within)))
 
     module _ (rule : Rule) (live : is_dead_key rule rs (first_key rs) ≡ false) where
       pub alike_from_keys : (w v : List ℕ) → LeadAlike (live_key_after rule rs) (first_key rs) w v → AreAlike rs w v
       alike_from_keys w v same = alike_from_lead w v (lead_from_run rule live w v same)
 
-      pub keys_from_alike : (w v : List ℕ) → IsWord letters w → IsWord letters v → AreAlike rs w v → LeadAlike (live_key_after rule rs) (first_key rs) w v
-      keys_from_alike w v over there alike = run_from_lead rule live w v (lead_from_alike w v over there alike)
+      pub keys_from_alike : AreCanonical rs → (w v : List ℕ) → IsWord letters w → IsWord letters v → AreAlike rs w v → LeadAlike (live_key_after rule rs) (first_key rs) w v
+      keys_from_alike canonical w v over there alike = run_from_lead rule live w v (lead_from_alike canonical w v over there alike)
 
     -- where the first key is dead no word is accepted, and all words are alike
     module _ (rule : Rule) (dead : is_dead_key rule rs (first_key rs) ≡ true) where

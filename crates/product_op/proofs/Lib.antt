@@ -10,3 +10,5 @@ pub mod LeadingLemmas
 pub mod FoundLetters
 pub mod RuleLemmas
 pub mod WidthLaws
+pub mod TupleLemmas
+pub mod ResultLemmas

@@ -5,7 +5,7 @@ use Rattle.std.proofs.lemmas.List.{length-map, append_assoc}
 use Rattle.std.proofs.lemmas.List.FromFn.{map-range_with_len_more}
 use Rattle.std.proofs.lemmas.List.Elements.{All-cons}
 use Rattle.digit_tuple.specs.Letters.{product, IsWord}
-use Rattle.digit_tuple.specs.Deterministic.{Automaton, accepts_of}
+use Rattle.digit_tuple.specs.Deterministic.{Automaton, IsTable, letters_of, accepts_of}
 use Rattle.digit_tuple.specs.Width.{HasApart, HasWidth}
 use Rattle.digit_tuple.proofs.WidthLemmas.{HasApart-same, HasWidth-same}
 use Rattle.digit_tuple.specs.Names.{places_of}
@@ -23,11 +23,11 @@ use Rattle.digit_tuple.specs.Names.{AreJoint, joint_names}
 use Rattle.product_op.specs.Tracks.{AgreeOnShared, joint_size, joint_sizes}
 use Rattle.product_op.specs.Validity.{AreLanguages, is_valid, TracksAlike}
 use Rattle.product_op.specs.Products.{joint_part, in_product, ProductAlike, in_complement, in_valid_part, ValidityAlike}
-use Rattle.product_op.specs.Readings.{Reading, IsReading, reading_in, readings_in, AreSideBySide, AreAlike, word_read, flags_of, all_true, combined, arguments_of}
+use Rattle.product_op.specs.Readings.{Reading, IsReading, AreReadings, AreCanonical, reading_in, readings_in, AreSideBySide, AreAlike, word_read, flags_of, all_true, combined, arguments_of}
 use Rattle.product_op.specs.TrackReadings.{read_on, whole_reading, track_reading, track_readings, counted_of, argument_reading, product_readings, validity_readings, AllFitTracks}
 use Rattle.digit_tuple.proofs.JointNames.{AreJoint-joint_names}
 use Rattle.product_op.proofs.SizeLemmas.{joint_size-first, joint_size-second, picked_sizes}
-use Rattle.product_op.proofs.ReadingLemmas.{AllFitTracks-languages, IsReading-on, IsReading-whole, AreReadings-tracks, word_read-part, word_read-all, SameAfter-words, all_true-valid, tracks_from_alike, alike_from_tracks, alike_cons, alike_head, alike_tail}
+use Rattle.product_op.proofs.ReadingLemmas.{AllFitTracks-languages, IsReading-on, IsReading-whole, AreReadings-tracks, AreCanonical-tracks, word_read-part, word_read-all, SameAfter-words, all_true-valid, tracks_from_alike, alike_from_tracks, alike_cons, alike_head, alike_tail}
 
 -- where languages count, they fit the tracks
 pub AllFitTracks-counted : (op : Op) (sizes : List ℕ) (languages : List Automaton) → (IsTrue (among_valid op) → AreLanguages sizes languages) → AllFitTracks sizes (counted_of op languages)
@@ -146,17 +146,29 @@ module _ (a b : NamedAutomaton) (is_a : IsTracked a) (is_b : IsTracked b) (agree
   AreSideBySide-product op languages fit = record {
     readings_are =
         All-cons (IsReading (product (joint_sizes a b))) (argument_reading a b a) (argument_reading a b b ∷ track_readings (joint_sizes a b) (counted_of op languages))
-        (IsReading-on (joint_sizes a b) (places_of (joint_names a.names b.names) a.names) a.automaton (places_within a joint.all_first) (sym picked-first) is_a.canonical)
+        (IsReading-on (joint_sizes a b) (places_of (joint_names a.names b.names) a.names) a.automaton (places_within a joint.all_first) (sym picked-first) is_a.canonical.table)
         (All-cons (IsReading (product (joint_sizes a b))) (argument_reading a b b) (track_readings (joint_sizes a b) (counted_of op languages))
-        (IsReading-on (joint_sizes a b) (places_of (joint_names a.names b.names) b.names) b.automaton (places_within b joint.all_second) (sym picked-second) is_b.canonical)
+        (IsReading-on (joint_sizes a b) (places_of (joint_names a.names b.names) b.names) b.automaton (places_within b joint.all_second) (sym picked-second) is_b.canonical.table)
         (AreReadings-tracks (joint_sizes a b) (counted_of op languages) fit));
     enough = omega arith;
   }
 
+  pub AreCanonical-product : (op : Op) (languages : List Automaton) → AllFitTracks (joint_sizes a b) (counted_of op languages) → AreCanonical (product_readings op a b languages)
+  AreCanonical-product op languages fit =
+      All-cons (λ (r : Reading). IsCanonical r.automaton) (argument_reading a b a) (argument_reading a b b ∷ track_readings (joint_sizes a b) (counted_of op languages)) is_a.canonical
+      (All-cons (λ (r : Reading). IsCanonical r.automaton) (argument_reading a b b) (track_readings (joint_sizes a b) (counted_of op languages)) is_b.canonical
+      (AreCanonical-tracks (joint_sizes a b) (counted_of op languages) fit))
+
 -- an automaton on all its tracks, and the languages
+pub AreReadings-validity : (d : Automaton) → IsTable (letters_of d) d.states → (languages : List Automaton) → AllFitTracks d.sizes languages → AreReadings (product d.sizes) (validity_readings d languages)
+AreReadings-validity d table languages fit = All-cons (IsReading (product d.sizes)) (whole_reading d) (track_readings d.sizes languages) (IsReading-whole d table) (AreReadings-tracks d.sizes languages fit)
+
+pub AreCanonical-validity : (d : Automaton) → IsCanonical d → (languages : List Automaton) → AllFitTracks d.sizes languages → AreCanonical (validity_readings d languages)
+AreCanonical-validity d canonical languages fit = All-cons (λ (r : Reading). IsCanonical r.automaton) (whole_reading d) (track_readings d.sizes languages) canonical (AreCanonical-tracks d.sizes languages fit)
+
 pub AreSideBySide-validity : (d : Automaton) → IsCanonical d → (languages : List Automaton) (rule : Rule) → AllFitTracks d.sizes languages → arguments_of rule ≤ 1 → AreSideBySide (product d.sizes) (validity_readings d languages) rule
 AreSideBySide-validity d canonical languages rule fit few = record {
-  readings_are = All-cons (IsReading (product d.sizes)) (whole_reading d) (track_readings d.sizes languages) (IsReading-whole d canonical) (AreReadings-tracks d.sizes languages fit);
+  readings_are = AreReadings-validity d canonical.table languages fit;
   enough = omega (arith, few);
 }
 

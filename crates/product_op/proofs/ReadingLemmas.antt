@@ -4,13 +4,13 @@ use Rattle.std.specs.List.{All, list_all, range_with_len}
 use Rattle.std.proofs.lemmas.List.FromFn.{length-map-range_with_len, get_or-map-range_with_len}
 use Rattle.std.proofs.lemmas.List.Elements.{All-nil, All-cons, All-from_get_or}
 use Rattle.digit_tuple.specs.Letters.{product, IsWord}
-use Rattle.digit_tuple.specs.Deterministic.{Automaton, accepts_of}
+use Rattle.digit_tuple.specs.Deterministic.{Automaton, IsTable, letters_of, accepts_of}
 use Rattle.digit_tuple.specs.Parts.{picked, letter_part, part, parts_of_letters}
 use Rattle.digit_tuple.proofs.PartLemmas.{letter_part-below, get_or-parts, part-all, picked-all}
 use Rattle.minimise.specs.Canonical.{IsCanonical}
 use Rattle.minimise.specs.Residuals.{SameAfter}
 use Rattle.digit_tuple.proofs.RangeLemmas.{All-range}
-use Rattle.product_op.specs.Readings.{Reading, IsReading, AreReadings, AreAlike, no_reading, reading_at, word_read, flags_of, all_true}
+use Rattle.product_op.specs.Readings.{Reading, IsReading, AreReadings, AreCanonical, AreAlike, no_reading, reading_at, word_read, flags_of, all_true}
 use Rattle.product_op.specs.Validity.{AreLanguages, language_at, is_valid, TracksAlike}
 use Rattle.product_op.specs.TrackReadings.{read_on, whole_reading, track_reading, track_readings, AllFitTracks}
 
@@ -29,9 +29,9 @@ parts_within sizes places within i e inside =
 pub length-parts : (sizes places : List ℕ) → length (parts_of_letters sizes places) ≡ product sizes
 length-parts sizes places = length-map-range_with_len (letter_part sizes places) 0 (product sizes)
 
-pub IsReading-on : (sizes places : List ℕ) (d : Automaton) → All (λ p. p < length sizes) places → d.sizes ≡ picked places sizes → IsCanonical d → IsReading (product sizes) (read_on sizes d places)
-IsReading-on sizes places d within same canonical = record {
-  canonical = canonical;
+pub IsReading-on : (sizes places : List ℕ) (d : Automaton) → All (λ p. p < length sizes) places → d.sizes ≡ picked places sizes → IsTable (letters_of d) d.states → IsReading (product sizes) (read_on sizes d places)
+IsReading-on sizes places d within same table = record {
+  table = table;
   count = length-parts sizes places;
   within = subst (λ ss. All (λ p. p < product ss) (parts_of_letters sizes places)) (sym same) (parts_within sizes places within);
 }
@@ -51,10 +51,15 @@ AreReadings-range sizes languages fit = All-from_get_or (IsReading (product size
     let less : i < length languages = omega (arith, inside, length-map-range_with_len (track_reading sizes languages) 0 (length languages)) in
     let f = fit i less in
     subst (λ (r : Reading). IsReading (product sizes) r) (sym (get_or-map-range_with_len (track_reading sizes languages) 0 (length languages) i i no_reading less (omega arith)))
-    (IsReading-on sizes (i ∷ []) (language_at languages i) (All-cons (λ p. p < length sizes) i [] f.within (All-nil (λ p. p < length sizes))) f.size f.canonical))
+    (IsReading-on sizes (i ∷ []) (language_at languages i) (All-cons (λ p. p < length sizes) i [] f.within (All-nil (λ p. p < length sizes))) f.size f.canonical.table))
 
 pub AreReadings-tracks : (sizes : List ℕ) (languages : List Automaton) → AllFitTracks sizes languages → AreReadings (product sizes) (track_readings sizes languages)
 AreReadings-tracks sizes languages fit = AreReadings-range sizes languages fit
+
+pub AreCanonical-tracks : (sizes : List ℕ) (languages : List Automaton) → AllFitTracks sizes languages → AreCanonical (track_readings sizes languages)
+AreCanonical-tracks sizes languages fit = All-from_get_or (λ (r : Reading). IsCanonical r.automaton) (track_readings sizes languages) no_reading (λ i inside.
+    let less : i < length languages = omega (arith, inside, length-map-range_with_len (track_reading sizes languages) 0 (length languages)) in
+    subst (λ (r : Reading). IsCanonical r.automaton) (sym (get_or-map-range_with_len (track_reading sizes languages) 0 (length languages) i i no_reading less (omega arith))) (fit i less).canonical)
 
 all_true-range : (sizes : List ℕ) (languages : List Automaton) (w tracks : List ℕ) → IsWord (product sizes) w
     → all_true (flags_of (map (track_reading sizes languages) tracks) w) ≡ list_all (λ track. accepts_of (language_at languages track) (part sizes (track ∷ []) w)) tracks
@@ -103,7 +108,7 @@ alike_tail r rs w v alike i inside = alike (suc i) (omega (arith, inside))
 pub word_read-all : (d : Automaton) (w : List ℕ) → IsWord (product d.sizes) w → word_read (whole_reading d) w ≡ w
 word_read-all d w over = word_read-part d.sizes (range_with_len 0 (length d.sizes)) d w over ∙ part-all d.sizes w over
 
-pub IsReading-whole : (d : Automaton) → IsCanonical d → IsReading (product d.sizes) (whole_reading d)
-IsReading-whole d canonical = IsReading-on d.sizes (range_with_len 0 (length d.sizes)) d
+pub IsReading-whole : (d : Automaton) → IsTable (letters_of d) d.states → IsReading (product d.sizes) (whole_reading d)
+IsReading-whole d table = IsReading-on d.sizes (range_with_len 0 (length d.sizes)) d
     (All-range (length d.sizes))
-    (sym (picked-all d.sizes)) canonical
+    (sym (picked-all d.sizes)) table

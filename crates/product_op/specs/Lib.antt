@@ -10,3 +10,4 @@ pub mod PartIndex
 pub mod PartChains
 pub mod SinkKeys
 pub mod LeadingLetters
+pub mod Tuples

@@ -31,7 +31,7 @@ module _ (letters : ℕ) (readings : List Reading) (are : AreReadings letters re
     within = λ i inside.
         subst (λ q. q ≤ states_of (reading_at readings i).automaton)
         (sym (get_or-map-range_with_len (λ i. next_of (reading_at readings i).automaton (state_at key i) (part_read (reading_at readings i) a)) 0 (length readings) i i 0 inside (omega arith)))
-        (next_within (reading_at readings i).automaton (are i no_reading inside).canonical.table (state_at key i) (part_read (reading_at readings i) a));
+        (next_within (reading_at readings i).automaton (are i no_reading inside).table (state_at key i) (part_read (reading_at readings i) a));
   }
 
   pub live_key_is_key : (rule : Rule) (key : List ℕ) (a : ℕ) → MatchOption (live_key_after rule readings key a) ⊤ (AreStates readings)

@@ -2,7 +2,7 @@
 -- is the number past its states.
 use Rattle.std.specs.Prelude.{◌≡◌, ℕ, ◌<◌, ◌≤◌, Bool, false, not, ◌&&◌, List, [], length, map, drop, slice_index_or}
 use Rattle.std.specs.List.{All, list_all, range_with_len}
-use Rattle.digit_tuple.specs.Deterministic.{Automaton, states_of, letters_of, accepting_of, accepts_of}
+use Rattle.digit_tuple.specs.Deterministic.{Automaton, IsTable, states_of, letters_of, accepting_of, accepts_of}
 use Rattle.minimise.specs.Canonical.{IsCanonical}
 use Rattle.minimise.specs.Classes.{next_of, first_of}
 use Rattle.product_op.specs.Connectives.{connective}
@@ -37,14 +37,18 @@ part_read r a = slice_index_or r.parts a 0
 abbrev pub word_read : Reading → List ℕ → List ℕ
 word_read r w = map (part_read r) w
 
--- the automaton is canonical, and reads a letter for each letter
+-- the automaton reads a letter for each letter
 pub record IsReading (letters : ℕ) (r : Reading) : Type 0 where
-  pub canonical : IsCanonical r.automaton
+  pub table : IsTable (letters_of r.automaton) r.automaton.states
   pub count : length r.parts ≡ letters
   pub within : All (λ p. p < letters_of r.automaton) r.parts
 
 abbrev pub AreReadings : ℕ → List Reading → Type 0
 AreReadings letters readings = All (IsReading letters) readings
+
+-- each automaton is canonical
+abbrev pub AreCanonical : List Reading → Type 0
+AreCanonical readings = All (λ r. IsCanonical r.automaton) readings
 
 abbrev pub state_at : List ℕ → ℕ → ℕ
 state_at key i = slice_index_or key i 0

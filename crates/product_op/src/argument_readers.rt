@@ -64,8 +64,8 @@ pub fn add_track_readers<'a>(
     Ok(())
 }
 
-// The reader of an automaton on the tracks at these places, counted from 0.
-fn reader_on<'a>(
+/// The reader of an automaton on the tracks at these places, counted from 0.
+pub fn reader_on<'a>(
     alloc: Global,
     alphabet: &Alphabet,
     places: &[u32],

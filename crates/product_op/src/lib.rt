@@ -11,25 +11,28 @@ pub mod joint_tracks;
 mod rule;
 
 /// The parts of letters, and the letters of each part.
-mod part_index;
+pub mod part_index;
 
 /// Automata that read parts of letters.
-mod reader;
+pub mod reader;
 
 /// Readers of automata on some of the tracks.
-mod argument_readers;
+pub mod argument_readers;
 
 /// The numbers below a number.
 mod numbers_below;
 
 /// States of readers, one of each.
-mod reader_states;
+pub mod reader_states;
 
 /// The graph of the states that letters lead automata to that read side by side.
 mod reader_graph;
 
 /// The automaton whose states are tuples of residuals.
 mod side_by_side;
+
+/// The automaton whose states are the tuples of states that words lead automata to.
+pub mod tuples;
 
 /// Languages of tracks.
 pub mod languages;

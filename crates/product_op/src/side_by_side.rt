@@ -7,7 +7,7 @@ ghost use Rattle.digit_tuple.specs.Letters.{product, IsWord};
 ghost use Rattle.digit_tuple.specs.Names.{AreDistinct};
 ghost use Rattle.digit_tuple.specs.Width.{HasApart, HasWidth};
 ghost use Rattle.minimise.specs.Canonical.{IsCanonical};
-ghost use Rattle.product_op.specs.Readings.{readings_in, AreSideBySide, AreAlike, flags_of, combined};
+ghost use Rattle.product_op.specs.Readings.{readings_in, AreSideBySide, AreCanonical, AreAlike, flags_of, combined};
 
 use crate::reader::Reader;
 use crate::reader_graph::SideBySide;
@@ -37,6 +37,7 @@ pub fn tracked_side_by_side(
     limit: u32,
 ) -> Result<Stepped<Tracked>, OpFault>
     requires readers { AreSideBySide (product alphabet) (readings_in readers.now) rule }
+    requires canonical { AreCanonical (readings_in readers.now) }
     requires count { length names.items ≡ length alphabet }
     requires distinct { AreDistinct names.items }
     ensures names { IfOk result (λ stepped. stepped.result.names ≡ names.items) }
@@ -65,7 +66,8 @@ fn side_by_side(
     rule: Rule,
     limit: u32,
 ) -> Result<Stepped<Dfa>, OpFault>
-    requires { AreSideBySide (product alphabet) (readings_in readers.now) rule }
+    requires readers { AreSideBySide (product alphabet) (readings_in readers.now) rule }
+    requires canonical { AreCanonical (readings_in readers.now) }
     ensures sizes { IfOk result (λ stepped. stepped.result.sizes ≡ alphabet) }
     ensures canonical { IfOk result (λ stepped. IsCanonical stepped.result) }
     ensures language { IfOk result (λ stepped. (w : List ℕ) → IsWord (product alphabet) w

@@ -117,8 +117,8 @@ fn copied_names(alloc: Global, names: &[Name]) -> Result<Vec<Name>, OutOfMemory>
     Ok(copied)
 }
 
-// The readers of the automaton and of each track's language.
-fn validity_readers<'a>(
+/// The readers of the automaton and of each track's language.
+pub fn validity_readers<'a>(
     alloc: Global,
     alphabet: &Alphabet,
     dfa: &'a Dfa,

@@ -45,7 +45,7 @@ module _ (d : Automaton) where
   one_state q (b ∷ u) = refl
 
   -- from two sinks no letter leads away
-  both_sinks : (p q : ℕ) → are_sinks d p q ≡ true → (p ≡ states_of d) × (q ≡ states_of d)
+  pub both_sinks : (p q : ℕ) → are_sinks d p q ≡ true → (p ≡ states_of d) × (q ≡ states_of d)
   both_sinks p q is = by (p == states_of d) (q == states_of d) refl refl is
     where
       by : (b c : Bool) → (p == states_of d) ≡ b → (q == states_of d) ≡ c → (b && c) ≡ true → (p ≡ states_of d) × (q ≡ states_of d)
@@ -86,7 +86,7 @@ module _ (d : Automaton) where
       ∙ ap (λ r. some_pair d r (lead d (first_of d) w)) (one_state (first_of d) (trimmed w) ∙ ap (lead d (first_of d)) (sym (strip-trimmed w)))
 
   -- pairs tell their states
-  same_pairs : (p q r s : ℕ) → some_pair d p q ≡ some_pair d r s → (p ≡ r) × (q ≡ s)
+  pub same_pairs : (p q r s : ℕ) → some_pair d p q ≡ some_pair d r s → (p ≡ r) × (q ≡ s)
   same_pairs p q r s = by (are_sinks d p q) (are_sinks d r s) refl refl
     where
       by : (b c : Bool) → are_sinks d p q ≡ b → are_sinks d r s ≡ c → (if b then None else Some (p ∷ q ∷ [])) ≡ (if c then None else Some (r ∷ s ∷ [])) → (p ≡ r) × (q ≡ s)

@@ -26,6 +26,9 @@ mod zeros_stay;
 /// Closure under leading zeros.
 mod padding_msd;
 
+/// The graph of the states that words lead to without their trailing zeros and with them.
+pub mod padded_pairs;
+
 /// Closure under trailing zeros.
 mod padding_lsd;
 

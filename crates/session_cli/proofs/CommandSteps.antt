@@ -4,6 +4,7 @@ use Rattle.std.specs.Option.{option_map}
 use Rattle.wal_outside.specs.Causes.{Rose}
 use Rattle.wal_outside.specs.Files.{Files, put}
 use Rattle.wal_outside.specs.Places.{Place}
+use Rattle.wal_outside.specs.declared.folder.Folder.{Folder}
 use Rattle.wal_outside.specs.Views.{StoreView}
 use Rattle.session_cli.specs.declared.fault.Fault.{Fault}
 use Rattle.session_cli.specs.declared.fault.Fault.TheVariants as faults
@@ -42,6 +43,7 @@ kept_failed old (faults.Unknown of file) other = refl
 kept_failed old (faults.File of file flaw) other = refl
 kept_failed old (faults.Arity of tracks given) other = refl
 kept_failed old (faults.Clash of one two) other = refl
+kept_failed old (faults.WordGap of spelling) other = refl
 kept_failed old (faults.Plain of) other = refl
 
 -- and the store as it was
@@ -54,13 +56,13 @@ pub record IsAnswering (told : Option Files) (ledger : Ledger) (found : Files) :
   known_is : IsKnownLedger told ledger known
   stores : Stores known found
 
-entry_stores : (found : Option (List ℕ)) → HasTextAt (option_map (λ (bytes : List ℕ). Bytes bytes) found) found
-entry_stores None = tt
-entry_stores (Some text) = refl
+entry_stores : (folder : Folder) (found : Option (List ℕ)) → HasTextAt folder (option_map (λ (bytes : List ℕ). Bytes bytes) found) found
+entry_stores folder None = tt
+entry_stores folder (Some text) = (tt, refl)
 
 -- files store the ledger that has their texts
 pub files_store : (found : Files) → Stores (ledger_of found) found
-files_store found = λ folder name. entry_stores (found folder name)
+files_store found = λ folder name. entry_stores folder (found folder name)
 
 pub answering : (told : Option Files) (ledger : Ledger) (found : Files) → StoresTold ledger told → IfSome told (λ files. found ≡ files) → IsAnswering told ledger found
 answering None ledger found stores is = record { known = ledger_of found; known_is = tt; stores = files_store found }
@@ -97,6 +99,7 @@ refused_command limit ledger old new text shown fault found by refused read = re
     answer_of (faults.File of file flaw) refused = refused
     answer_of (faults.Arity of tracks given) refused = refused
     answer_of (faults.Clash of one two) refused = refused
+    answer_of (faults.WordGap of spelling) refused = refused
     answer_of (faults.Plain of) refused = refused
 
     cause_of : (f : Fault) → IsReadFault f old new → IsTrue (is_store_fault f) → Rose old.faults new.faults
@@ -118,6 +121,7 @@ refused_command limit ledger old new text shown fault found by refused read = re
     cause_of (faults.File of file flaw) read is = cc
     cause_of (faults.Arity of tracks given) read is = cc
     cause_of (faults.Clash of one two) read is = cc
+    cause_of (faults.WordGap of spelling) read is = cc
     cause_of (faults.Plain of) read is = cc
 
     failed_of : (f : Fault) → IsReadFault f old new → new.failed ≡ failed_after old.failed (Err f)
@@ -139,6 +143,7 @@ refused_command limit ledger old new text shown fault found by refused read = re
     failed_of (faults.File of file flaw) read = read
     failed_of (faults.Arity of tracks given) read = read
     failed_of (faults.Clash of one two) read = read
+    failed_of (faults.WordGap of spelling) read = read
     failed_of (faults.Plain of) read = read
 
 same_put : (old : Option Files) (place other : Place) (stored : List ℕ) → place.0 ≡ other.0 → place.1 ≡ other.1 → option_map (λ files. put files place.0 place.1 stored) old ≡ option_map (λ files. put files other.0 other.1 stored) old
@@ -210,4 +215,5 @@ planned_command limit ledger old mid new text shown plan result found by plans r
     by_result (Err (faults.File of file flaw)) w = absurd w.cause
     by_result (Err (faults.Arity of tracks given)) w = absurd w.cause
     by_result (Err (faults.Clash of one two)) w = absurd w.cause
+    by_result (Err (faults.WordGap of spelling)) w = absurd w.cause
     by_result (Err (faults.Plain of)) w = absurd w.cause

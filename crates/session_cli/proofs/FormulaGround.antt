@@ -15,7 +15,7 @@ use Rattle.formula_resolve.specs.Resolving.{fault_of}
 use Rattle.formula_resolve.proofs.FirstLemmas.{first_once}
 use Rattle.formula_build.proofs.ReadFormulas.{read_known}
 use Rattle.formula_build.specs.KnownNames.{AreKnownIn}
-use Rattle.formula_build.specs.Libraries.{NamedRelation, NamedSystem, AreSealed, meanings_of}
+use Rattle.formula_build.specs.Libraries.{NamedSystem, AreSealed, meanings_of}
 use Rattle.formula_build.specs.Resolved.{AreWays, plan_headers}
 use Rattle.formula_build.specs.Solutions.{way_named}
 use Rattle.formula_build.specs.TrackSystems.{Fits}
@@ -25,16 +25,19 @@ use Rattle.definitions.specs.TreeMeanings.{meanings_in}
 use Rattle.definitions.proofs.TextMeanings.{text_means}
 use Rattle.definitions.proofs.FileTables.{file_is_table}
 use Rattle.definitions.proofs.TableRelations.{table_holds}
+use Rattle.definitions.proofs.WordTexts.{word_text_means}
 use Rattle.session_cli.specs.FormulaOutcomes.{bindings_now}
 use Rattle.session_cli.specs.FormulaPlans.{HasSystems}
-use Rattle.session_cli.specs.FormulaSteps.{AreMeant, AreTablesRead}
+use Rattle.session_cli.specs.FormulaSteps.{AreMeant}
+use Rattle.session_cli.specs.TableReads.{TableRead, AreTablesRead, library_with}
 use Rattle.session_cli.specs.TableReading.{AreReadable}
 use Rattle.session_cli.specs.Texts.{no_custom, Stores}
 use Rattle.session_cli.proofs.ReadableTables.{tables_readable}
-use Rattle.session_cli.proofs.TableFits.{library_with, tables_fit, files_known}
+use Rattle.session_cli.proofs.TableFiles.{files_apart}
+use Rattle.session_cli.proofs.TableFits.{tables_fit, files_known}
 use Rattle.session_cli.proofs.TableHeaders.{table_ways}
 use Rattle.session_cli.proofs.TableMeanings.{tables_mean_the_same}
-use Rattle.session_cli.proofs.TableNames.{named_apart}
+use Rattle.session_cli.proofs.WordLaws.{words_have_file_letters}
 
 module _ (formula : trees.Formula) (tables : List Loaded) (files : Files) (listed : AreListedBy files (first_files (mentions formula)) tables) where
   -- no two directions meet in a header
@@ -46,17 +49,17 @@ module _ (formula : trees.Formula) (tables : List Loaded) (files : Files) (liste
     pub ground_readable : AreReadable systems tables
     ground_readable = tables_readable file_is_table systems files tables formula (first_once (mentions formula)) listed resolves has meant
 
-    module _ (read : List NamedRelation) (old new : StepLog) (made : AreTablesRead systems old tables read new) where
-      -- their relations stand over the systems of their headers
-      pub ground_fits : Fits (library_with read systems) (plan_headers (headers_of tables)) way_named
-      ground_fits = tables_fit table_holds systems sealed no_custom tables read old new (meant no_custom) (named_apart files (first_files (mentions formula)) tables (first_once (mentions formula)) listed) ground_readable made
+    module _ (reads : List TableRead) (old new : StepLog) (made : AreTablesRead systems old tables reads new) where
+      -- what they make stands over the systems of their headers
+      pub ground_fits : Fits (library_with reads systems) (plan_headers (headers_of tables)) way_named
+      ground_fits = tables_fit table_holds systems sealed no_custom tables reads old new (meant no_custom) (files_apart files (first_files (mentions formula)) tables (first_once (mentions formula)) listed) ground_readable made
 
       -- each name of the formula stands for something
-      pub ground_known : ((text : List ℕ) × Reads (tokens (spots text)) formula) → AreKnownIn (library_with read systems) formula
-      ground_known (text, reads) =
-          read_known (library_with read systems) (headers_of tables) text formula reads (files_known systems files (first_files (mentions formula)) tables read old new listed made) has.default has.mentioned
+      pub ground_known : ((text : List ℕ) × Reads (tokens (spots text)) formula) → AreKnownIn (library_with reads systems) formula
+      ground_known (text, spelled) =
+          read_known (library_with reads systems) (headers_of tables) text formula spelled (files_known systems files (first_files (mentions formula)) tables reads old new listed made) has.default has.mentioned
 
       -- and for what it is bound to now
-      pub ground_means : (ledger : Ledger) → Stores ledger files → MeanTheSame (meanings_of (library_with read systems)) (meanings_in no_custom (bindings_now ledger formula))
+      pub ground_means : (ledger : Ledger) → Stores ledger files → MeanTheSame (meanings_of (library_with reads systems)) (meanings_in no_custom (bindings_now ledger formula))
       ground_means ledger stores =
-          tables_mean_the_same text_means table_holds ledger files systems stores sealed (meant no_custom) (first_files (mentions formula)) tables read old new (first_once (mentions formula)) listed ground_readable made
+          tables_mean_the_same (record { texts = text_means; words = word_text_means; tables = table_holds; letters = words_have_file_letters }) ledger files systems stores sealed (meant no_custom) (first_files (mentions formula)) tables reads old new (first_once (mentions formula)) listed ground_readable made

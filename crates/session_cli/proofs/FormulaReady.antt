@@ -13,7 +13,7 @@ use Rattle.formula_resolve.specs.Occurrences.{all_occurrences}
 use Rattle.formula_resolve.specs.Headers.{Headers}
 use Rattle.formula_resolve.specs.Resolving.{fault_of}
 use Rattle.formula_build.specs.KnownNames.{AreKnownIn}
-use Rattle.formula_build.specs.Libraries.{NamedRelation, NamedSystem, LibraryValue, AreSealed}
+use Rattle.formula_build.specs.Libraries.{NamedSystem, ReadValue, LibraryValue, AreSealed}
 use Rattle.formula_build.specs.Resolved.{plan_headers}
 use Rattle.formula_build.specs.ResolvedViews.{IsPlanned, formula_of, headers_in}
 use Rattle.formula_build.specs.ResolvedViews.{library_of as resolved_library}
@@ -25,77 +25,85 @@ use Rattle.formula_build.specs.declared.resolving.Resolved.{Resolved}
 use Rattle.number_relations.specs.Relations.{RelationValue}
 use Rattle.definitions.specs.Named.{Custom}
 use Rattle.session_cli.specs.FormulaOutcomes.{ResolvedAnswers}
-use Rattle.session_cli.proofs.TableFits.{library_with}
-use Rattle.session_cli.specs.FormulaSteps.{AreMeant, no_steps, AreTablesRead, IsReadingRefused, IsReadingStopped, AreFormulaSteps}
+use Rattle.session_cli.specs.declared.read_fault.ReadFault.{ReadFault}
+use Rattle.session_cli.specs.declared.read_fault.ReadFault.TheVariants.{Step, Gap}
+use Rattle.session_cli.specs.FormulaSteps.{AreMeant, no_steps, IsReadingStopped, IsLetterMissing, AreFormulaSteps}
+use Rattle.session_cli.specs.TableReads.{TableRead, AreTablesRead, read_of, library_with}
+use Rattle.session_cli.specs.TableReading.{IsReadingFault}
 
 -- a formula that was resolved has no fault
 pub resolves_here : (tables : List Loaded) (formula : trees.Formula) (headers : Headers) → headers ≡ headers_of tables → fault_of headers formula ≡ None → ResolvedAnswers tables formula (Ok tt)
 resolves_here tables formula headers is told = subst (λ (h : Headers). fault_of h formula ≡ None) is told
 
 -- what is known of a formula that was resolved with the names of a session
-pub record IsSetUp (r : Resolved) (read : List NamedRelation) (formula : trees.Formula) (tables : List Loaded) (systems : List NamedSystem) : Type 0 where
-  pub library : resolved_library r read ≡ library_with read systems
+pub record IsSetUp (r : Resolved) (read : ReadValue) (reads : List TableRead) (formula : trees.Formula) (tables : List Loaded) (systems : List NamedSystem) : Type 0 where
+  pub library : resolved_library r read ≡ library_with reads systems
   pub headers : headers_in r ≡ headers_of tables
   pub formula_is : formula_of r ≡ formula
 
-pub set_up : (r : Resolved) (read : List NamedRelation) (formula : declared.Formula) (tables : List Loaded) (names : Names) (systems : List NamedSystem) → r.formula.now ≡ formula → r.names.now ≡ names → names.headers ≡ headers_of tables → names.systems ≡ systems
-    → IsSetUp r read (formula_view formula) tables systems
-set_up r read formula tables names systems formula_eq names_are headers systems_are = record {
-  library = λ i. record { relations = read; systems = ((ap (λ (n : Names). n.systems) names_are) ∙ systems_are) i };
+pub set_up : (r : Resolved) (read : ReadValue) (reads : List TableRead) (formula : declared.Formula) (tables : List Loaded) (names : Names) (systems : List NamedSystem) → r.formula.now ≡ formula → r.names.now ≡ names → names.headers ≡ headers_of tables → names.systems ≡ systems
+    → read ≡ read_of reads → IsSetUp r read reads (formula_view formula) tables systems
+set_up r read reads formula tables names systems formula_eq names_are headers systems_are read_is = record {
+  library = λ i. record { relations = (read_is i).relations; words = (read_is i).words; systems = ((ap (λ (n : Names). n.systems) names_are) ∙ systems_are) i };
   headers = ap (λ (n : Names). n.headers) names_are ∙ headers;
   formula_is = ap formula_view formula_eq;
 }
 
-module _ (r : Resolved) (read : List NamedRelation) (formula : trees.Formula) (tables : List Loaded) (systems : List NamedSystem) (up : IsSetUp r read formula tables systems) where
-  pub fits_here : Fits (library_with read systems) (plan_headers (headers_of tables)) way_named → Fits (resolved_library r read) (plan_headers (headers_in r)) way_named
+module _ (r : Resolved) (read : ReadValue) (reads : List TableRead) (formula : trees.Formula) (tables : List Loaded) (systems : List NamedSystem) (up : IsSetUp r read reads formula tables systems) where
+  pub fits_here : Fits (library_with reads systems) (plan_headers (headers_of tables)) way_named → Fits (resolved_library r read) (plan_headers (headers_in r)) way_named
   fits_here fits =
       subst (λ (h : Headers). Fits (resolved_library r read) (plan_headers h) way_named) (sym up.headers)
       (subst (λ (l : LibraryValue). Fits l (plan_headers (headers_of tables)) way_named) (sym up.library) fits)
 
-  pub known_here : AreKnownIn (library_with read systems) formula → AreKnownIn (resolved_library r read) (formula_of r)
+  pub known_here : AreKnownIn (library_with reads systems) formula → AreKnownIn (resolved_library r read) (formula_of r)
   known_here known =
       subst (λ (f : trees.Formula). AreKnownIn (resolved_library r read) f) (sym up.formula_is)
       (subst (λ (l : LibraryValue). AreKnownIn l formula) (sym up.library) known)
 
-  pub solution_here : (c : RelationValue) → IsSolution (resolved_library r read) (formula_of r) c → IsSolution (library_with read systems) formula c
-  solution_here c is = subst (λ (f : trees.Formula). IsSolution (library_with read systems) f c) up.formula_is (subst (λ (l : LibraryValue). IsSolution l (formula_of r) c) up.library is)
+  pub solution_here : (c : RelationValue) → IsSolution (resolved_library r read) (formula_of r) c → IsSolution (library_with reads systems) formula c
+  solution_here c is = subst (λ (f : trees.Formula). IsSolution (library_with reads systems) f c) up.formula_is (subst (λ (l : LibraryValue). IsSolution l (formula_of r) c) up.library is)
 
-  pub tracks_here : (c : RelationValue) → IsOverVariables (resolved_library r read) r.variables.items c → IsOverVariables (library_with read systems) r.variables.items c
+  pub tracks_here : (c : RelationValue) → IsOverVariables (resolved_library r read) r.variables.items c → IsOverVariables (library_with reads systems) r.variables.items c
   tracks_here c over = subst (λ (l : LibraryValue). IsOverVariables l r.variables.items c) up.library over
 
   pub variables_here : IsPlanned r → r.variables.items ≡ free_variables (all_occurrences (headers_of tables) formula)
   variables_here planned = planned.variables ∙ (λ i. free_variables (all_occurrences (up.headers i) (up.formula_is i)))
 
   -- the steps were done, or stopped, after the tables were read
-  pub steps_here : (limit : ℕ) (custom : Custom) (reading new : StepLog) (result : Result RelationValue StepFault) → AreSealed systems → AreMeant custom systems → AreTablesRead systems (no_steps limit) tables read reading
+  pub steps_here : (limit : ℕ) (custom : Custom) (reading new : StepLog) (result : Result RelationValue StepFault) → AreSealed systems → AreMeant custom systems → AreTablesRead systems (no_steps limit) tables reads reading
       → BuildsFormula reading (resolved_library r read) (formula_plan (headers_in r) (formula_of r)) result new → AreFormulaSteps limit custom tables formula result new.lines
   steps_here limit custom reading new result are_sealed meant tables_read builds =
       let two = subst (λ (l : LibraryValue). BuildsFormula reading l (formula_plan (headers_in r) (formula_of r)) result new) up.library builds in
-      let three = subst (λ (h : Headers). BuildsFormula reading (library_with read systems) (formula_plan h (formula_of r)) result new) up.headers two in
+      let three = subst (λ (h : Headers). BuildsFormula reading (library_with reads systems) (formula_plan h (formula_of r)) result new) up.headers two in
       record {
         systems = systems;
         sealed = are_sealed;
         meant = meant;
-        relations = read;
+        reads = reads;
         reading = reading;
         read = tables_read;
         log = new;
-        builds = subst (λ (f : trees.Formula). BuildsFormula reading (library_with read systems) (formula_plan (headers_of tables) f) result new) up.formula_is three;
+        builds = subst (λ (f : trees.Formula). BuildsFormula reading (library_with reads systems) (formula_plan (headers_of tables) f) result new) up.formula_is three;
         lines_are = refl;
       }
 
 -- tables that were read from the first step on
-pub reading_here : (systems named : List NamedSystem) (limit : ℕ) (old new : StepLog) (tables : List Loaded) (read : List NamedRelation) → named ≡ systems → old ≡ no_steps limit → AreTablesRead named old tables read new → AreTablesRead systems (no_steps limit) tables read new
-reading_here systems named limit old new tables read same first made =
-    subst (λ (o : StepLog). AreTablesRead systems o tables read new) first (subst (λ (ss : List NamedSystem). AreTablesRead ss old tables read new) same made)
+pub reading_here : (systems named : List NamedSystem) (limit : ℕ) (old new : StepLog) (tables : List Loaded) (reads : List TableRead) → named ≡ systems → old ≡ no_steps limit → AreTablesRead named old tables reads new → AreTablesRead systems (no_steps limit) tables reads new
+reading_here systems named limit old new tables reads same first made =
+    subst (λ (o : StepLog). AreTablesRead systems o tables reads new) first (subst (λ (ss : List NamedSystem). AreTablesRead ss old tables reads new) same made)
 
--- or that were not
-pub stopped_here : (systems named : List NamedSystem) (limit : ℕ) (custom : Custom) (old : StepLog) (tables : List Loaded) (fault : StepFault) → AreSealed systems → AreMeant custom systems → named ≡ systems → old ≡ no_steps limit
-    → (fault ≡ step_faults.Memory) ⊎ IsReadingRefused named old tables fault → (fault ≡ step_faults.Memory) ⊎ IsReadingStopped limit custom tables fault
-stopped_here systems named limit custom old tables fault sealed meant same first (inl memory) = inl memory
-stopped_here systems named limit custom old tables fault sealed meant same first (inr refused) = inr (record {
-  systems = systems;
-  sealed = sealed;
-  meant = meant;
-  refused = subst (λ (o : StepLog). IsReadingRefused systems o tables fault) first (subst (λ (ss : List NamedSystem). IsReadingRefused ss old tables fault) same refused);
-})
+-- why tables are not read: memory ran out, or a step passes a limit, or a letter is missing
+abbrev pub IsUnread : ℕ → Custom → List Loaded → ReadFault → Type 0
+IsUnread limit custom tables (Step fault) = (fault ≡ step_faults.Memory) ⊎ IsReadingStopped limit custom tables fault
+IsUnread limit custom tables (Gap name spelling) = IsLetterMissing limit custom tables name spelling
+
+-- tables that were not read from the first step on
+unread_by : (systems : List NamedSystem) (limit : ℕ) (custom : Custom) (tables : List Loaded) (fault : ReadFault) → AreSealed systems → AreMeant custom systems → IsReadingFault systems (no_steps limit) tables fault → IsUnread limit custom tables fault
+unread_by systems limit custom tables (Step fault) sealed meant (inl memory) = inl memory
+unread_by systems limit custom tables (Step fault) sealed meant (inr refused) = inr (record { systems = systems; sealed = sealed; meant = meant; refused = refused })
+unread_by systems limit custom tables (Gap name spelling) sealed meant gap = record { systems = systems; sealed = sealed; meant = meant; gap = gap }
+
+pub stopped_here : (systems named : List NamedSystem) (limit : ℕ) (custom : Custom) (old : StepLog) (tables : List Loaded) (fault : ReadFault) → AreSealed systems → AreMeant custom systems → named ≡ systems → old ≡ no_steps limit
+    → IsReadingFault named old tables fault → IsUnread limit custom tables fault
+stopped_here systems named limit custom old tables fault sealed meant same first stops =
+    unread_by systems limit custom tables fault sealed meant (subst (λ (o : StepLog). IsReadingFault systems o tables fault) first (subst (λ (ss : List NamedSystem). IsReadingFault ss old tables fault) same stops))

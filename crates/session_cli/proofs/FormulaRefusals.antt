@@ -1,5 +1,5 @@
 -- What the checks of a formula refuse, from what the code of each part answers.
-use Rattle.std.proofs.Common.{◌≡◌, ◌⊎◌, ℕ, List, Err, inl, inr, sym, subst}
+use Rattle.std.proofs.Common.{◌≡◌, ℕ, List, Err, inl, inr, sym, subst}
 use Rattle.digit_tuple.specs.declared.step_fault.StepFault.{StepFault}
 use Rattle.digit_tuple.specs.declared.step_fault.StepFault.TheVariants as step_faults
 use Rattle.formula_parse.specs.Parsing.{Parses}
@@ -21,10 +21,13 @@ use Rattle.wal_outside.specs.Files.{Files}
 use Rattle.dfa_loading.specs.Headers.{headers_of}
 use Rattle.dfa_loading.specs.declared.loaded.Loaded.{Loaded}
 use Rattle.session_cli.specs.Texts.{Stores}
-use Rattle.session_cli.specs.FormulaFaults.{fault_of_formula, fault_of_resolution}
+use Rattle.session_cli.specs.FormulaFaults.{fault_of_formula, fault_of_resolution, fault_of_reading}
 use Rattle.session_cli.specs.FormulaOutcomes.{FormulaAnswers, loaded, SystemsAnswers, ResolvedAnswers, BuiltAnswers}
 use Rattle.session_cli.specs.FormulaPlans.{AreUnloaded}
-use Rattle.session_cli.specs.FormulaSteps.{IsReadingStopped, AreStepsRefused}
+use Rattle.session_cli.specs.FormulaSteps.{AreStepsRefused}
+use Rattle.session_cli.specs.declared.read_fault.ReadFault.{ReadFault}
+use Rattle.session_cli.specs.declared.read_fault.ReadFault.TheVariants.{Step, Gap}
+use Rattle.session_cli.proofs.FormulaReady.{IsUnread}
 use Rattle.session_cli.specs.TrackSystems.{IsUnknown}
 use Rattle.session_cli.specs.TrackSystems as track_systems
 use Rattle.definitions.proofs.NameLemmas.{known_of, of_known, first_so}
@@ -58,6 +61,7 @@ unloaded ledger files formula (faults.Clash of one two) stores first = absurd fi
 unloaded ledger files formula (faults.Direction one other) stores first = absurd first
 unloaded ledger files formula (faults.Letters step) stores first = absurd first
 unloaded ledger files formula (faults.States step) stores first = absurd first
+unloaded ledger files formula (faults.WordGap of spelling) stores first = absurd first
 unloaded ledger files formula (faults.Plain of) stores first = absurd first
 unloaded ledger files formula faults.ScriptLimit stores first = absurd first
 
@@ -79,6 +83,7 @@ unknown_system custom tables formula (faults.Clash of one two) first = absurd fi
 unknown_system custom tables formula (faults.Direction one other) first = absurd first
 unknown_system custom tables formula (faults.Letters step) first = absurd first
 unknown_system custom tables formula (faults.States step) first = absurd first
+unknown_system custom tables formula (faults.WordGap of spelling) first = absurd first
 unknown_system custom tables formula (faults.Plain of) first = absurd first
 unknown_system custom tables formula (faults.Store folder name) first = absurd first
 unknown_system custom tables formula faults.ScriptLimit first = absurd first
@@ -97,7 +102,8 @@ unbuilt limit custom tables formula (step_faults.Letters step) refused = refused
 unbuilt limit custom tables formula (step_faults.States step) refused = refused
 unbuilt limit custom tables formula step_faults.Memory refused = tt
 
--- one that reads a table does, or memory runs out there
-pub unread : (limit : ℕ) (custom : Custom) (tables : List Loaded) (formula : trees.Formula) (fault : StepFault) → (fault ≡ step_faults.Memory) ⊎ IsReadingStopped limit custom tables fault → Fails (Pure (BuiltAnswers limit custom tables formula)) (track_systems.fault_of fault)
-unread limit custom tables formula fault (inl memory) = subst (λ (f : StepFault). Fails (Pure (BuiltAnswers limit custom tables formula)) (track_systems.fault_of f)) (sym memory) tt
-unread limit custom tables formula fault (inr stopped) = unbuilt limit custom tables formula fault (inl stopped)
+-- one that reads a table does, or memory runs out there, or a letter is missing
+pub unread : (limit : ℕ) (custom : Custom) (tables : List Loaded) (formula : trees.Formula) (fault : ReadFault) → IsUnread limit custom tables fault → Fails (Pure (BuiltAnswers limit custom tables formula)) (fault_of_reading fault)
+unread limit custom tables formula (Step fault) (inl memory) = subst (λ (f : StepFault). Fails (Pure (BuiltAnswers limit custom tables formula)) (track_systems.fault_of f)) (sym memory) tt
+unread limit custom tables formula (Step fault) (inr stopped) = unbuilt limit custom tables formula fault (inl stopped)
+unread limit custom tables formula (Gap name spelling) missing = missing

@@ -17,9 +17,10 @@ use Rattle.numeration.specs.Relations.{HoldsOf}
 use Rattle.numeration.specs.Systems.{System}
 use Rattle.num_system.specs.Sealed as sealed
 use Rattle.num_system.specs.Sealed.{SystemValue}
-use Rattle.number_relations.specs.Relations as relations
-use Rattle.number_relations.specs.Relations.{RelationValue, RelationHolds, IsRelation, HaveOneWay}
-use Rattle.number_relations.proofs.HoldLemmas.{holds_same}
+use Rattle.num_system.specs.Tracks as relations
+use Rattle.num_system.specs.Tracks.{HaveOneWay}
+use Rattle.number_relations.specs.Relations.{RelationValue, RelationHolds, IsRelation}
+use Rattle.num_system.proofs.HoldLemmas.{holds_same}
 use Rattle.formula_parse.specs.Trees as trees
 use Rattle.formula_resolve.specs.declared.variable.Variable as resolved
 use Rattle.formula_truth.specs.Truth.{Holds}
@@ -39,7 +40,7 @@ use Rattle.session_cli.specs.FormulaOutcomes.{AreVariables}
 use Rattle.session_cli.specs.FormulaPlans.{tracks_over, automaton_text}
 use Rattle.session_cli.specs.VariablesOver.{variable_over, variables_over}
 use Rattle.session_cli.proofs.MeantNames.{found_meant}
-use Rattle.session_cli.proofs.AssignedLemmas.{names_of_variables, assigned_numbers}
+use Rattle.definitions.proofs.AssignedLemmas.{names_of_variables, assigned_numbers}
 
 -- the variables stand over the systems that their names mean
 pub are_variables : (custom : Custom) (l : LibraryValue) (found : List resolved.Variable) (ss : List SystemValue) → AreMeant custom l.systems → AreSystemsOf l found ss → AreVariables custom found (variables_over found ss)

@@ -1,4 +1,5 @@
--- The header of what a file lists: a line of the file is read so, and its systems have one direction.
+-- The header of what a file lists: a line of the file is read so, and its systems have one direction. A word's file is read as a relation's
+-- would be.
 use Rattle.std.proofs.Common.{◌≡◌, ℕ, zero, suc, ◌+◌, ◌<◌, Bool, true, false, ◌&&◌, ◌||◌, cond, eqb, List, [], ◌∷◌, length, take, drop, get_or, Option, None, Some, Result, Ok, Err, bytes_eq, refl, sym, ap, ◌∙◌, subst, arith}
 use Rattle.std.specs.Prelude.{ok_or, option_map, codes, nat_le}
 use Rattle.std.specs.List.{AllByRecursion, list_all}
@@ -9,11 +10,16 @@ use Rattle.dfa_reading.specs.Headers.{Header, Truth, Systems, Sets, digits_in, h
 use Rattle.dfa_reading.specs.Systems.{is_system, is_direction, is_alphanumeric, system_of, directs_as, of_one_direction, systems_of}
 use Rattle.dfa_reading.specs.Listed.{Listed}
 use Rattle.dfa_reading.specs.Entries.{Entry, State, Line, entry_of}
-use Rattle.dfa_reading.specs.Reading.{Draft, no_draft, with_header, with_state, with_line, has_number, add_entry, add_to, add_line, add_lines, then_read, placed_lines, lists, finish_with, finish, relation_of}
+use Rattle.dfa_reading.specs.Reading.{Draft, no_draft, with_header, with_state, with_line, has_number, add_entry, add_to, add_line, add_lines_by, add_lines, then_read, placed_lines, lists, finish_with, finish, relation_of}
+use Rattle.dfa_reading.specs.WordFiles.{is_word, kept_word, add_word_line, word_of}
+use Rattle.dfa_reading.proofs.Drafts.{then_ok, ok_some}
 use Rattle.dfa_reading.proofs.Options.{bind_some, map_some, cond_some, cond_some-then, each_holds}
 use Rattle.digit_tuple.specs.declared.direction.Direction.TheVariants.{Msd, Lsd}
 use Rattle.formula_parse.specs.Tokens.{Name}
 use Rattle.formula_resolve.specs.Directions.{is_lsd}
+use Rattle.formula_resolve.specs.declared.file.File.{File}
+use Rattle.formula_resolve.specs.declared.file.File.TheVariants.{Automaton, Word}
+use Rattle.dfa_loading.specs.Places.{lists_of}
 use Rattle.formula_build.specs.Resolved.{HaveOneWay}
 use Rattle.formula_build.specs.Solutions.{way_named}
 
@@ -24,14 +30,6 @@ IsHeaderOfLine header = (line : List ℕ) × (header_of line ≡ Some header)
 -- the header of a draft, where it has one, is that of a line
 abbrev IsHeaded : Draft → Type 0
 IsHeaded draft = (header : Header) → draft.header ≡ Some header → IsHeaderOfLine header
-
-then_ok : {A B : Type 0} (r : Result A ℕ) (f : A → Result B ℕ) (y : B) → then_read r f ≡ Ok y → (x : A) × (r ≡ Ok x) × (f x ≡ Ok y)
-then_ok (Ok x) f y h = (x, refl, h)
-then_ok (Err at) f y h = absurd (cc)
-
-ok_some : {A : Type 0} (o : Option A) (at : ℕ) (x : A) → ok_or o at ≡ Ok x → o ≡ Some x
-ok_some None at x h = absurd (cc)
-ok_some (Some y) at x h = let same : y ≡ x = cc in ap Some same
 
 entry_headed : (at : ℕ) (draft next : Draft) (entry : Entry) → add_entry at draft entry ≡ Some next → IsHeaded draft → IsHeaded next
 entry_headed at draft next (State n output) h is =
@@ -209,3 +207,29 @@ pub listed_some : (text : List ℕ) (listed : Listed) (names : List (List ℕ)) 
 listed_some text listed names lists is =
     let line = header_of_line text listed lists in
     systems_some line.0 names (line_of_systems line.0 names (line.1 ∙ ap Some is))
+
+-- a line that is added to what was read of a word's file is added to what was read of a relation's
+word_line_is : (at : ℕ) (draft next : Draft) (line : List ℕ) → add_word_line at draft line ≡ Some next → add_line at draft line ≡ Some next
+unfolding add_word_line
+word_line_is at draft next line h =
+    let both = bind_some (add_line at draft line) kept_word next h in
+    let kept = cond_some-then (is_word both.0) (Some both.0) next both.2 in
+    both.1 ∙ kept.1
+
+word_lines_are : (at : ℕ) (draft last : Draft) (lines : List (List ℕ)) → add_lines_by add_word_line at draft lines ≡ Ok last → add_lines at draft lines ≡ Ok last
+word_lines_are at draft last [] h = h
+word_lines_are at draft last (line ∷ lines) h =
+    let first = then_ok (ok_or (add_word_line at draft line) at) (λ next. add_lines_by add_word_line (at + 1) next lines) last h in
+    let here : add_line at draft line ≡ Some first.0 = word_line_is at draft first.0 line (ok_some (add_word_line at draft line) at first.0 first.1) in
+    ap (λ (o : Option Draft). then_read (ok_or o at) (λ next. add_lines (at + 1) next lines)) here ∙ word_lines_are (at + 1) first.0 last lines first.2
+
+-- what a word's file lists is what it would list as a relation's
+word_is_relation : (text : List ℕ) (listed : Listed) → word_of text ≡ Ok listed → relation_of text ≡ Ok listed
+unfolding word_of relation_of
+word_is_relation text listed h =
+    let read = then_ok (add_lines_by add_word_line 1 no_draft (lines_of text)) (finish (line_after (lines_of text))) listed h in
+    ap (λ (r : Result Draft ℕ). then_read r (finish (line_after (lines_of text)))) (word_lines_are 1 no_draft read.0 (lines_of text) read.1) ∙ read.2
+
+pub file_is_relation : (file : File) (text : List ℕ) (listed : Listed) → lists_of file text ≡ Ok listed → relation_of text ≡ Ok listed
+file_is_relation (Automaton name) text listed lists = lists
+file_is_relation (Word name) text listed lists = word_is_relation text listed lists

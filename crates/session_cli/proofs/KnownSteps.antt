@@ -148,6 +148,7 @@ unknown_named custom names (faults.Unknown of file) refused = absurd refused
 unknown_named custom names (faults.File of file flaw) refused = absurd refused
 unknown_named custom names (faults.Arity of tracks given) refused = absurd refused
 unknown_named custom names (faults.Clash of one two) refused = absurd refused
+unknown_named custom names (faults.WordGap of spelling) refused = absurd refused
 unknown_named custom names (faults.Plain of) refused = absurd refused
 
 -- there is a system for each track, so one at least

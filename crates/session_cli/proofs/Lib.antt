@@ -1,11 +1,13 @@
 -- Lemmas, in reading order.
 pub mod StepLines
+pub mod SpellingSends
 pub mod CheckSteps
 pub mod WordSteps
 pub mod CommandSteps
 pub mod StoreReads
 pub mod ReadingChecks
 pub mod LoadedFiles
+pub mod StoredEntries
 pub mod RunSteps
 pub mod Standing
 pub mod Coming
@@ -15,11 +17,14 @@ pub mod TrackWidths
 pub mod NameLemmas
 pub mod HeaderLines
 pub mod MeantNames
-pub mod TableNames
+pub mod TableFiles
 pub mod TableHeaders
 pub mod MentionedTables
 pub mod ReadableTables
 pub mod TableRelations
+pub mod TableWords
+pub mod WordLaws
+pub mod BoundFiles
 pub mod TableMeanings
 pub mod TableFits
 pub mod TableReads
@@ -28,7 +33,6 @@ pub mod RegexPlans
 pub mod RegSteps
 pub mod SealedLemmas
 pub mod TrackLists
-pub mod AssignedLemmas
 pub mod FormulaSolutions
 pub mod FormulaReady
 pub mod FormulaGround

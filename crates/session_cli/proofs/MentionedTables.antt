@@ -4,7 +4,7 @@ use Rattle.std.specs.List.{AllByRecursion, fold, flat_map}
 use Rattle.std.specs.Option.{option_or, option_map}
 use Rattle.std.proofs.lemmas.Slice.Eq.{bytes_eq-Decides}
 use Rattle.wal_outside.specs.Files.{Files}
-use Rattle.dfa_reading.specs.Headers.{Header, Sets}
+use Rattle.dfa_reading.specs.Headers.{Header, Systems, Sets}
 use Rattle.dfa_loading.specs.Headers.{headers_of}
 use Rattle.dfa_loading.specs.Loading.{AreListedBy}
 use Rattle.dfa_loading.specs.declared.loaded.Loaded.{Loaded}
@@ -14,7 +14,7 @@ use Rattle.formula_resolve.specs.Arity.{misuse, miscount, first_misuse}
 use Rattle.formula_resolve.specs.Clashes.{first_clash}
 use Rattle.formula_resolve.specs.Directions.{first_turn}
 use Rattle.formula_resolve.specs.FirstMentions.{has, with_new, is_same_file, mentioned_files, first_files, mentioned_systems, first_systems, IsOnce}
-use Rattle.formula_resolve.specs.Headers.{Headers, automaton_tracks, is_plain, is_over_sets}
+use Rattle.formula_resolve.specs.Headers.{Headers, automaton_tracks, word_tracks, is_plain, is_over_sets}
 use Rattle.formula_resolve.specs.Mentions.{mentions}
 use Rattle.formula_resolve.specs.Occurrences.{all_occurrences}
 use Rattle.formula_resolve.specs.Resolving.{direction_fault, fault_of}
@@ -23,8 +23,9 @@ use Rattle.formula_resolve.specs.declared.file.File.{File}
 use Rattle.formula_resolve.specs.declared.file.File.TheVariants.{Automaton, Word}
 use Rattle.formula_resolve.specs.declared.mention.Mention.{Mention}
 use Rattle.formula_resolve.specs.declared.mention.Mention.TheVariants.{Marked, Called, Indexed}
-use Rattle.session_cli.proofs.TableNames.{named_apart}
-use Rattle.session_cli.proofs.TableHeaders.{systems_in, IsKeptIn, headers_kept}
+use Rattle.definitions.specs.TableLaws.{FilesAreTables}
+use Rattle.session_cli.proofs.TableFiles.{IsListedTable, files_apart, tables_listed}
+use Rattle.session_cli.proofs.TableHeaders.{systems_in, kept, kept_of, IsKeptIn, headers_kept, file_tracks}
 
 module _ {X : Type 0} (P : X → Type 0) where
   all_more : (xs : List X) (x : X) → AllByRecursion P xs → P x → AllByRecursion P (xs ++ x ∷ [])
@@ -65,51 +66,46 @@ all_once P seen (name ∷ more) all =
     by true there own = (own, of_one P seen name there own)
     by false none own = let parts = all_parts P seen (name ∷ []) own in (parts.0, parts.1.0)
 
--- it holds of the automaton that is mentioned
-abbrev pub OfCall : (Name → Type 0) → Mention → Type 0
-OfCall P (Marked s) = Unit {0}
-OfCall P (Called n k) = P n
-OfCall P (Indexed n k) = Unit {0}
+-- it holds of the file that is mentioned
+abbrev pub OfMention : (File → Type 0) → Mention → Type 0
+OfMention P (Marked s) = Unit {0}
+OfMention P (Called n k) = P (Automaton n)
+OfMention P (Indexed n k) = P (Word n)
 
--- it holds of the name of an automaton's file
-abbrev pub OfFile : (Name → Type 0) → File → Type 0
-OfFile P (Automaton n) = P n
-OfFile P (Word n) = Unit {0}
-
-mentioned_all : (P : Name → Type 0) (ms : List Mention) → AllByRecursion (OfCall P) ms → AllByRecursion (OfFile P) (flat_map mentioned_files ms)
+mentioned_all : (P : File → Type 0) (ms : List Mention) → AllByRecursion (OfMention P) ms → AllByRecursion P (flat_map mentioned_files ms)
 mentioned_all P [] all = tt
 mentioned_all P (Marked s ∷ ms) all = mentioned_all P ms all.1
 mentioned_all P (Called n k ∷ ms) all = (all.0, mentioned_all P ms all.1)
-mentioned_all P (Indexed n k ∷ ms) all = (tt, mentioned_all P ms all.1)
+mentioned_all P (Indexed n k ∷ ms) all = (all.0, mentioned_all P ms all.1)
 
--- what holds of all automata that are mentioned holds of the files
-pub files_all : (P : Name → Type 0) (ms : List Mention) → AllByRecursion (OfCall P) ms → AllByRecursion (OfFile P) (first_files ms)
-files_all P ms all = once_all (OfFile P) is_same_file [] (flat_map mentioned_files ms) tt (mentioned_all P ms all)
+-- what holds of all mentions holds of the files
+pub files_all : (P : File → Type 0) (ms : List Mention) → AllByRecursion (OfMention P) ms → AllByRecursion P (first_files ms)
+files_all P ms all = once_all P is_same_file [] (flat_map mentioned_files ms) tt (mentioned_all P ms all)
 
 -- and what holds of the files holds of their tables
-pub tables_all : (P : Name → Type 0) (files : Files) (named : List File) (tables : List Loaded) → AreListedBy files named tables → AllByRecursion (OfFile P) named → AllByRecursion (λ (t : Loaded). P t.name) tables
+pub tables_all : (P : File → Type 0) (files : Files) (named : List File) (tables : List Loaded) → AreListedBy files named tables → AllByRecursion P named → AllByRecursion (λ (t : Loaded). P t.file) tables
 tables_all P files [] [] are all = tt
 tables_all P files [] (table ∷ tables) are all = absurd are
 tables_all P files (file ∷ named) [] are all = absurd are
-tables_all P files (Word m ∷ named) (table ∷ tables) are all = absurd are.0
-tables_all P files (Automaton m ∷ named) (table ∷ tables) are all = (subst P (sym are.0.lists.name_is) all.0, tables_all P files named tables are.1 all.1)
+tables_all P files (file ∷ named) (table ∷ tables) are all = (subst P (sym are.0.lists.file_is) all.0, tables_all P files named tables are.1 all.1)
 
 no_first : {X : Type 0} (o other : Option X) → option_or o other ≡ None → (o ≡ None) × (other ≡ None)
 no_first None other h = (refl, h)
 no_first (Some x) other h = absurd (cc)
 
--- no automaton that is mentioned is over sets
-abbrev IsNotPlain : Headers → Name → Type 0
-IsNotPlain h name = is_plain h name ≡ false
+-- the file is no automaton over sets
+abbrev IsNotPlain : Headers → File → Type 0
+IsNotPlain h (Automaton n) = is_plain h n ≡ false
+IsNotPlain h (Word n) = Unit {0}
 
-called_not_plain : (h : Headers) (n : Name) (k : ℕ) → misuse h (Called n k) ≡ None → IsNotPlain h n
+called_not_plain : (h : Headers) (n : Name) (k : ℕ) → misuse h (Called n k) ≡ None → IsNotPlain h (Automaton n)
 called_not_plain h n k none = by (is_plain h n) refl none
   where
     by : (b : Bool) → is_plain h n ≡ b → cond b (Some (Plain n)) (miscount n (length (automaton_tracks h n)) k) ≡ None → is_plain h n ≡ false
     by true is e = absurd (cc)
     by false is e = is
 
-calls_not_plain : (h : Headers) (ms : List Mention) → first_misuse h ms ≡ None → AllByRecursion (OfCall (IsNotPlain h)) ms
+calls_not_plain : (h : Headers) (ms : List Mention) → first_misuse h ms ≡ None → AllByRecursion (OfMention (IsNotPlain h)) ms
 calls_not_plain h [] none = tt
 calls_not_plain h (Marked s ∷ ms) none = (tt, calls_not_plain h ms (no_first (misuse h (Marked s)) (first_misuse h ms) none).1)
 calls_not_plain h (Called n k ∷ ms) none = let two = no_first (misuse h (Called n k)) (first_misuse h ms) none in (called_not_plain h n k two.0, calls_not_plain h ms two.1)
@@ -119,32 +115,37 @@ calls_not_plain h (Indexed n k ∷ ms) none = (tt, calls_not_plain h ms (no_firs
 abbrev pub IsNotOverSets : Loaded → Type 0
 IsNotOverSets table = (sets : List (List ℤ)) → table.listed.header ≢ Sets sets
 
-not_over_sets : (h : Headers) (table : Loaded) → IsKeptIn h table → IsNotPlain h table.name → IsNotOverSets table
-not_over_sets h table is plain sets over =
-    let yes : is_plain h table.name ≡ true = ap is_over_sets (is ∙ ap (λ (header : Header). Some (systems_in header)) over) in
-    cc
+not_over_sets : (h : Headers) (table : Loaded) → IsListedTable table → IsKeptIn h table → IsNotPlain h table.file → IsNotOverSets table
+not_over_sets h table listed is plain sets over = by table.file refl is plain
+  where
+    by : (file : File) → table.file ≡ file → kept h file ≡ Some (kept_of file table.listed.header) → IsNotPlain h file → ⊥
+    by (Automaton n) file_is there not =
+        let yes : is_plain h n ≡ true = ap is_over_sets (there ∙ ap (λ (header : Header). Some (systems_in header)) over) in
+        cc
+    by (Word n) file_is there not = let word = listed.is_word n file_is in let both : Systems word.names ≡ Sets sets = sym word.header ∙ over in cc
 
-all_not_over_sets : (h : Headers) (tables : List Loaded) → AllByRecursion (IsKeptIn h) tables → AllByRecursion (λ (t : Loaded). IsNotPlain h t.name) tables → AllByRecursion IsNotOverSets tables
-all_not_over_sets h [] own plain = tt
-all_not_over_sets h (table ∷ tables) own plain = (not_over_sets h table own.0 plain.0, all_not_over_sets h tables own.1 plain.1)
+all_not_over_sets : (h : Headers) (tables : List Loaded) → AllByRecursion IsListedTable tables → AllByRecursion (IsKeptIn h) tables → AllByRecursion (λ (t : Loaded). IsNotPlain h t.file) tables → AllByRecursion IsNotOverSets tables
+all_not_over_sets h [] listed own plain = tt
+all_not_over_sets h (table ∷ tables) listed own plain = (not_over_sets h table listed.0 own.0 plain.0, all_not_over_sets h tables listed.1 own.1 plain.1)
 
 -- no table of a formula without fault is over sets
-pub none_over_sets : (files : Files) (tables : List Loaded) (formula : trees.Formula) → IsOnce (first_files (mentions formula)) → AreListedBy files (first_files (mentions formula)) tables → fault_of (headers_of tables) formula ≡ None → AllByRecursion IsNotOverSets tables
-none_over_sets files tables formula once are none =
+pub none_over_sets : FilesAreTables → (files : Files) (tables : List Loaded) (formula : trees.Formula) → IsOnce (first_files (mentions formula)) → AreListedBy files (first_files (mentions formula)) tables → fault_of (headers_of tables) formula ≡ None → AllByRecursion IsNotOverSets tables
+none_over_sets law files tables formula once are none =
     let h : Headers = headers_of tables in
+    let named : List File = first_files (mentions formula) in
     let used = no_first (first_misuse h (mentions formula)) (option_or (first_clash (all_occurrences h formula)) (option_map direction_fault (first_turn h formula))) none in
-    let plain = tables_all (IsNotPlain h) files (first_files (mentions formula)) tables are (files_all (IsNotPlain h) (mentions formula) (calls_not_plain h (mentions formula) used.0)) in
-    all_not_over_sets h tables (headers_kept tables (named_apart files (first_files (mentions formula)) tables once are)) plain
+    let plain = tables_all (IsNotPlain h) files named tables are (files_all (IsNotPlain h) (mentions formula) (calls_not_plain h (mentions formula) used.0)) in
+    all_not_over_sets h tables (tables_listed law files named tables are) (headers_kept tables (files_apart files named tables once are)) plain
 
--- what holds of all systems that are mentioned holds of those of each automaton
-calls_systems : (P : Name → Type 0) (h : Headers) (ms : List Mention) → AllByRecursion P (flat_map (mentioned_systems h) ms) → AllByRecursion (OfCall (λ n. AllByRecursion P (automaton_tracks h n))) ms
-calls_systems P h [] all = tt
-calls_systems P h (Marked s ∷ ms) all = (tt, calls_systems P h ms all.1)
-calls_systems P h (Called n k ∷ ms) all = let parts = all_parts P (automaton_tracks h n) (flat_map (mentioned_systems h) ms) all in (parts.0, calls_systems P h ms parts.1)
-calls_systems P h (Indexed n k ∷ ms) all = (tt, calls_systems P h ms (all_parts P (mentioned_systems h (Indexed n k)) (flat_map (mentioned_systems h) ms) all).1)
+-- what holds of all systems that are mentioned holds of those of each file
+mentions_systems : (P : Name → Type 0) (h : Headers) (ms : List Mention) → AllByRecursion P (flat_map (mentioned_systems h) ms) → AllByRecursion (OfMention (λ file. AllByRecursion P (file_tracks h file))) ms
+mentions_systems P h [] all = tt
+mentions_systems P h (Marked s ∷ ms) all = (tt, mentions_systems P h ms all.1)
+mentions_systems P h (Called n k ∷ ms) all = let parts = all_parts P (automaton_tracks h n) (flat_map (mentioned_systems h) ms) all in (parts.0, mentions_systems P h ms parts.1)
+mentions_systems P h (Indexed n k ∷ ms) all = let parts = all_parts P (word_tracks h n) (flat_map (mentioned_systems h) ms) all in (parts.0, mentions_systems P h ms parts.1)
 
 -- and of those of each table
-pub tables_systems : (P : Name → Type 0) (h : Headers) (files : Files) (ms : List Mention) (tables : List Loaded) → AreListedBy files (first_files ms) tables → AllByRecursion P (first_systems h ms) → AllByRecursion (λ (t : Loaded). AllByRecursion P (automaton_tracks h t.name)) tables
+pub tables_systems : (P : Name → Type 0) (h : Headers) (files : Files) (ms : List Mention) (tables : List Loaded) → AreListedBy files (first_files ms) tables → AllByRecursion P (first_systems h ms) → AllByRecursion (λ (t : Loaded). AllByRecursion P (file_tracks h t.file)) tables
 tables_systems P h files ms tables are all =
     let every : AllByRecursion P (flat_map (mentioned_systems h) ms) = (all_once P [] (flat_map (mentioned_systems h) ms) all).1 in
-    tables_all (λ n. AllByRecursion P (automaton_tracks h n)) files (first_files ms) tables are (files_all (λ n. AllByRecursion P (automaton_tracks h n)) ms (calls_systems P h ms every))
+    tables_all (λ file. AllByRecursion P (file_tracks h file)) files (first_files ms) tables are (files_all (λ file. AllByRecursion P (file_tracks h file)) ms (mentions_systems P h ms every))

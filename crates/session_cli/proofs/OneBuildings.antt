@@ -14,33 +14,37 @@ use Rattle.formula_parse.specs.Trees as trees
 use Rattle.formula_resolve.specs.FirstMentions.{first_files}
 use Rattle.formula_resolve.specs.Headers.{known}
 use Rattle.formula_resolve.specs.Mentions.{mentions}
-use Rattle.formula_resolve.specs.declared.file.File.{File}
-use Rattle.formula_resolve.specs.declared.file.File.TheVariants.{Automaton, Word}
-use Rattle.formula_build.specs.Libraries.{NamedRelation, NamedSystem, LibraryValue, IsLibrary, AreSealed}
+use Rattle.formula_build.specs.Libraries.{NamedSystem, IsLibrary, AreSealed}
 use Rattle.formula_build.specs.OneBuilding.{Agree}
 use Rattle.formula_build.specs.Resolved as resolved
 use Rattle.formula_build.specs.Solutions.{BuildsFormula, formula_plan, way_named}
 use Rattle.formula_build.proofs.OneBuildingLemmas.{one_building}
 use Rattle.num_system.specs.Sealed.{SystemValue}
-use Rattle.number_relations.specs.Relations.{RelationValue, HaveOneWay}
+use Rattle.num_system.specs.Tracks.{HaveOneWay}
+use Rattle.number_relations.specs.Relations.{RelationValue}
 use Rattle.definitions.specs.Named.{Custom}
-use Rattle.definitions.specs.TableSteps.{IsTable}
 use Rattle.definitions.proofs.FileTables.{file_is_table}
 use Rattle.definitions.proofs.OneTable.{one_table}
+use Rattle.session_cli.proofs.WordLaws.{one_word_outcome}
 use Rattle.definitions.proofs.TableRelations.{table_holds}
+use Rattle.session_cli.specs.declared.read_fault.ReadFault.{ReadFault}
+use Rattle.session_cli.specs.declared.read_fault.ReadFault.TheVariants.{Step, Gap}
 use Rattle.session_cli.specs.declared.fault.Fault.{Fault}
 use Rattle.session_cli.specs.declared.fault.Fault.TheVariants as faults
 use Rattle.session_cli.specs.Checks.{Pure}
 use Rattle.session_cli.specs.FormulaOutcomes.{BuiltAnswers}
-use Rattle.session_cli.specs.FormulaSteps.{AreMeant, AreSystemsUnder, AreTablesRead, AreFormulaSteps, IsReadingStopped, no_steps}
-use Rattle.session_cli.specs.TableReading.{AreReadable}
+use Rattle.session_cli.specs.FormulaFaults.{fault_of_reading}
+use Rattle.session_cli.specs.FormulaSteps.{AreMeant, AreFormulaSteps, IsReadingStopped, IsLetterMissing, no_steps}
+use Rattle.session_cli.specs.TableReads.{TableRead, ARelation, AWord, AreSystemsUnder, IsTableRead, AreTablesRead, library_with}
+use Rattle.session_cli.specs.TableReading.{IsReadable, AreReadable}
 use Rattle.session_cli.specs.TrackSystems.{fault_of}
 use Rattle.session_cli.proofs.CheckSteps.{IsSingle}
 use Rattle.session_cli.proofs.OneSealed.{meant_agree}
 use Rattle.session_cli.proofs.OneTableReadings as readings
-use Rattle.session_cli.proofs.OneTableReadings.{one_reading, reading_apart, one_refusal}
+use Rattle.session_cli.proofs.OneTableReadings.{StopsReading, refusal_stops, gap_stops, one_reading, reading_apart, one_stopping}
 use Rattle.session_cli.proofs.ReadableTables.{under_one_way}
-use Rattle.session_cli.proofs.TableFits.{library_with, are_relations}
+use Rattle.session_cli.proofs.TableFiles.{IsListedTable, tables_listed}
+use Rattle.session_cli.proofs.TableFits.{are_relations, are_words}
 use Rattle.session_cli.proofs.TableHeaders as table_headers
 use Rattle.session_cli.proofs.TableHeaders.{systems_in, tables_one_way}
 use Rattle.session_cli.proofs.TableReads.{AreAlike}
@@ -55,20 +59,18 @@ table_ways custom systems (table ∷ tables) are ways = (of_header table.listed.
     of_header (Systems names) one tracks under = under_one_way systems names tracks are one under
     of_header (Sets sets) one tracks under = absurd under
 
--- what is listed are tables
-are_tables : (files : Files) (named : List File) (tables : List Loaded) → AreListedBy files named tables → AllByRecursion (λ (t : Loaded). IsTable t.listed) tables
-are_tables files [] [] listed = tt
-are_tables files [] (table ∷ tables) listed = absurd listed
-are_tables files (file ∷ named) [] listed = absurd listed
-are_tables files (Automaton name ∷ named) (table ∷ tables) listed = (file_is_table listed.0.text table.listed listed.0.lists.lists, are_tables files named tables listed.1)
-are_tables files (Word name ∷ named) (table ∷ tables) listed = absurd listed.0
-
 -- tables that were read were readable
-read_readable : (systems : List NamedSystem) (old new : StepLog) (tables : List Loaded) (read : List NamedRelation) → AllByRecursion (λ (t : Loaded). IsTable t.listed) tables → AllByRecursion (readings.IsOneWay systems) tables → AreTablesRead systems old tables read new → AreReadable systems tables
-read_readable systems old new [] read are ways made = tt
+read_readable : (systems : List NamedSystem) (old new : StepLog) (tables : List Loaded) (reads : List TableRead) → AllByRecursion IsListedTable tables → AllByRecursion (readings.IsOneWay systems) tables → AreTablesRead systems old tables reads new → AreReadable systems tables
+read_readable systems old new [] reads are ways made = tt
 read_readable systems old new (table ∷ tables) [] are ways made = absurd made
-read_readable systems old new (table ∷ tables) (r ∷ read) are ways (mid, first, rest) =
-    (record { is_table = are.0; tracks = first.tracks; over = first.over; one_way = ways.0 first.tracks first.over }, read_readable systems mid new tables read are.1 ways.1 rest)
+read_readable systems old new (table ∷ tables) (r ∷ reads) are ways (mid, first, rest) = (one r first, read_readable systems mid new tables reads are.1 ways.1 rest)
+  where
+    over : (tracks : List SystemValue) → AreSystemsUnder systems table.listed.header tracks → IsReadable systems table
+    over tracks under = record { is_table = are.0.is_table; is_word = are.0.is_word; tracks = tracks; over = under; one_way = ways.0 tracks under }
+
+    one : (r : TableRead) → IsTableRead systems old table r mid → IsReadable systems table
+    one (ARelation x) read = over read.tracks read.over
+    one (AWord x) read = over read.tracks read.over
 
 -- the lines of steps, or the fault that stops them
 abbrev of_steps : Result RelationValue StepFault → List StepLine → Result (List StepLine) Fault
@@ -83,19 +85,28 @@ record IsBuilding (limit : ℕ) (custom : Custom) (tables : List Loaded) (formul
   is : r ≡ of_steps result lines
 
 record IsStopped (limit : ℕ) (custom : Custom) (tables : List Loaded) (r : Result (List StepLine) Fault) : Type 0 where
-  fault : StepFault
-  stopped : IsReadingStopped limit custom tables fault
-  told : fault ≢ steps.Memory
-  is : r ≡ Err (fault_of fault)
+  systems : List NamedSystem
+  sealed : AreSealed systems
+  meant : AreMeant custom systems
+  fault : ReadFault
+  stops : StopsReading systems (no_steps limit) tables fault
+  is : r ≡ Err (fault_of_reading fault)
 
 abbrev IsOutcome : ℕ → Custom → List Loaded → trees.Formula → Result (List StepLine) Fault → Type 0
 IsOutcome limit custom tables formula r = IsBuilding limit custom tables formula r ⊎ IsStopped limit custom tables r
 
+-- reading is stopped by a step, or for want of a letter
+stopped_by : (limit : ℕ) (custom : Custom) (tables : List Loaded) (fault : StepFault) → fault ≢ steps.Memory → IsReadingStopped limit custom tables fault → IsStopped limit custom tables (Err (fault_of fault))
+stopped_by limit custom tables fault told a = record { systems = a.systems; sealed = a.sealed; meant = a.meant; fault = Step fault; stops = refusal_stops a.systems (no_steps limit) tables fault told a.refused; is = refl }
+
+missing_by : (limit : ℕ) (custom : Custom) (tables : List Loaded) (name : List ℕ) (spelling : List (List ℕ)) → IsLetterMissing limit custom tables name spelling → IsStopped limit custom tables (Err (faults.WordGap name spelling))
+missing_by limit custom tables name spelling a = record { systems = a.systems; sealed = a.sealed; meant = a.meant; fault = Gap name spelling; stops = gap_stops a.systems (no_steps limit) tables name spelling a.gap; is = refl }
+
 built_is : (limit : ℕ) (custom : Custom) (tables : List Loaded) (formula : trees.Formula) (r : Result (List StepLine) Fault) → BuiltAnswers limit custom tables formula r → IsOutcome limit custom tables formula r
 built_is limit custom tables formula (Ok lines) (relation, a) = inl (record { result = Ok relation; lines = lines; done = a; told = λ is. cc; is = refl })
-built_is limit custom tables formula (Err (faults.Letters step)) (inl a) = inr (record { fault = steps.Letters step; stopped = a; told = λ is. cc; is = refl })
+built_is limit custom tables formula (Err (faults.Letters step)) (inl a) = inr (stopped_by limit custom tables (steps.Letters step) (λ is. cc) a)
 built_is limit custom tables formula (Err (faults.Letters step)) (inr (lines, a)) = inl (record { result = Err (steps.Letters step); lines = lines; done = a; told = λ is. cc; is = refl })
-built_is limit custom tables formula (Err (faults.States step)) (inl a) = inr (record { fault = steps.States step; stopped = a; told = λ is. cc; is = refl })
+built_is limit custom tables formula (Err (faults.States step)) (inl a) = inr (stopped_by limit custom tables (steps.States step) (λ is. cc) a)
 built_is limit custom tables formula (Err (faults.States step)) (inr (lines, a)) = inl (record { result = Err (steps.States step); lines = lines; done = a; told = λ is. cc; is = refl })
 built_is limit custom tables formula (Err faults.Command) a = absurd a
 built_is limit custom tables formula (Err (faults.Syntax grammar at)) a = absurd a
@@ -110,6 +121,7 @@ built_is limit custom tables formula (Err (faults.Arity name tracks given)) a = 
 built_is limit custom tables formula (Err (faults.SystemUnknown name)) a = absurd a
 built_is limit custom tables formula (Err (faults.Clash name first other)) a = absurd a
 built_is limit custom tables formula (Err (faults.Direction first other)) a = absurd a
+built_is limit custom tables formula (Err (faults.WordGap name spelling)) a = inr (missing_by limit custom tables name spelling a)
 built_is limit custom tables formula (Err (faults.Plain name)) a = absurd a
 built_is limit custom tables formula (Err (faults.Store folder name)) a = absurd a
 built_is limit custom tables formula (Err faults.Memory) a = absurd a
@@ -126,32 +138,31 @@ module _ (limit : ℕ) (custom : Custom) (tables : List Loaded) (formula : trees
   both_built r s p q =
       let a = p.done in
       let b = q.done in
-      let same : (a.relations ≡ b.relations) × (a.reading ≡ b.reading) = one_reading one_table a.systems b.systems a.sealed (alike a.systems b.systems a.sealed a.meant b.sealed b.meant) (no_steps limit) a.reading b.reading tables a.relations b.relations (ways a.systems a.meant) a.read b.read in
-      let readable = read_readable a.systems (no_steps limit) a.reading tables a.relations (are_tables files (first_files (mentions formula)) tables listed) (ways a.systems a.meant) a.read in
-      let relations = are_relations table_holds a.systems a.sealed tables a.relations (no_steps limit) a.reading readable a.read in
-      let library : IsLibrary (library_with a.relations a.systems) = record { relations = relations; systems = a.sealed } in
-      let other : IsLibrary (library_with a.relations b.systems) = record { relations = relations; systems = b.sealed } in
-      let agree : Agree (library_with a.relations a.systems) (library_with a.relations b.systems) = record { relations = refl; systems = alike a.systems b.systems a.sealed a.meant b.sealed b.meant } in
-      let builds : BuildsFormula a.reading (library_with a.relations b.systems) (formula_plan (headers_of tables) formula) q.result b.log =
-      subst (λ (rs : List NamedRelation). BuildsFormula a.reading (library_with rs b.systems) (formula_plan (headers_of tables) formula) q.result b.log) (sym same.0)
-      (subst (λ (old : StepLog). BuildsFormula old (library_with b.relations b.systems) (formula_plan (headers_of tables) formula) q.result b.log) (sym same.1) b.builds) in
+      let same : (a.reads ≡ b.reads) × (a.reading ≡ b.reading) =
+      one_reading one_table one_word_outcome a.systems b.systems a.sealed (alike a.systems b.systems a.sealed a.meant b.sealed b.meant) (no_steps limit) a.reading b.reading tables a.reads b.reads (ways a.systems a.meant) a.read b.read in
+      let readable = read_readable a.systems (no_steps limit) a.reading tables a.reads (tables_listed file_is_table files (first_files (mentions formula)) tables listed) (ways a.systems a.meant) a.read in
+      let relations = are_relations table_holds a.systems a.sealed tables a.reads (no_steps limit) a.reading readable a.read in
+      let words = are_words table_holds a.systems a.sealed tables a.reads (no_steps limit) a.reading readable a.read in
+      let library : IsLibrary (library_with a.reads a.systems) = record { relations = relations; words = words; systems = a.sealed } in
+      let other : IsLibrary (library_with a.reads b.systems) = record { relations = relations; words = words; systems = b.sealed } in
+      let agree : Agree (library_with a.reads a.systems) (library_with a.reads b.systems) = record { relations = refl; words = refl; systems = alike a.systems b.systems a.sealed a.meant b.sealed b.meant } in
+      let builds : BuildsFormula a.reading (library_with a.reads b.systems) (formula_plan (headers_of tables) formula) q.result b.log =
+      subst (λ (rs : List TableRead). BuildsFormula a.reading (library_with rs b.systems) (formula_plan (headers_of tables) formula) q.result b.log) (sym same.0)
+      (subst (λ (old : StepLog). BuildsFormula old (library_with b.reads b.systems) (formula_plan (headers_of tables) formula) q.result b.log) (sym same.1) b.builds) in
       let one : (p.result ≡ q.result) × (a.log ≡ b.log) =
-      one_building (library_with a.relations a.systems) (library_with a.relations b.systems) a.reading a.log b.log (formula_plan (headers_of tables) formula) p.result q.result library other agree a.builds builds p.told q.told in
+      one_building (library_with a.reads a.systems) (library_with a.reads b.systems) a.reading a.log b.log (formula_plan (headers_of tables) formula) p.result q.result library other agree a.builds builds p.told q.told in
       let lines : p.lines ≡ q.lines = a.lines_are ∙ (ap (λ (log : StepLog). log.lines) one.1 ∙ sym b.lines_are) in
       p.is ∙ ((λ i. of_steps (one.0 i) (lines i)) ∙ sym q.is)
 
   not_both : (r s : Result (List StepLine) Fault) → IsBuilding limit custom tables formula r → IsStopped limit custom tables s → ⊥
   not_both r s p q =
       let a = p.done in
-      let b = q.stopped in
-      reading_apart one_table a.systems b.systems a.sealed (alike a.systems b.systems a.sealed a.meant b.sealed b.meant) (no_steps limit) a.reading tables a.relations q.fault (ways a.systems a.meant) a.read b.refused q.told
+      reading_apart one_table one_word_outcome a.systems q.systems a.sealed (alike a.systems q.systems a.sealed a.meant q.sealed q.meant) (no_steps limit) a.reading tables a.reads q.fault (ways a.systems a.meant) a.read q.stops
 
   both_stopped : (r s : Result (List StepLine) Fault) → IsStopped limit custom tables r → IsStopped limit custom tables s → r ≡ s
   both_stopped r s p q =
-      let a = p.stopped in
-      let b = q.stopped in
-      let same : p.fault ≡ q.fault = one_refusal one_table a.systems b.systems a.sealed (alike a.systems b.systems a.sealed a.meant b.sealed b.meant) (no_steps limit) tables p.fault q.fault (ways a.systems a.meant) a.refused b.refused p.told q.told in
-      p.is ∙ (ap (λ (f : StepFault). let x : Result (List StepLine) Fault = Err (fault_of f) in x) same ∙ sym q.is)
+      let same : p.fault ≡ q.fault = one_stopping one_table one_word_outcome p.systems q.systems p.sealed (alike p.systems q.systems p.sealed p.meant q.sealed q.meant) (no_steps limit) tables p.fault q.fault (ways p.systems p.meant) p.stops q.stops in
+      p.is ∙ (ap (λ (f : ReadFault). let x : Result (List StepLine) Fault = Err (fault_of_reading f) in x) same ∙ sym q.is)
 
   pub built_single : IsSingle (Pure (BuiltAnswers limit custom tables formula))
   built_single r s a b = by (built_is limit custom tables formula r a) (built_is limit custom tables formula s b)

@@ -56,6 +56,7 @@ systems_is custom tables formula (Err (faults.Clash name first other)) a = absur
 systems_is custom tables formula (Err (faults.Direction first other)) a = absurd a
 systems_is custom tables formula (Err (faults.Letters step)) a = absurd a
 systems_is custom tables formula (Err (faults.States step)) a = absurd a
+systems_is custom tables formula (Err (faults.WordGap name spelling)) a = absurd a
 systems_is custom tables formula (Err (faults.Plain name)) a = absurd a
 systems_is custom tables formula (Err (faults.Store folder name)) a = absurd a
 systems_is custom tables formula (Err faults.Memory) a = absurd a
@@ -99,6 +100,7 @@ IsResolution tables formula r =
 
 resolved_is : (tables : List Loaded) (formula : trees.Formula) (r : Result (Unit {0}) Fault) → ResolvedAnswers tables formula r → IsResolution tables formula r
 resolved_is tables formula (Ok done) none = inl (none, refl)
+resolved_is tables formula (Err (faults.WordGap name spelling)) a = absurd a
 resolved_is tables formula (Err (faults.Plain name)) a = inr (resolves.Plain name, a, refl)
 resolved_is tables formula (Err (faults.Arity name tracks given)) a = inr (resolves.Arity name tracks given, a, refl)
 resolved_is tables formula (Err (faults.Clash name first other)) a = inr (resolves.Clash name first other, a, refl)

@@ -44,6 +44,7 @@ head_is grammar text (Err (faults.Clash name first other)) a = absurd a
 head_is grammar text (Err (faults.Direction first other)) a = absurd a
 head_is grammar text (Err (faults.Letters step)) a = absurd a
 head_is grammar text (Err (faults.States step)) a = absurd a
+head_is grammar text (Err (faults.WordGap name spelling)) a = absurd a
 head_is grammar text (Err (faults.Plain name)) a = absurd a
 head_is grammar text (Err (faults.Store folder name)) a = absurd a
 head_is grammar text (Err faults.Memory) a = absurd a

@@ -50,6 +50,7 @@ proper limit ledger text (Err (faults.Unknown of file)) is store memory = is
 proper limit ledger text (Err (faults.File of file flaw)) is store memory = is
 proper limit ledger text (Err (faults.Arity of tracks given)) is store memory = is
 proper limit ledger text (Err (faults.Clash of one two)) is store memory = is
+proper limit ledger text (Err (faults.WordGap of spelling)) is store memory = is
 proper limit ledger text (Err (faults.Plain of)) is store memory = is
 proper limit ledger text (Err faults.Command) is store memory = is
 proper limit ledger text (Err (faults.Syntax grammar at)) is store memory = is
@@ -83,6 +84,7 @@ open_is text (Err (faults.Unknown of file)) is = absurd is
 open_is text (Err (faults.File of file flaw)) is = absurd is
 open_is text (Err (faults.Arity of tracks given)) is = absurd is
 open_is text (Err (faults.Clash of one two)) is = absurd is
+open_is text (Err (faults.WordGap of spelling)) is = absurd is
 open_is text (Err (faults.Plain of)) is = absurd is
 open_is text (Ok success) is = absurd is
 

@@ -72,6 +72,7 @@ found custom (r ∷ rs) name s sealed meant is = by (bytes_eq r.name name) refl 
 pub meant_agree : (custom : Custom) (systems others : List NamedSystem) → AreSealed systems → AreMeant custom systems → AreSealed others → AreMeant custom others → Agree (library_of systems) (library_of others)
 meant_agree custom systems others sealed meant sealed' meant' = record {
   relations = refl;
+  words = refl;
   systems = λ name s t is is'.
       let one : IsFound custom name s = found custom systems name s sealed meant is in
       let other : IsFound custom name t = found custom others name t sealed' meant' is' in

@@ -1,18 +1,26 @@
--- Tables are read in one way over systems that names mean: to one list of relations with one log, or to one refusal.
-use Rattle.std.proofs.Common.{◌≡◌, ◌≢◌, List, [], ◌∷◌, inl, inr, refl, sym, ap, ◌∙◌, subst}
+-- Tables are read in one way over systems that names mean: to one list of relations and words with one log, or to one fault.
+use Rattle.std.proofs.Common.{◌≡◌, ◌≢◌, ◌⊎◌, ℕ, List, [], ◌∷◌, inl, inr, refl, sym, ap, ◌∙◌, subst}
 use Rattle.std.specs.List.{AllByRecursion}
-use Rattle.digit_tuple.specs.Steps.{StepLog}
+use Rattle.digit_tuple.specs.Steps.{StepLog, with_lines}
 use Rattle.digit_tuple.specs.declared.step_fault.StepFault.{StepFault}
 use Rattle.digit_tuple.specs.declared.step_fault.StepFault.TheVariants.{Memory}
 use Rattle.digit_tuple.specs.declared.steps.StepLine.{StepLine}
 use Rattle.dfa_loading.specs.declared.loaded.Loaded.{Loaded}
-use Rattle.formula_build.specs.Libraries.{NamedRelation, NamedSystem, AreSealed}
+use Rattle.formula_resolve.specs.declared.file.File.{File}
+use Rattle.formula_resolve.specs.declared.file.File.TheVariants.{Automaton, Word}
+use Rattle.formula_build.specs.Libraries.{NamedRelation, NamedWord, NamedSystem, AreSealed}
 use Rattle.num_system.specs.Sealed.{SystemValue}
-use Rattle.number_relations.specs.Multiples.{with_lines}
-use Rattle.number_relations.specs.Relations.{RelationValue, HaveOneWay}
+use Rattle.num_system.specs.Tracks.{HaveOneWay}
+use Rattle.number_relations.specs.Relations.{RelationValue}
+use Rattle.word_output.specs.Laws.{WordReadingsHaveOneOutcome}
+use Rattle.word_output.specs.WordReadings.{IsWordDone, PassesWord, HasWordGap}
+use Rattle.word_output.specs.declared.word_fault.WordFault.{WordFault}
+use Rattle.word_output.specs.declared.word_fault.WordFault.TheVariants as words
 use Rattle.definitions.specs.TableSteps.{AreTableSteps, PassesTable}
 use Rattle.definitions.specs.TableLaws.{AreTableSystems, HasOneTable, TablesHaveOneOutcome}
-use Rattle.session_cli.specs.FormulaSteps.{AreSystemsUnder, IsTableRead, IsTableRefused, AreTablesRead, IsReadingRefused}
+use Rattle.session_cli.specs.declared.read_fault.ReadFault.{ReadFault}
+use Rattle.session_cli.specs.declared.read_fault.ReadFault.TheVariants.{Step, Gap}
+use Rattle.session_cli.specs.TableReads.{TableRead, ARelation, AWord, AreSystemsUnder, IsRelationRead, IsWordRead, IsTableRead, PassesFile, IsTableRefused, IsTableGap, AreTablesRead, IsReadingRefused, IsReadingGap}
 use Rattle.session_cli.proofs.TableReads.{AreAlike, for_tracks, same_under}
 use Rattle.session_cli.proofs.TableRelations.{below_sealed}
 
@@ -20,7 +28,27 @@ use Rattle.session_cli.proofs.TableRelations.{below_sealed}
 abbrev pub IsOneWay : List NamedSystem → Loaded → Type 0
 IsOneWay systems table = (tracks : List SystemValue) → AreSystemsUnder systems table.listed.header tracks → HaveOneWay tracks
 
-module _ (one : TablesHaveOneOutcome) (systems others : List NamedSystem) (sealed : AreSealed systems) (alike : AreAlike systems others) where
+-- why one table is not read, unless memory ran out
+abbrev pub StopsTable : List NamedSystem → StepLog → Loaded → ReadFault → Type 0
+StopsTable systems old table (Step fault) = (fault ≢ Memory) × IsTableRefused systems old table fault
+StopsTable systems old table (Gap name spelling) = IsTableGap systems old table name spelling
+
+-- why some tables, one after another, are not read
+abbrev pub StopsReading : List NamedSystem → StepLog → List Loaded → ReadFault → Type 0
+StopsReading systems old [] fault = ⊥
+StopsReading systems old (table ∷ tables) fault = StopsTable systems old table fault ⊎ ((r : TableRead) × (mid : StepLog) × IsTableRead systems old table r mid × StopsReading systems mid tables fault)
+
+pub refusal_stops : (systems : List NamedSystem) (old : StepLog) (tables : List Loaded) (fault : StepFault) → fault ≢ Memory → IsReadingRefused systems old tables fault → StopsReading systems old tables (Step fault)
+refusal_stops systems old [] fault ample refused = absurd refused
+refusal_stops systems old (t ∷ tables) fault ample (inl refused) = inl (ample, refused)
+refusal_stops systems old (t ∷ tables) fault ample (inr (r, mid, read, later)) = inr (r, mid, read, refusal_stops systems mid tables fault ample later)
+
+pub gap_stops : (systems : List NamedSystem) (old : StepLog) (tables : List Loaded) (name : List ℕ) (spelling : List (List ℕ)) → IsReadingGap systems old tables name spelling → StopsReading systems old tables (Gap name spelling)
+gap_stops systems old [] name spelling gap = absurd gap
+gap_stops systems old (t ∷ tables) name spelling (inl gap) = inl gap
+gap_stops systems old (t ∷ tables) name spelling (inr (r, mid, read, later)) = inr (r, mid, read, gap_stops systems mid tables name spelling later)
+
+module _ (one : TablesHaveOneOutcome) (one_word : WordReadingsHaveOneOutcome) (systems others : List NamedSystem) (sealed : AreSealed systems) (alike : AreAlike systems others) where
   one_table : (old : StepLog) (table : Loaded) (tracks : List SystemValue) → IsOneWay systems table → AreSystemsUnder systems table.listed.header tracks → HasOneTable old tracks table.listed
   one_table old table tracks way under =
       one old tracks table.listed (record { sealed = below_sealed systems table.listed.header tracks sealed under; tracks = for_tracks systems table.listed.header tracks under (way tracks under) })
@@ -28,30 +56,107 @@ module _ (one : TablesHaveOneOutcome) (systems others : List NamedSystem) (seale
   same_tracks : (table : Loaded) (ss ts : List SystemValue) → AreSystemsUnder systems table.listed.header ss → AreSystemsUnder others table.listed.header ts → ts ≡ ss
   same_tracks table ss ts under also = sym (same_under systems others table.listed.header ss ts alike under also)
 
-  one_read : (old new now : StepLog) (table : Loaded) (r s : NamedRelation) → IsOneWay systems table → IsTableRead systems old table r new → IsTableRead others old table s now → (r ≡ s) × (new ≡ now)
-  one_read old new now table r s way first second =
+  one_relation : (old new now : StepLog) (table : Loaded) (r s : NamedRelation) → IsOneWay systems table → IsRelationRead systems old table r new → IsRelationRead others old table s now → (r ≡ s) × (new ≡ now)
+  one_relation old new now table r s way first second =
       let there = subst (λ (ts : List SystemValue). AreTableSteps old.limit ts table.listed s.relation second.done.lines) (same_tracks table first.tracks second.tracks first.over second.over) second.done.steps in
       let same : (r.relation ≡ s.relation) × (first.done.lines ≡ second.done.lines) = (one_table old table first.tracks way first.over).relations r.relation s.relation first.done.lines second.done.lines first.done.steps there in
-      let names = first.name_is ∙ sym second.name_is in
+      let names : r.name ≡ s.name = let e : Automaton r.name ≡ Automaton s.name = sym first.file_is ∙ second.file_is in cc in
       (λ i. record { name = names i; relation = same.0 i }, first.done.new_is ∙ ap (λ (lines : List StepLine). with_lines old lines) same.1 ∙ sym second.done.new_is)
 
-  read_apart : (old new : StepLog) (table : Loaded) (r : NamedRelation) (fault : StepFault) → IsOneWay systems table → IsTableRead systems old table r new → IsTableRefused others old table fault → fault ≢ Memory → ⊥
-  read_apart old new table r fault way read refused ample =
-      let there = subst (λ (ts : List SystemValue). PassesTable old ts table.listed fault) (same_tracks table read.tracks refused.tracks read.over refused.over) refused.passes in
+  one_word_read : (old new now : StepLog) (table : Loaded) (v w : NamedWord) → IsWordRead systems old table v new → IsWordRead others old table w now → (v ≡ w) × (new ≡ now)
+  one_word_read old new now table v w first second =
+      let there = subst (λ (ts : List SystemValue). IsWordDone old ts table.listed w.word now) (same_tracks table first.tracks second.tracks first.over second.over) second.done in
+      let same : (v.word ≡ w.word) × (new ≡ now) = (one_word old first.tracks table.listed).words v.word w.word new now first.done there in
+      let names : v.name ≡ w.name = let e : Word v.name ≡ Word w.name = sym first.file_is ∙ second.file_is in cc in
+      (λ i. record { name = names i; word = same.0 i }, same.1)
+
+  no_relation : (name other : List ℕ) (table : Loaded) → table.file ≡ Automaton name → table.file ≡ Word other → ⊥
+  no_relation name other table first second = let e : Automaton name ≡ Word other = sym first ∙ second in cc
+
+  one_read : (old new now : StepLog) (table : Loaded) (r s : TableRead) → IsOneWay systems table → IsTableRead systems old table r new → IsTableRead others old table s now → (r ≡ s) × (new ≡ now)
+  one_read old new now table (ARelation r) (ARelation s) way first second = let same = one_relation old new now table r s way first second in (ap ARelation same.0, same.1)
+  one_read old new now table (ARelation r) (AWord w) way first second = absurd (no_relation r.name w.name table first.file_is second.file_is)
+  one_read old new now table (AWord w) (ARelation r) way first second = absurd (no_relation r.name w.name table second.file_is first.file_is)
+  one_read old new now table (AWord v) (AWord w) way first second = let same = one_word_read old new now table v w first second in (ap AWord same.0, same.1)
+
+  -- a table that is read is not stopped, whichever of the two systems it is read over
+  passes_automaton : (name : List ℕ) (old : StepLog) (tracks : List SystemValue) (table : Loaded) (fault : StepFault) → table.file ≡ Automaton name → PassesFile table.file old tracks table.listed fault → PassesTable old tracks table.listed fault
+  passes_automaton name old tracks table fault is passes = subst (λ (f : File). PassesFile f old tracks table.listed fault) is passes
+
+  passes_word : (name : List ℕ) (old : StepLog) (tracks : List SystemValue) (table : Loaded) (fault : StepFault) → table.file ≡ Word name → PassesFile table.file old tracks table.listed fault → PassesWord old tracks table.listed fault
+  passes_word name old tracks table fault is passes = subst (λ (f : File). PassesFile f old tracks table.listed fault) is passes
+
+  step_memory : (fault : StepFault) → words.Step fault ≡ words.Step Memory → fault ≡ Memory
+  step_memory fault same = cc
+
+  read_apart : (old new : StepLog) (table : Loaded) (r : TableRead) (fault : ReadFault) → IsOneWay systems table → IsTableRead systems old table r new → StopsTable others old table fault → ⊥
+  read_apart old new table (ARelation r) (Gap name spelling) way read gap = no_relation r.name name table read.file_is gap.file_is
+  read_apart old new table (ARelation r) (Step fault) way read (ample, refused) =
+      let passes = passes_automaton r.name old refused.tracks table fault read.file_is refused.passes in
+      let there = subst (λ (ts : List SystemValue). PassesTable old ts table.listed fault) (same_tracks table read.tracks refused.tracks read.over refused.over) passes in
       ample ((one_table old table read.tracks way read.over).apart r.relation read.done.lines fault read.done.steps there)
+  read_apart old new table (AWord w) (Gap name spelling) way read gap =
+      let there = subst (λ (ts : List SystemValue). HasWordGap old.limit ts table.listed spelling) (same_tracks table read.tracks gap.tracks read.over gap.over) gap.gap in
+      let e : words.Gap spelling ≡ words.Step Memory = (one_word old read.tracks table.listed).apart w.word new (words.Gap spelling) read.done there in
+      cc
+  read_apart old new table (AWord w) (Step fault) way read (ample, refused) =
+      let passes = passes_word w.name old refused.tracks table fault read.file_is refused.passes in
+      let there = subst (λ (ts : List SystemValue). PassesWord old ts table.listed fault) (same_tracks table read.tracks refused.tracks read.over refused.over) passes in
+      ample (step_memory fault ((one_word old read.tracks table.listed).apart w.word new (words.Step fault) read.done (inr there)))
 
-  refused_apart : (old new : StepLog) (table : Loaded) (r : NamedRelation) (fault : StepFault) → IsOneWay systems table → IsTableRefused systems old table fault → IsTableRead others old table r new → fault ≢ Memory → ⊥
-  refused_apart old new table r fault way refused read ample =
+  stop_apart : (old new : StepLog) (table : Loaded) (r : TableRead) (fault : ReadFault) → IsOneWay systems table → StopsTable systems old table fault → IsTableRead others old table r new → ⊥
+  stop_apart old new table (ARelation r) (Gap name spelling) way gap read = no_relation r.name name table read.file_is gap.file_is
+  stop_apart old new table (ARelation r) (Step fault) way (ample, refused) read =
+      let passes = passes_automaton r.name old refused.tracks table fault read.file_is refused.passes in
       let there = subst (λ (ts : List SystemValue). AreTableSteps old.limit ts table.listed r.relation read.done.lines) (same_tracks table refused.tracks read.tracks refused.over read.over) read.done.steps in
-      ample ((one_table old table refused.tracks way refused.over).apart r.relation read.done.lines fault there refused.passes)
+      ample ((one_table old table refused.tracks way refused.over).apart r.relation read.done.lines fault there passes)
+  stop_apart old new table (AWord w) (Gap name spelling) way gap read =
+      let there = subst (λ (ts : List SystemValue). IsWordDone old ts table.listed w.word new) (same_tracks table gap.tracks read.tracks gap.over read.over) read.done in
+      let e : words.Gap spelling ≡ words.Step Memory = (one_word old gap.tracks table.listed).apart w.word new (words.Gap spelling) there gap.gap in
+      cc
+  stop_apart old new table (AWord w) (Step fault) way (ample, refused) read =
+      let passes = passes_word w.name old refused.tracks table fault read.file_is refused.passes in
+      let there = subst (λ (ts : List SystemValue). IsWordDone old ts table.listed w.word new) (same_tracks table refused.tracks read.tracks refused.over read.over) read.done in
+      ample (step_memory fault ((one_word old refused.tracks table.listed).apart w.word new (words.Step fault) there (inr passes)))
 
-  one_refused_by : (old : StepLog) (table : Loaded) (fault other : StepFault) → IsOneWay systems table → IsTableRefused systems old table fault → IsTableRefused others old table other → fault ≢ Memory → other ≢ Memory → fault ≡ other
-  one_refused_by old table fault other way first second ample enough =
-      let there = subst (λ (ts : List SystemValue). PassesTable old ts table.listed other) (same_tracks table first.tracks second.tracks first.over second.over) second.passes in
-      (one_table old table first.tracks way first.over).faults fault other first.passes there ample enough
+  -- a table is stopped by one fault
+  one_refused : (old : StepLog) (table : Loaded) (fault other : StepFault) → IsOneWay systems table → fault ≢ Memory → other ≢ Memory → IsTableRefused systems old table fault → IsTableRefused others old table other → fault ≡ other
+  one_refused old table fault other way ample enough first second =
+      let there = subst (λ (ts : List SystemValue). PassesFile table.file old ts table.listed other) (same_tracks table first.tracks second.tracks first.over second.over) second.passes in
+      by table.file first.passes there
+    where
+      by : (file : File) → PassesFile file old first.tracks table.listed fault → PassesFile file old first.tracks table.listed other → fault ≡ other
+      by (Automaton name) a b = (one_table old table first.tracks way first.over).faults fault other a b ample enough
+      by (Word name) a b =
+          let e : words.Step fault ≡ words.Step other = (one_word old first.tracks table.listed).faults (words.Step fault) (words.Step other) (inr a) (inr b) (λ is. ample (step_memory fault is)) (λ is. enough (step_memory other is)) in
+          cc
+
+  not_gap : (spelling : List (List ℕ)) → words.Gap spelling ≢ words.Step Memory
+  not_gap spelling = λ is. cc
+
+  gap_refused : (old : StepLog) (table : Loaded) (name : List ℕ) (spelling : List (List ℕ)) (fault : StepFault) (ss : List SystemValue) → fault ≢ Memory → table.file ≡ Word name → HasWordGap old.limit ss table.listed spelling → PassesFile table.file old ss table.listed fault → ⊥
+  gap_refused old table name spelling fault ss ample is gap passes =
+      let e : words.Gap spelling ≡ words.Step fault = (one_word old ss table.listed).faults (words.Gap spelling) (words.Step fault) gap (inr (passes_word name old ss table fault is passes)) (not_gap spelling) (λ same. ample (step_memory fault same)) in
+      cc
+
+  one_gap : (old : StepLog) (table : Loaded) (name other : List ℕ) (spelling also : List (List ℕ)) → IsTableGap systems old table name spelling → IsTableGap others old table other also → Gap name spelling ≡ Gap other also
+  one_gap old table name other spelling also first second =
+      let there = subst (λ (ts : List SystemValue). HasWordGap old.limit ts table.listed also) (same_tracks table first.tracks second.tracks first.over second.over) second.gap in
+      let e : words.Gap spelling ≡ words.Gap also = (one_word old first.tracks table.listed).faults (words.Gap spelling) (words.Gap also) first.gap there (not_gap spelling) (not_gap also) in
+      let spellings : spelling ≡ also = cc in
+      let names : name ≡ other = let f : Word name ≡ Word other = sym first.file_is ∙ second.file_is in cc in
+      λ i. Gap (names i) (spellings i)
+
+  one_stop : (old : StepLog) (table : Loaded) (fault other : ReadFault) → IsOneWay systems table → StopsTable systems old table fault → StopsTable others old table other → fault ≡ other
+  one_stop old table (Step fault) (Step other) way (ample, first) (enough, second) = ap Step (one_refused old table fault other way ample enough first second)
+  one_stop old table (Step fault) (Gap name spelling) way (ample, refused) gap =
+      absurd (gap_refused old table name spelling fault gap.tracks ample gap.file_is gap.gap (subst (λ (ts : List SystemValue). PassesFile table.file old ts table.listed fault) (sym (same_tracks table refused.tracks gap.tracks refused.over gap.over)) refused.passes))
+  one_stop old table (Gap name spelling) (Step fault) way gap (ample, refused) =
+      absurd (gap_refused old table name spelling fault gap.tracks ample gap.file_is gap.gap (subst (λ (ts : List SystemValue). PassesFile table.file old ts table.listed fault) (same_tracks table gap.tracks refused.tracks gap.over refused.over) refused.passes))
+  one_stop old table (Gap name spelling) (Gap other also) way first second = one_gap old table name other spelling also first second
 
   -- two readings give the same
-  pub one_reading : (old new now : StepLog) (tables : List Loaded) (rs ss : List NamedRelation) → AllByRecursion (IsOneWay systems) tables → AreTablesRead systems old tables rs new → AreTablesRead others old tables ss now
+  pub one_reading : (old new now : StepLog) (tables : List Loaded) (rs ss : List TableRead) → AllByRecursion (IsOneWay systems) tables → AreTablesRead systems old tables rs new → AreTablesRead others old tables ss now
       → (rs ≡ ss) × (new ≡ now)
   one_reading old new now [] [] [] ways first second = (refl, first ∙ sym second)
   one_reading old new now [] [] (s ∷ ss) ways first second = absurd second
@@ -63,21 +168,21 @@ module _ (one : TablesHaveOneOutcome) (systems others : List NamedSystem) (seale
       let (later, last) = one_reading mid new now tables rs ss ways.1 rest (subst (λ (m : StepLog). AreTablesRead others m tables ss now) (sym same) rest') in
       (λ i. here i ∷ later i, last)
 
-  -- what is read is not refused
-  pub reading_apart : (old new : StepLog) (tables : List Loaded) (rs : List NamedRelation) (fault : StepFault) → AllByRecursion (IsOneWay systems) tables → AreTablesRead systems old tables rs new → IsReadingRefused others old tables fault → fault ≢ Memory → ⊥
-  reading_apart old new [] rs fault ways read refused ample = refused
-  reading_apart old new (t ∷ tables) [] fault ways read refused ample = read
-  reading_apart old new (t ∷ tables) (r ∷ rs) fault ways (mid, read, rest) (inl refused) ample = read_apart old mid t r fault ways.0 read refused ample
-  reading_apart old new (t ∷ tables) (r ∷ rs) fault ways (mid, read, rest) (inr (s, mid', read', refused)) ample =
+  -- what is read is not stopped
+  pub reading_apart : (old new : StepLog) (tables : List Loaded) (rs : List TableRead) (fault : ReadFault) → AllByRecursion (IsOneWay systems) tables → AreTablesRead systems old tables rs new → StopsReading others old tables fault → ⊥
+  reading_apart old new [] rs fault ways read stopped = stopped
+  reading_apart old new (t ∷ tables) [] fault ways read stopped = read
+  reading_apart old new (t ∷ tables) (r ∷ rs) fault ways (mid, read, rest) (inl stopped) = read_apart old mid t r fault ways.0 read stopped
+  reading_apart old new (t ∷ tables) (r ∷ rs) fault ways (mid, read, rest) (inr (s, mid', read', stopped)) =
       let same = (one_read old mid mid' t r s ways.0 read read').1 in
-      reading_apart mid new tables rs fault ways.1 rest (subst (λ (m : StepLog). IsReadingRefused others m tables fault) (sym same) refused) ample
+      reading_apart mid new tables rs fault ways.1 rest (subst (λ (m : StepLog). StopsReading others m tables fault) (sym same) stopped)
 
-  -- two refusals have one fault
-  pub one_refusal : (old : StepLog) (tables : List Loaded) (fault other : StepFault) → AllByRecursion (IsOneWay systems) tables → IsReadingRefused systems old tables fault → IsReadingRefused others old tables other → fault ≢ Memory → other ≢ Memory → fault ≡ other
-  one_refusal old [] fault other ways first second ample enough = absurd first
-  one_refusal old (t ∷ tables) fault other ways (inl first) (inl second) ample enough = one_refused_by old t fault other ways.0 first second ample enough
-  one_refusal old (t ∷ tables) fault other ways (inl first) (inr (s, mid, read, second)) ample enough = absurd (refused_apart old mid t s fault ways.0 first read ample)
-  one_refusal old (t ∷ tables) fault other ways (inr (r, mid, read, first)) (inl second) ample enough = absurd (read_apart old mid t r other ways.0 read second enough)
-  one_refusal old (t ∷ tables) fault other ways (inr (r, mid, read, first)) (inr (s, mid', read', second)) ample enough =
+  -- two readings that stop have one fault
+  pub one_stopping : (old : StepLog) (tables : List Loaded) (fault other : ReadFault) → AllByRecursion (IsOneWay systems) tables → StopsReading systems old tables fault → StopsReading others old tables other → fault ≡ other
+  one_stopping old [] fault other ways first second = absurd first
+  one_stopping old (t ∷ tables) fault other ways (inl first) (inl second) = one_stop old t fault other ways.0 first second
+  one_stopping old (t ∷ tables) fault other ways (inl first) (inr (s, mid, read, second)) = absurd (stop_apart old mid t s fault ways.0 first read)
+  one_stopping old (t ∷ tables) fault other ways (inr (r, mid, read, first)) (inl second) = absurd (read_apart old mid t r other ways.0 read second)
+  one_stopping old (t ∷ tables) fault other ways (inr (r, mid, read, first)) (inr (s, mid', read', second)) =
       let same = (one_read old mid mid' t r s ways.0 read read').1 in
-      one_refusal mid tables fault other ways.1 first (subst (λ (m : StepLog). IsReadingRefused others m tables other) (sym same) second) ample enough
+      one_stopping mid tables fault other ways.1 first (subst (λ (m : StepLog). StopsReading others m tables other) (sym same) second)

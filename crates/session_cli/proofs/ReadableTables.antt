@@ -8,28 +8,27 @@ use Rattle.dfa_loading.specs.Headers.{headers_of}
 use Rattle.dfa_loading.specs.Loading.{AreListedBy}
 use Rattle.dfa_loading.specs.declared.loaded.Loaded.{Loaded}
 use Rattle.num_system.specs.Sealed.{SystemValue}
-use Rattle.number_relations.specs.Relations.{HaveOneWay}
+use Rattle.num_system.specs.Tracks.{HaveOneWay}
 use Rattle.formula_parse.specs.Tokens.{Name}
 use Rattle.formula_parse.specs.Trees as trees
 use Rattle.formula_resolve.specs.FirstMentions.{first_files, first_systems, IsOnce}
-use Rattle.formula_resolve.specs.Headers.{Headers, known, automaton_tracks}
+use Rattle.formula_resolve.specs.Headers.{Headers, known}
 use Rattle.formula_resolve.specs.Mentions.{mentions}
 use Rattle.formula_resolve.specs.Resolving.{fault_of}
 use Rattle.formula_resolve.specs.declared.file.File.{File}
-use Rattle.formula_resolve.specs.declared.file.File.TheVariants.{Automaton, Word}
 use Rattle.formula_build.specs.Libraries.{NamedSystem, system_named}
 use Rattle.formula_build.specs.Resolved as resolved
 use Rattle.formula_build.specs.Solutions.{way_named}
 use Rattle.definitions.specs.Named.{Custom}
 use Rattle.definitions.specs.TableLaws.{FilesAreTables}
-use Rattle.definitions.specs.TableSteps.{IsTable}
 use Rattle.session_cli.specs.FormulaPlans.{HasSystems}
-use Rattle.session_cli.specs.FormulaSteps.{AreMeant, AreSystemsUnder}
+use Rattle.session_cli.specs.FormulaSteps.{AreMeant}
+use Rattle.session_cli.specs.TableReads.{AreSystemsUnder}
 use Rattle.session_cli.specs.SealedSystems.{HasSystemIn}
 use Rattle.session_cli.specs.TableReading.{IsReadable, AreReadable}
 use Rattle.session_cli.proofs.MeantNames.{found_way}
-use Rattle.session_cli.proofs.TableNames.{named_apart}
-use Rattle.session_cli.proofs.TableHeaders.{systems_in, IsKeptIn, headers_kept, tracks_kept, IsOneWay, tables_one_way}
+use Rattle.session_cli.proofs.TableFiles.{IsListedTable, files_apart, tables_listed}
+use Rattle.session_cli.proofs.TableHeaders.{systems_in, IsKeptIn, headers_kept, file_tracks, tracks_kept, IsOneWay, tables_one_way}
 use Rattle.session_cli.proofs.MentionedTables.{IsNotOverSets, none_over_sets, tables_systems}
 
 -- what stands under each of some names
@@ -63,12 +62,13 @@ under_one_way systems (name ∷ names) (s ∷ tracks) are one under =
     under_ways systems (name ∷ names) (s ∷ tracks) s.way are ways under
 
 -- a table is readable whose systems are there
-readable : (systems : List NamedSystem) (table : Loaded) → AreMeant (λ _. None) systems → IsTable table.listed → IsNotOverSets table → IsOneWay table → AllByRecursion (HasSystemIn systems) (known (systems_in table.listed.header)) → IsReadable systems table
-readable systems table are is_table plain one has = by table.listed.header refl one has
+readable : (systems : List NamedSystem) (table : Loaded) → AreMeant (λ _. None) systems → IsListedTable table → IsNotOverSets table → IsOneWay table → AllByRecursion (HasSystemIn systems) (known (systems_in table.listed.header)) → IsReadable systems table
+readable systems table are listed plain one has = by table.listed.header refl one has
   where
     made : (header : Header) (tracks : List SystemValue) → table.listed.header ≡ header → AreSystemsUnder systems header tracks → HaveOneWay tracks → IsReadable systems table
     made header tracks is over one_way = record {
-      is_table = is_table;
+      is_table = listed.is_table;
+      is_word = listed.is_word;
       tracks = tracks;
       over = subst (λ (h : Header). AreSystemsUnder systems h tracks) (sym is) over;
       one_way = one_way;
@@ -79,23 +79,21 @@ readable systems table are is_table plain one has = by table.listed.header refl 
     by (Systems names) is ways under = let tracks = tracks_under systems names under in made (Systems names) tracks.0 is tracks.1 (under_one_way systems names tracks.0 are ways tracks.1)
     by (Sets sets) is ways under = absurd (plain sets is)
 
-all_readable : (systems : List NamedSystem) (files : Files) (named : List File) (tables : List Loaded) (h : Headers) → FilesAreTables → AreMeant (λ _. None) systems → AreListedBy files named tables
-    → AllByRecursion (IsKeptIn h) tables → AllByRecursion IsNotOverSets tables → AllByRecursion IsOneWay tables → AllByRecursion (λ (t : Loaded). AllByRecursion (HasSystemIn systems) (automaton_tracks h t.name)) tables → AreReadable systems tables
-all_readable systems files [] [] h law are listed own plain one has = tt
-all_readable systems files [] (table ∷ tables) h law are listed own plain one has = absurd listed
-all_readable systems files (file ∷ named) [] h law are listed own plain one has = absurd listed
-all_readable systems files (Word m ∷ named) (table ∷ tables) h law are listed own plain one has = absurd listed.0
-all_readable systems files (Automaton m ∷ named) (table ∷ tables) h law are listed own plain one has =
+all_readable : (systems : List NamedSystem) (tables : List Loaded) (h : Headers) → AreMeant (λ _. None) systems → AllByRecursion IsListedTable tables
+    → AllByRecursion (IsKeptIn h) tables → AllByRecursion IsNotOverSets tables → AllByRecursion IsOneWay tables → AllByRecursion (λ (t : Loaded). AllByRecursion (HasSystemIn systems) (file_tracks h t.file)) tables → AreReadable systems tables
+all_readable systems [] h are listed own plain one has = tt
+all_readable systems (table ∷ tables) h are listed own plain one has =
     let under : AllByRecursion (HasSystemIn systems) (known (systems_in table.listed.header)) = subst (AllByRecursion (HasSystemIn systems)) (tracks_kept h table own.0) has.0 in
-    (readable systems table are (law listed.0.text table.listed listed.0.lists.lists) plain.0 one.0 under, all_readable systems files named tables h law are listed.1 own.1 plain.1 one.1 has.1)
+    (readable systems table are listed.0 plain.0 one.0 under, all_readable systems tables h are listed.1 own.1 plain.1 one.1 has.1)
 
 -- the tables of a formula without fault are readable by the systems that it mentions
 pub tables_readable : FilesAreTables → (systems : List NamedSystem) (files : Files) (tables : List Loaded) (formula : trees.Formula) → IsOnce (first_files (mentions formula)) → AreListedBy files (first_files (mentions formula)) tables
     → fault_of (headers_of tables) formula ≡ None → HasSystems (first_systems (headers_of tables) (mentions formula)) systems → ((custom : Custom) → AreMeant custom systems) → AreReadable systems tables
 tables_readable law systems files tables formula once listed none has meant =
     let h : Headers = headers_of tables in
-    all_readable systems files (first_files (mentions formula)) tables h law (meant (λ _. None)) listed
-    (headers_kept tables (named_apart files (first_files (mentions formula)) tables once listed))
-    (none_over_sets files tables formula once listed none)
-    (tables_one_way files (first_files (mentions formula)) tables listed)
+    let named : List File = first_files (mentions formula) in
+    all_readable systems tables h (meant (λ _. None)) (tables_listed law files named tables listed)
+    (headers_kept tables (files_apart files named tables once listed))
+    (none_over_sets law files tables formula once listed none)
+    (tables_one_way files named tables listed)
     (tables_systems (HasSystemIn systems) h files (mentions formula) tables listed has.mentioned)

@@ -103,6 +103,7 @@ made_by_steps limit name tracks body shown pattern lines printed_lines automaton
     by_text (Err (faults.File of file flaw)) refused = absurd refused
     by_text (Err (faults.Arity of tracks given)) refused = absurd refused
     by_text (Err (faults.Clash of one two)) refused = absurd refused
+    by_text (Err (faults.WordGap of spelling)) refused = absurd refused
     by_text (Err (faults.Plain of)) refused = absurd refused
 
 -- the step over sets was made

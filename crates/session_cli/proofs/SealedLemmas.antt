@@ -104,6 +104,7 @@ unknown_after systems names i name (faults.Clash of one two) within is meant bef
 unknown_after systems names i name (faults.Direction one other) within is meant before refused = absurd refused
 unknown_after systems names i name (faults.Letters step) within is meant before refused = absurd refused
 unknown_after systems names i name (faults.States step) within is meant before refused = absurd refused
+unknown_after systems names i name (faults.WordGap of spelling) within is meant before refused = absurd refused
 unknown_after systems names i name (faults.Plain of) within is meant before refused = absurd refused
 unknown_after systems names i name (faults.Store folder of) within is meant before refused = absurd refused
 unknown_after systems names i name faults.ScriptLimit within is meant before refused = absurd refused
@@ -131,6 +132,7 @@ only_memory (faults.Clash of one two) refused = absurd refused
 only_memory (faults.Direction one other) refused = absurd refused
 only_memory (faults.Letters step) refused = absurd refused
 only_memory (faults.States step) refused = absurd refused
+only_memory (faults.WordGap of spelling) refused = absurd refused
 only_memory (faults.Plain of) refused = absurd refused
 only_memory (faults.Store folder of) refused = absurd refused
 only_memory faults.ScriptLimit refused = absurd refused

@@ -20,6 +20,7 @@ use Rattle.session_cli.specs.Tallies.{AddsFault, AddsResult, Counts, tally_statu
 use Rattle.session_cli.specs.Handing.{result_text}
 use Rattle.session_cli.specs.Ending.{ended_status, Finishes}
 use Rattle.session_cli.proofs.CommandSteps.{own_ledger, kept_store}
+use Rattle.session_cli.proofs.StoredEntries.{answer_stands}
 use Rattle.session_cli.proofs.RunSteps.{stores_first, stores_after, run_more, cuts_more, printed_more, some_of-append}
 
 -- what was answered and printed so far
@@ -118,7 +119,7 @@ goes_on limit script old mid new held told now place next tally counted text sho
       ledger = after stands.ledger c.answer;
       cut = cuts_more stands.items (start script) place item next stands.cut cut;
       run = run_more limit stands.items stands.answers (first_ledger old.files) stands.ledger old mid item c.answer new stands.run (step_of limit stands.ledger mid new text shown line a.result a.printed c);
-      stores = stores_after stands.ledger c.answer mid.files new.files stands.stores c.stored.files;
+      stores = stores_after stands.ledger c.answer mid.files new.files (answer_stands limit c.known text c.answer c.answered) stands.stores c.stored.files;
       sent = rw (printed_more limit stands.items stands.answers (first_ledger old.files) stands.ledger old mid item c.answer stands.run)
           (sends_then held told now (printed stands.items stands.answers) (line_of item c.answer) (Ok tt) stands.sent (rw text_is at a.sends));
       counts = counts_more tally counted stands.answers shown a.result a.printed c.answer c.gives stands.counts a.adds;
@@ -142,7 +143,7 @@ stops limit script from to old mid new held told now place next tally counted te
       cut = cuts_more stands.items (start script) place item next stands.cut cut;
       ledger = after stands.ledger c.answer;
       run = run_more limit stands.items stands.answers (first_ledger old.files) stands.ledger old mid item c.answer new stands.run (step_of limit stands.ledger mid new text shown line a.result a.printed c);
-      stores = stores_after stands.ledger c.answer mid.files new.files stands.stores c.stored.files;
+      stores = stores_after stands.ledger c.answer mid.files new.files (answer_stands limit c.known text c.answer c.answered) stands.stores c.stored.files;
       mid = told;
       sent = stands.sent;
       fault = fault;

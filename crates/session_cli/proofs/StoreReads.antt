@@ -47,6 +47,7 @@ kept store (faults.Unknown of file) other = refl
 kept store (faults.File of file flaw) other = refl
 kept store (faults.Arity of tracks given) other = refl
 kept store (faults.Clash of one two) other = refl
+kept store (faults.WordGap of spelling) other = refl
 kept store (faults.Plain of) other = refl
 
 -- a later fault that is not the store's keeps what was read before
@@ -69,6 +70,7 @@ moved old new (faults.Unknown of file) other is = is
 moved old new (faults.File of file flaw) other is = is
 moved old new (faults.Arity of tracks given) other is = is
 moved old new (faults.Clash of one two) other is = is
+moved old new (faults.WordGap of spelling) other is = is
 moved old new (faults.Plain of) other is = is
 
 -- what is no store fault
@@ -114,6 +116,7 @@ own_fault check none (faults.Unknown of file) refused = refl
 own_fault check none (faults.File of file flaw) refused = refl
 own_fault check none (faults.Arity of tracks given) refused = refl
 own_fault check none (faults.Clash of one two) refused = refl
+own_fault check none (faults.WordGap of spelling) refused = refl
 own_fault check none (faults.Plain of) refused = refl
 
 pub own_made : (checks : Check Success) → ((place : Place) → checks.reads place → ⊥) → (shown : Bool) (r : Result Made Fault) → Makes checks shown r → IsOwn r

@@ -1,4 +1,4 @@
--- The relations that are read of tables fit the headers of the tables, and stand under the names of the files.
+-- What is read of tables fits the headers of the tables, and stands under the names of the files.
 use Rattle.std.proofs.Common.{◌≡◌, ℕ, zero, suc, ◌<◌, Bool, true, false, List, [], ◌∷◌, length, get_or, Some, if◌then◌else◌, bytes_eq, refl, sym, ap, ◌∙◌, subst, arith}
 use Rattle.std.specs.List.{AllByRecursion, AllZip}
 use Rattle.std.proofs.lemmas.Option.{none-some}
@@ -10,37 +10,44 @@ use Rattle.dfa_loading.specs.Headers.{headers_of}
 use Rattle.dfa_loading.specs.Loading.{AreListedBy}
 use Rattle.dfa_loading.specs.declared.loaded.Loaded.{Loaded}
 use Rattle.num_system.specs.Sealed.{SystemValue}
-use Rattle.number_relations.specs.Relations.{RelationValue, absent_system}
+use Rattle.num_system.specs.Tracks.{absent_system}
+use Rattle.number_relations.specs.Relations.{RelationValue}
+use Rattle.word_output.specs.Words.{WordValue}
 use Rattle.formula_parse.specs.Tokens.{Name}
-use Rattle.formula_resolve.specs.Headers.{Headers, known, automaton_tracks}
+use Rattle.formula_resolve.specs.Headers.{Headers, known, automaton_tracks, word_tracks}
 use Rattle.formula_resolve.specs.declared.file.File.{File}
 use Rattle.formula_resolve.specs.declared.file.File.TheVariants.{Automaton, Word}
 use Rattle.formula_build.specs.KnownNames.{IsFileIn}
-use Rattle.formula_build.specs.Libraries.{NamedRelation, NamedSystem, LibraryValue, AreSealed, AreRelations, system_named, relation_named}
+use Rattle.formula_build.specs.Libraries.{NamedRelation, NamedWord, NamedSystem, AreSealed, AreRelations, AreWords, system_named, relation_named, word_named}
 use Rattle.formula_build.specs.Resolved.{plan_headers}
 use Rattle.formula_build.specs.Solutions.{way_named}
-use Rattle.formula_build.specs.TrackSystems.{IsOverSystems, Fits}
+use Rattle.formula_build.specs.TrackSystems.{IsOverSystems, IsWordOverSystems, Fits}
 use Rattle.definitions.specs.Named.{Custom}
 use Rattle.definitions.specs.TableLaws.{IsRelationOfTable, TablesHold}
-use Rattle.session_cli.specs.FormulaSteps.{AreMeant, AreSystemsUnder, IsTableRead, AreTablesRead}
+use Rattle.session_cli.specs.FormulaSteps.{AreMeant}
+use Rattle.session_cli.specs.TableReads.{TableRead, ARelation, AWord, relations_in, words_in, library_with, AreSystemsUnder, IsRelationRead, IsWordRead, IsTableRead, AreTablesRead}
 use Rattle.session_cli.specs.TableReading.{IsReadable, AreReadable}
 use Rattle.session_cli.proofs.MeantNames.{found_way}
-use Rattle.session_cli.proofs.TableNames.{AreNamedApart}
-use Rattle.session_cli.proofs.TableHeaders.{systems_in, IsKeptIn, headers_kept, tracks_kept}
+use Rattle.session_cli.proofs.TableFiles.{AreApart}
+use Rattle.session_cli.proofs.TableHeaders.{systems_in, IsKeptIn, headers_kept, file_tracks, tracks_kept}
 use Rattle.session_cli.proofs.TableRelations.{relation_of_table}
+use Rattle.session_cli.proofs.TableWords.{word_of_table}
 
--- the library of these relations and systems
-abbrev pub library_with : List NamedRelation → List NamedSystem → LibraryValue
-library_with read systems = record { relations = read; systems = systems }
-
--- some relations, by a table each
 module _ (hold : TablesHold) (systems : List NamedSystem) (sealed : AreSealed systems) where
-  -- what is read of readable tables are relations
-  pub are_relations : (tables : List Loaded) (read : List NamedRelation) (old new : StepLog) → AreReadable systems tables → AreTablesRead systems old tables read new → AreRelations read
+  -- what is read of readable tables are relations and words
+  pub are_relations : (tables : List Loaded) (reads : List TableRead) (old new : StepLog) → AreReadable systems tables → AreTablesRead systems old tables reads new → AreRelations (relations_in reads)
   are_relations [] [] old new readable made = tt
-  are_relations [] (r ∷ read) old new readable made = absurd made
+  are_relations [] (r ∷ reads) old new readable made = absurd made
   are_relations (table ∷ tables) [] old new readable made = absurd made
-  are_relations (table ∷ tables) (r ∷ read) old new readable (mid, first, rest) = ((relation_of_table hold systems sealed old mid table r readable.0 first).relation, are_relations tables read mid new readable.1 rest)
+  are_relations (table ∷ tables) (ARelation r ∷ reads) old new readable (mid, first, rest) = ((relation_of_table hold systems sealed old mid table r readable.0 first).relation, are_relations tables reads mid new readable.1 rest)
+  are_relations (table ∷ tables) (AWord w ∷ reads) old new readable (mid, first, rest) = are_relations tables reads mid new readable.1 rest
+
+  pub are_words : (tables : List Loaded) (reads : List TableRead) (old new : StepLog) → AreReadable systems tables → AreTablesRead systems old tables reads new → AreWords (words_in reads)
+  are_words [] [] old new readable made = tt
+  are_words [] (r ∷ reads) old new readable made = absurd made
+  are_words (table ∷ tables) [] old new readable made = absurd made
+  are_words (table ∷ tables) (ARelation r ∷ reads) old new readable (mid, first, rest) = are_words tables reads mid new readable.1 rest
+  are_words (table ∷ tables) (AWord w ∷ reads) old new readable (mid, first, rest) = (word_of_table systems sealed old mid table w readable.0 first, are_words tables reads mid new readable.1 rest)
 
   under_count : (names : List Name) (found : List SystemValue) → AllZip (λ name s. system_named systems name ≡ Some s) names found → length found ≡ length names
   under_count [] [] under = refl
@@ -54,66 +61,111 @@ module _ (hold : TablesHold) (systems : List NamedSystem) (sealed : AreSealed sy
   under_each (name ∷ names) (s ∷ found) zero under within = under.0
   under_each (name ∷ names) (s ∷ found) (suc i) under within = under_each names found i under.1 (omega (arith, within))
 
-  -- a relation has a track over each system of its table's header
-  over_header : (read : List NamedRelation) (header : Header) (found : List SystemValue) (r : RelationValue) → AreSystemsUnder systems header found → r.systems ≡ found → length r.systems ≡ length r.names → IsOverSystems (library_with read systems) (known (systems_in header)) r
-  over_header read (Truth value) found r under are count = record {
-    count = sym count ∙ ap length (are ∙ under);
-    each = λ i within. absurd (omega (arith, within));
-  }
-  over_header read (Systems names) found r under are count = record {
-    count = sym count ∙ ap length are ∙ under_count names found under;
-    each = λ i within. under_each names found i under within ∙ ap (λ (ss : List SystemValue). Some (get_or ss i absent_system)) (sym are);
-  }
-  over_header read (Sets sets) found r under are count = absurd under
+  -- there is a system for each track of a header, that of its name
+  record AreOver (names : List Name) (found : List SystemValue) : Type 0 where
+    count : length found ≡ length names
+    each : (i : ℕ) → i < length names → system_named systems (get_or names i []) ≡ Some (get_or found i absent_system)
 
-  over_table : (all : List NamedRelation) (h : Headers) (old new : StepLog) (table : Loaded) (r : NamedRelation) → IsKeptIn h table → IsReadable systems table → IsTableRead systems old table r new → IsOverSystems (library_with all systems) (automaton_tracks h table.name) r.relation
+  over_header : (header : Header) (found : List SystemValue) → AreSystemsUnder systems header found → AreOver (known (systems_in header)) found
+  over_header (Truth value) found under = record { count = ap length under; each = λ i within. absurd (omega (arith, within)) }
+  over_header (Systems names) found under = record { count = under_count names found under; each = λ i within. under_each names found i under within }
+  over_header (Sets sets) found under = absurd under
+
+  -- a relation has a track over each system of its table's header
+  over_table : (all : List TableRead) (h : Headers) (old new : StepLog) (table : Loaded) (r : NamedRelation) → IsKeptIn h table → IsReadable systems table → IsRelationRead systems old table r new → IsOverSystems (library_with all systems) (automaton_tracks h r.name) r.relation
   over_table all h old new table r kept readable read =
       let made : IsRelationOfTable read.tracks table.listed r.relation = relation_of_table hold systems sealed old new table r readable read in
-      subst (λ (names : List Name). IsOverSystems (library_with all systems) names r.relation) (sym (tracks_kept h table kept))
-      (over_header all table.listed.header read.tracks r.relation read.over made.systems_are made.relation.count)
+      let over : AreOver (known (systems_in table.listed.header)) read.tracks = over_header table.listed.header read.tracks read.over in
+      let own : IsOverSystems (library_with all systems) (known (systems_in table.listed.header)) r.relation = record {
+        count = sym made.relation.count ∙ ap length made.systems_are ∙ over.count;
+        each = λ i within. over.each i within ∙ ap (λ (ss : List SystemValue). Some (get_or ss i absent_system)) (sym made.systems_are);
+      } in
+      subst (λ (names : List Name). IsOverSystems (library_with all systems) names r.relation) (sym (tracks_kept h table kept) ∙ ap (file_tracks h) read.file_is) own
 
-  over_named : (all : List NamedRelation) (h : Headers) (tables : List Loaded) (read : List NamedRelation) (old new : StepLog) → AllByRecursion (IsKeptIn h) tables → AreReadable systems tables → AreTablesRead systems old tables read new
-      → (name : Name) (v : RelationValue) → relation_named read name ≡ Some v → IsOverSystems (library_with all systems) (automaton_tracks h name) v
+  -- and so has a word
+  word_over_table : (all : List TableRead) (h : Headers) (old new : StepLog) (table : Loaded) (w : NamedWord) → IsKeptIn h table → IsWordRead systems old table w new → IsWordOverSystems (library_with all systems) (word_tracks h w.name) w.word
+  word_over_table all h old new table w kept read =
+      let over : AreOver (known (systems_in table.listed.header)) read.tracks = over_header table.listed.header read.tracks read.over in
+      let own : IsWordOverSystems (library_with all systems) (known (systems_in table.listed.header)) w.word = record {
+        count = ap length read.done.systems_are ∙ over.count;
+        each = λ i within. over.each i within ∙ ap (λ (ss : List SystemValue). Some (get_or ss i absent_system)) (sym read.done.systems_are);
+      } in
+      subst (λ (names : List Name). IsWordOverSystems (library_with all systems) names w.word) (sym (tracks_kept h table kept) ∙ ap (file_tracks h) read.file_is) own
+
+  over_named : (all : List TableRead) (h : Headers) (tables : List Loaded) (reads : List TableRead) (old new : StepLog) → AllByRecursion (IsKeptIn h) tables → AreReadable systems tables → AreTablesRead systems old tables reads new
+      → (name : Name) (v : RelationValue) → relation_named (relations_in reads) name ≡ Some v → IsOverSystems (library_with all systems) (automaton_tracks h name) v
   over_named all h [] [] old new kept readable made name v is = absurd (none-some v is)
-  over_named all h [] (r ∷ read) old new kept readable made name v is = absurd made
+  over_named all h [] (r ∷ reads) old new kept readable made name v is = absurd made
   over_named all h (table ∷ tables) [] old new kept readable made name v is = absurd made
-  over_named all h (table ∷ tables) (r ∷ read) old new kept readable (mid, first, rest) name v is =
-      by (bytes_eq r.name name) refl is (over_named all h tables read mid new kept.1 readable.1 rest name v)
+  over_named all h (table ∷ tables) (AWord w ∷ reads) old new kept readable (mid, first, rest) name v is = over_named all h tables reads mid new kept.1 readable.1 rest name v is
+  over_named all h (table ∷ tables) (ARelation r ∷ reads) old new kept readable (mid, first, rest) name v is =
+      by (bytes_eq r.name name) refl is (over_named all h tables reads mid new kept.1 readable.1 rest name v)
     where
-      by : (b : Bool) → bytes_eq r.name name ≡ b → (if b then Some r.relation else relation_named read name) ≡ Some v → (relation_named read name ≡ Some v → IsOverSystems (library_with all systems) (automaton_tracks h name) v) → IsOverSystems (library_with all systems) (automaton_tracks h name) v
+      by : (b : Bool) → bytes_eq r.name name ≡ b → (if b then Some r.relation else relation_named (relations_in reads) name) ≡ Some v → (relation_named (relations_in reads) name ≡ Some v → IsOverSystems (library_with all systems) (automaton_tracks h name) v)
+          → IsOverSystems (library_with all systems) (automaton_tracks h name) v
       by true same found later =
           let one : r.relation ≡ v = let e : Some r.relation ≡ Some v = found in cc in
-          let at : table.name ≡ name = sym first.name_is ∙ (bytes_eq-Decides r.name name).0 same in
           let P : Name → Type 0 = λ n. IsOverSystems (library_with all systems) (automaton_tracks h n) r.relation in
-          subst (IsOverSystems (library_with all systems) (automaton_tracks h name)) one (subst P at (over_table all h old mid table r kept.0 readable.0 first))
+          subst (IsOverSystems (library_with all systems) (automaton_tracks h name)) one (subst P ((bytes_eq-Decides r.name name).0 same) (over_table all h old mid table r kept.0 readable.0 first))
       by false other found later = later found
 
-  -- relations of tables stand over the systems of their headers, and systems have the directions of their names
-  pub tables_fit : (custom : Custom) (tables : List Loaded) (read : List NamedRelation) (old new : StepLog) → AreMeant custom systems → AreNamedApart tables → AreReadable systems tables → AreTablesRead systems old tables read new → Fits (library_with read systems) (plan_headers (headers_of tables)) way_named
-  tables_fit custom tables read old new are apart readable made = record {
-    relations = over_named read (headers_of tables) tables read old new (headers_kept tables apart) readable made;
+  word_over_named : (all : List TableRead) (h : Headers) (tables : List Loaded) (reads : List TableRead) (old new : StepLog) → AllByRecursion (IsKeptIn h) tables → AreTablesRead systems old tables reads new
+      → (name : Name) (v : WordValue) → word_named (words_in reads) name ≡ Some v → IsWordOverSystems (library_with all systems) (word_tracks h name) v
+  word_over_named all h [] [] old new kept made name v is = absurd (none-some v is)
+  word_over_named all h [] (r ∷ reads) old new kept made name v is = absurd made
+  word_over_named all h (table ∷ tables) [] old new kept made name v is = absurd made
+  word_over_named all h (table ∷ tables) (ARelation r ∷ reads) old new kept (mid, first, rest) name v is = word_over_named all h tables reads mid new kept.1 rest name v is
+  word_over_named all h (table ∷ tables) (AWord w ∷ reads) old new kept (mid, first, rest) name v is =
+      by (bytes_eq w.name name) refl is (word_over_named all h tables reads mid new kept.1 rest name v)
+    where
+      by : (b : Bool) → bytes_eq w.name name ≡ b → (if b then Some w.word else word_named (words_in reads) name) ≡ Some v → (word_named (words_in reads) name ≡ Some v → IsWordOverSystems (library_with all systems) (word_tracks h name) v)
+          → IsWordOverSystems (library_with all systems) (word_tracks h name) v
+      by true same found later =
+          let one : w.word ≡ v = let e : Some w.word ≡ Some v = found in cc in
+          let P : Name → Type 0 = λ n. IsWordOverSystems (library_with all systems) (word_tracks h n) w.word in
+          subst (IsWordOverSystems (library_with all systems) (word_tracks h name)) one (subst P ((bytes_eq-Decides w.name name).0 same) (word_over_table all h old mid table w kept.0 first))
+      by false other found later = later found
+
+  -- what is read stands over the systems of the headers, and systems have the directions of their names
+  pub tables_fit : (custom : Custom) (tables : List Loaded) (reads : List TableRead) (old new : StepLog) → AreMeant custom systems → AreApart tables → AreReadable systems tables → AreTablesRead systems old tables reads new → Fits (library_with reads systems) (plan_headers (headers_of tables)) way_named
+  tables_fit custom tables reads old new are apart readable made = record {
+    relations = over_named reads (headers_of tables) tables reads old new (headers_kept tables apart) readable made;
+    words = word_over_named reads (headers_of tables) tables reads old new (headers_kept tables apart) made;
     directions = λ name s is. found_way custom systems name s are is;
   }
 
--- a relation stands under the name of each file
-more_known : (systems : List NamedSystem) (r : NamedRelation) (read : List NamedRelation) (file : File) → IsFileIn (library_with read systems) file → IsFileIn (library_with (r ∷ read) systems) file
-more_known systems r read (Automaton m) (v, is) = by (bytes_eq r.name m) refl
+-- something stands under the name of each file
+more_known : (systems : List NamedSystem) (r : TableRead) (reads : List TableRead) (file : File) → IsFileIn (library_with reads systems) file → IsFileIn (library_with (r ∷ reads) systems) file
+more_known systems (ARelation r) reads (Automaton m) (v, is) = by (bytes_eq r.name m) refl
   where
-    by : (b : Bool) → bytes_eq r.name m ≡ b → IsFileIn (library_with (r ∷ read) systems) (Automaton m)
-    by true same = (r.relation, ap (λ (c : Bool). if c then Some r.relation else relation_named read m) same)
-    by false other = (v, ap (λ (c : Bool). if c then Some r.relation else relation_named read m) other ∙ is)
-more_known systems r read (Word m) none = absurd none
+    by : (b : Bool) → bytes_eq r.name m ≡ b → IsFileIn (library_with (ARelation r ∷ reads) systems) (Automaton m)
+    by true same = (r.relation, ap (λ (c : Bool). if c then Some r.relation else relation_named (relations_in reads) m) same)
+    by false other = (v, ap (λ (c : Bool). if c then Some r.relation else relation_named (relations_in reads) m) other ∙ is)
+more_known systems (ARelation r) reads (Word m) known = known
+more_known systems (AWord w) reads (Automaton m) known = known
+more_known systems (AWord w) reads (Word m) (v, is) = by (bytes_eq w.name m) refl
+  where
+    by : (b : Bool) → bytes_eq w.name m ≡ b → IsFileIn (library_with (AWord w ∷ reads) systems) (Word m)
+    by true same = (w.word, ap (λ (c : Bool). if c then Some w.word else word_named (words_in reads) m) same)
+    by false other = (v, ap (λ (c : Bool). if c then Some w.word else word_named (words_in reads) m) other ∙ is)
 
-all_more_known : (systems : List NamedSystem) (r : NamedRelation) (read : List NamedRelation) (named : List File) → AllByRecursion (IsFileIn (library_with read systems)) named → AllByRecursion (IsFileIn (library_with (r ∷ read) systems)) named
-all_more_known systems r read [] all = tt
-all_more_known systems r read (file ∷ named) all = (more_known systems r read file all.0, all_more_known systems r read named all.1)
+all_more_known : (systems : List NamedSystem) (r : TableRead) (reads : List TableRead) (named : List File) → AllByRecursion (IsFileIn (library_with reads systems)) named → AllByRecursion (IsFileIn (library_with (r ∷ reads) systems)) named
+all_more_known systems r reads [] all = tt
+all_more_known systems r reads (file ∷ named) all = (more_known systems r reads file all.0, all_more_known systems r reads named all.1)
 
-pub files_known : (systems : List NamedSystem) (files : Files) (named : List File) (tables : List Loaded) (read : List NamedRelation) (old new : StepLog) → AreListedBy files named tables → AreTablesRead systems old tables read new → AllByRecursion (IsFileIn (library_with read systems)) named
-files_known systems files [] tables read old new listed made = tt
-files_known systems files (file ∷ named) [] read old new listed made = absurd listed
+own_known : (systems : List NamedSystem) (old new : StepLog) (table : Loaded) (r : TableRead) (reads : List TableRead) → IsTableRead systems old table r new → IsFileIn (library_with (r ∷ reads) systems) table.file
+own_known systems old new table (ARelation r) reads read =
+    subst (IsFileIn (library_with (ARelation r ∷ reads) systems)) (sym read.file_is)
+    (r.relation, ap (λ (c : Bool). if c then Some r.relation else relation_named (relations_in reads) r.name) ((bytes_eq-Decides r.name r.name).1 refl))
+own_known systems old new table (AWord w) reads read =
+    subst (IsFileIn (library_with (AWord w ∷ reads) systems)) (sym read.file_is)
+    (w.word, ap (λ (c : Bool). if c then Some w.word else word_named (words_in reads) w.name) ((bytes_eq-Decides w.name w.name).1 refl))
+
+pub files_known : (systems : List NamedSystem) (files : Files) (named : List File) (tables : List Loaded) (reads : List TableRead) (old new : StepLog) → AreListedBy files named tables → AreTablesRead systems old tables reads new → AllByRecursion (IsFileIn (library_with reads systems)) named
+files_known systems files [] tables reads old new listed made = tt
+files_known systems files (file ∷ named) [] reads old new listed made = absurd listed
 files_known systems files (file ∷ named) (table ∷ tables) [] old new listed made = absurd made
-files_known systems files (Word m ∷ named) (table ∷ tables) (r ∷ read) old new listed made = absurd listed.0
-files_known systems files (Automaton m ∷ named) (table ∷ tables) (r ∷ read) old new listed (mid, first, rest) =
-    let own : r.name ≡ m = first.name_is ∙ listed.0.lists.name_is in
-    let there : relation_named (r ∷ read) m ≡ Some r.relation = ap (λ (c : Bool). if c then Some r.relation else relation_named read m) ((bytes_eq-Decides r.name m).1 own) in
-    ((r.relation, there), all_more_known systems r read named (files_known systems files named tables read mid new listed.1 rest))
+files_known systems files (file ∷ named) (table ∷ tables) (r ∷ reads) old new listed (mid, first, rest) = (
+  subst (IsFileIn (library_with (r ∷ reads) systems)) listed.0.lists.file_is (own_known systems old mid table r reads first),
+  all_more_known systems r reads named (files_known systems files named tables reads mid new listed.1 rest),
+)

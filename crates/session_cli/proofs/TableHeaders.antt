@@ -1,6 +1,7 @@
--- What the headers of loaded tables tell of names.
+-- What the headers of loaded tables tell of files.
 use Rattle.std.proofs.Common.{◌≡◌, ◌≢◌, ℕ, Bool, true, false, cond, List, [], ◌∷◌, Option, None, Some, Ok, refl, sym, ap, ◌∙◌, subst, arith}
 use Rattle.std.specs.List.{AllByRecursion, fold}
+use Rattle.std.specs.Option.{option_map}
 use Rattle.std.specs.Ordering.{nat_cmp, is_eq, eq_by_cmp}
 use Rattle.std.specs.declared.cmp.Ordering.{Ordering}
 use Rattle.std.specs.declared.cmp.Ordering.TheVariants.{Less, Equal, Greater}
@@ -12,19 +13,20 @@ use Rattle.wal_outside.specs.Files.{Files}
 use Rattle.digit_tuple.specs.declared.direction.Direction.TheVariants.{Msd, Lsd}
 use Rattle.dfa_reading.specs.Headers.{Header, Truth, Systems, Sets}
 use Rattle.dfa_reading.specs.Reading.{relation_of}
-use Rattle.dfa_loading.specs.Headers.{with_header, with_table, headers_of}
+use Rattle.dfa_loading.specs.Headers.{with_header, with_word_header, with_file, with_table, headers_of}
 use Rattle.dfa_loading.specs.Loading.{AreListedBy}
 use Rattle.dfa_loading.specs.declared.loaded.Loaded.{Loaded}
 use Rattle.formula_parse.specs.Tokens.{Name}
-use Rattle.formula_resolve.specs.Headers.{Headers, no_headers, with_automaton, known, known_systems, automaton_tracks, word_tracks}
+use Rattle.formula_resolve.specs.FirstMentions.{is_same_file}
+use Rattle.formula_resolve.specs.Headers.{Headers, no_headers, with_automaton, with_word, known, known_systems, automaton_tracks, word_tracks}
 use Rattle.formula_resolve.specs.declared.file.File.{File}
 use Rattle.formula_resolve.specs.declared.file.File.TheVariants.{Automaton, Word}
 use Rattle.formula_build.specs.Resolved.{HaveOneWay, AreWays}
 use Rattle.formula_build.specs.Solutions.{way_named}
-use Rattle.session_cli.proofs.HeaderLines.{listed_one_way}
-use Rattle.session_cli.proofs.TableNames.{HasNo, AreNamedApart}
+use Rattle.session_cli.proofs.HeaderLines.{file_is_relation, listed_one_way}
+use Rattle.session_cli.proofs.TableFiles.{HasNo, AreApart, same_itself, same_files}
 
--- the systems of a header, as headers keep them; sets are none
+-- the systems of a header; sets are none
 abbrev pub systems_in : Header → Option (List Name)
 systems_in (Truth value) = Some []
 systems_in (Systems names) = Some names
@@ -36,14 +38,23 @@ with_header_is h name (Truth value) = refl
 with_header_is h name (Systems names) = refl
 with_header_is h name (Sets sets) = refl
 
--- what is there for an automaton's name
-abbrev pub kept : Headers → Name → Option (Option (List Name))
-kept h name = finite.get h.automata name
+with_word_is : (h : Headers) (name : Name) (header : Header) → with_word_header h name header ≡ with_word h name (known (systems_in header))
+with_word_is h name (Truth value) = refl
+with_word_is h name (Systems names) = refl
+with_word_is h name (Sets sets) = refl
 
-kept_with : (h : Headers) (table : Loaded) (name : Name) → kept (with_table h table) name ≡ cond (eq_by_cmp (slice_cmp nat_cmp) name table.name) (Some (systems_in table.listed.header)) (kept h name)
-kept_with h table name =
-    ap (λ (g : Headers). kept g name) (with_header_is h table.name table.listed.header)
-    ∙ get-insert nat_list_cmp_total h.automata table.name (systems_in table.listed.header) name
+abbrev known_word : Option (List Name) → Option (Option (List Name))
+known_word o = option_map (λ (tracks : List Name). Some tracks) o
+
+-- what is there for a file: the systems of its tracks, or that it is over sets
+abbrev pub kept : Headers → File → Option (Option (List Name))
+kept h (Automaton name) = finite.get h.automata name
+kept h (Word name) = known_word (finite.get h.words name)
+
+-- what is kept of a file with this header
+abbrev pub kept_of : File → Header → Option (List Name)
+kept_of (Automaton name) header = systems_in header
+kept_of (Word name) header = Some (known (systems_in header))
 
 ties_same : (name : Name) → eq_by_cmp (slice_cmp nat_cmp) name name ≡ true
 ties_same name = ap is_eq (tied_itself nat_list_cmp_total name)
@@ -56,43 +67,64 @@ ties_apart name other apart = by (slice_cmp nat_cmp name other) refl
     by Equal e = absurd (apart (slice_cmp-IsAntisymmetric nat_cmp-IsAntisymmetric name other e))
     by Greater e = refl
 
-kept_same : (h : Headers) (table : Loaded) → kept (with_table h table) table.name ≡ Some (systems_in table.listed.header)
-kept_same h table = kept_with h table table.name ∙ ap (λ b. cond b (Some (systems_in table.listed.header)) (kept h table.name)) (ties_same table.name)
+module _ (h : Headers) (name : Name) (header : Header) where
+  -- what is found after one automaton more
+  automaton_found : (other : Name) → finite.get (with_header h name header).automata other ≡ cond (eq_by_cmp (slice_cmp nat_cmp) other name) (Some (systems_in header)) (finite.get h.automata other)
+  automaton_found other = ap (λ (g : Headers). finite.get g.automata other) (with_header_is h name header) ∙ get-insert nat_list_cmp_total h.automata name (systems_in header) other
 
-kept_other : (h : Headers) (table : Loaded) (name : Name) → table.name ≢ name → kept (with_table h table) name ≡ kept h name
-kept_other h table name apart = kept_with h table name ∙ ap (λ b. cond b (Some (systems_in table.listed.header)) (kept h name)) (ties_apart name table.name (λ same. apart (sym same)))
+  -- and after one word more
+  word_found : (other : Name) → finite.get (with_word_header h name header).words other ≡ cond (eq_by_cmp (slice_cmp nat_cmp) other name) (Some (known (systems_in header))) (finite.get h.words other)
+  word_found other = ap (λ (g : Headers). finite.get g.words other) (with_word_is h name header) ∙ get-insert nat_list_cmp_total h.words name (known (systems_in header)) other
 
--- tables of other names leave what is there
-kept_after : (h : Headers) (tables : List Loaded) (name : Name) → HasNo name tables → kept (fold with_table h tables) name ≡ kept h name
-kept_after h [] name none = refl
-kept_after h (table ∷ tables) name none = kept_after (with_table h table) tables name none.1 ∙ kept_other h table name none.0
+pub kept_same : (h : Headers) (file : File) (header : Header) → kept (with_file h file header) file ≡ Some (kept_of file header)
+kept_same h (Automaton name) header = automaton_found h name header name ∙ ap (λ b. cond b (Some (systems_in header)) (finite.get h.automata name)) (ties_same name)
+kept_same h (Word name) header = ap known_word (word_found h name header name ∙ ap (λ b. cond b (Some (known (systems_in header))) (finite.get h.words name)) (ties_same name))
 
--- the header of a table is found under its name
+kept_other : (h : Headers) (file : File) (header : Header) (other : File) → file ≢ other → kept (with_file h file header) other ≡ kept h other
+kept_other h (Automaton name) header (Automaton other) apart =
+    automaton_found h name header other ∙ ap (λ b. cond b (Some (systems_in header)) (finite.get h.automata other)) (ties_apart other name (λ same. apart (ap Automaton (sym same))))
+kept_other h (Automaton name) header (Word other) apart = ap (λ (g : Headers). kept g (Word other)) (with_header_is h name header)
+kept_other h (Word name) header (Automaton other) apart = ap (λ (g : Headers). kept g (Automaton other)) (with_word_is h name header)
+kept_other h (Word name) header (Word other) apart =
+    ap known_word (word_found h name header other ∙ ap (λ b. cond b (Some (known (systems_in header))) (finite.get h.words other)) (ties_apart other name (λ same. apart (ap Word (sym same)))))
+
+-- tables of other files leave what is there
+kept_after : (h : Headers) (tables : List Loaded) (file : File) → HasNo file tables → kept (fold with_table h tables) file ≡ kept h file
+kept_after h [] file none = refl
+kept_after h (table ∷ tables) file none = kept_after (with_table h table) tables file none.1 ∙ kept_other h table.file table.listed.header file none.0
+
+-- the header of a table is found under its file
 abbrev pub IsKeptIn : Headers → Loaded → Type 0
-IsKeptIn h table = kept h table.name ≡ Some (systems_in table.listed.header)
+IsKeptIn h table = kept h table.file ≡ Some (kept_of table.file table.listed.header)
 
-all_kept : (h : Headers) (tables : List Loaded) → AreNamedApart tables → AllByRecursion (IsKeptIn (fold with_table h tables)) tables
+all_kept : (h : Headers) (tables : List Loaded) → AreApart tables → AllByRecursion (IsKeptIn (fold with_table h tables)) tables
 all_kept h [] apart = tt
-all_kept h (table ∷ tables) apart = (kept_after (with_table h table) tables table.name apart.0 ∙ kept_same h table, all_kept (with_table h table) tables apart.1)
+all_kept h (table ∷ tables) apart =
+    (kept_after (with_table h table) tables table.file apart.0 ∙ kept_same h table.file table.listed.header, all_kept (with_table h table) tables apart.1)
 
-pub headers_kept : (tables : List Loaded) → AreNamedApart tables → AllByRecursion (IsKeptIn (headers_of tables)) tables
+pub headers_kept : (tables : List Loaded) → AreApart tables → AllByRecursion (IsKeptIn (headers_of tables)) tables
 headers_kept tables apart = all_kept no_headers tables apart
 
--- so are the systems of its tracks
-pub tracks_kept : (h : Headers) (table : Loaded) → IsKeptIn h table → automaton_tracks h table.name ≡ known (systems_in table.listed.header)
-tracks_kept h table is = ap known_systems is
+-- the systems of the tracks of a file
+abbrev pub file_tracks : Headers → File → List Name
+file_tracks h (Automaton name) = automaton_tracks h name
+file_tracks h (Word name) = word_tracks h name
 
--- nothing is found under a name of no table
-pub none_kept : (tables : List Loaded) (name : Name) → HasNo name tables → automaton_tracks (headers_of tables) name ≡ []
-none_kept tables name none = ap known_systems (kept_after no_headers tables name none ∙ get-empty (slice_cmp nat_cmp) name)
+known_tracks : (o : Option (List Name)) → known o ≡ known_systems (known_word o)
+known_tracks None = refl
+known_tracks (Some tracks) = refl
 
--- tables are no words
-words_after : (h : Headers) (tables : List Loaded) (name : Name) → word_tracks (fold with_table h tables) name ≡ word_tracks h name
-words_after h [] name = refl
-words_after h (table ∷ tables) name = words_after (with_table h table) tables name ∙ ap (λ (g : Headers). word_tracks g name) (with_header_is h table.name table.listed.header)
+tracks_known : (h : Headers) (file : File) → file_tracks h file ≡ known_systems (kept h file)
+tracks_known h (Automaton name) = refl
+tracks_known h (Word name) = known_tracks (finite.get h.words name)
 
-pub no_word_tracks : (tables : List Loaded) (name : Name) → word_tracks (headers_of tables) name ≡ []
-no_word_tracks tables name = words_after no_headers tables name ∙ ap known (get-empty (slice_cmp nat_cmp) name)
+known_kept : (file : File) (header : Header) → known (kept_of file header) ≡ known (systems_in header)
+known_kept (Automaton name) header = refl
+known_kept (Word name) header = refl
+
+-- those of a table are those of its header
+pub tracks_kept : (h : Headers) (table : Loaded) → IsKeptIn h table → file_tracks h table.file ≡ known (systems_in table.listed.header)
+tracks_kept h table is = tracks_known h table.file ∙ ap known_systems is ∙ known_kept table.file table.listed.header
 
 -- the systems of a table have one direction
 abbrev pub IsOneWay : Loaded → Type 0
@@ -113,28 +145,42 @@ pub tables_one_way : (files : Files) (named : List File) (tables : List Loaded) 
 tables_one_way files [] [] are = tt
 tables_one_way files [] (table ∷ tables) are = absurd are
 tables_one_way files (file ∷ named) [] are = absurd are
-tables_one_way files (Word m ∷ named) (table ∷ tables) are = absurd are.0
-tables_one_way files (Automaton m ∷ named) (table ∷ tables) are = (table_one_way are.0.text table are.0.lists.lists, tables_one_way files named tables are.1)
+tables_one_way files (file ∷ named) (table ∷ tables) are = (table_one_way are.0.text table (file_is_relation file are.0.text table.listed are.0.lists.lists), tables_one_way files named tables are.1)
 
--- so no two directions meet under a name
+-- so no two directions meet under a file
 abbrev AreOneWay : Headers → Type 0
-AreOneWay h = (name : Name) → HaveOneWay way_named (automaton_tracks h name)
+AreOneWay h = (file : File) → HaveOneWay way_named (file_tracks h file)
 
-one_way_with : (h : Headers) (table : Loaded) → IsOneWay table → AreOneWay h → AreOneWay (with_table h table)
-one_way_with h table own before name = subst (λ k. HaveOneWay way_named (known_systems k)) (sym (kept_with h table name)) (by (eq_by_cmp (slice_cmp nat_cmp) name table.name))
+one_way_none : AreOneWay no_headers
+one_way_none (Automaton name) = subst (HaveOneWay way_named) (sym (ap known_systems (get-empty (slice_cmp nat_cmp) name))) none_parted
+one_way_none (Word name) = subst (HaveOneWay way_named) (sym (ap known (get-empty (slice_cmp nat_cmp) name))) none_parted
+
+one_way_with : (h : Headers) (file : File) (header : Header) → HaveOneWay way_named (known (systems_in header)) → AreOneWay h → AreOneWay (with_file h file header)
+one_way_with h file header own before other = subst (HaveOneWay way_named) (sym (tracks_known (with_file h file header) other)) (by (is_same_file file other) refl)
   where
-    by : (b : Bool) → HaveOneWay way_named (known_systems (cond b (Some (systems_in table.listed.header)) (kept h name)))
-    by true = own
-    by false = before name
+    IsOfOneWay : Option (Option (List Name)) → Type 0
+    IsOfOneWay there = HaveOneWay way_named (known_systems there)
+
+    here : IsOfOneWay (kept (with_file h file header) file)
+    here = subst IsOfOneWay (sym (kept_same h file header)) (subst (HaveOneWay way_named) (sym (known_kept file header)) own)
+
+    by : (b : Bool) → is_same_file file other ≡ b → IsOfOneWay (kept (with_file h file header) other)
+    by true same = subst (λ (f : File). IsOfOneWay (kept (with_file h file header) f)) (same_files file other same) here
+    by false apart =
+        let unlike : file ≢ other = λ is. let yes : is_same_file file other ≡ true = subst (λ (f : File). is_same_file file f ≡ true) is (same_itself file) in cc in
+        subst IsOfOneWay (sym (kept_other h file header other unlike)) (subst (HaveOneWay way_named) (tracks_known h other) (before other))
 
 one_way_after : (h : Headers) (tables : List Loaded) → AllByRecursion IsOneWay tables → AreOneWay h → AreOneWay (fold with_table h tables)
 one_way_after h [] own before = before
-one_way_after h (table ∷ tables) own before = one_way_after (with_table h table) tables own.1 (one_way_with h table own.0 before)
+one_way_after h (table ∷ tables) own before = one_way_after (with_table h table) tables own.1 (one_way_with h table.file table.listed.header own.0 before)
 
 -- the headers of tables that were listed are of one direction each
 pub table_ways : (files : Files) (named : List File) (tables : List Loaded) → AreListedBy files named tables → AreWays (headers_of tables) way_named
 table_ways files named tables are = record {
   by_name = λ s t same. ap (λ b. cond b Lsd Msd) same;
-  of_automaton = one_way_after no_headers tables (tables_one_way files named tables are) (λ name. subst (HaveOneWay way_named) (sym (ap known_systems (get-empty (slice_cmp nat_cmp) name))) none_parted);
-  of_word = λ name. subst (HaveOneWay way_named) (sym (no_word_tracks tables name)) none_parted;
+  of_automaton = λ name. all (Automaton name);
+  of_word = λ name. all (Word name);
 }
+  where
+    all : AreOneWay (headers_of tables)
+    all = one_way_after no_headers tables (tables_one_way files named tables are) one_way_none

@@ -1,30 +1,34 @@
 -- The names of a formula mean the same in its library and by the definitions of the ledger.
-use Rattle.std.proofs.Common.{◌≡◌, ◌≢◌, ◌↔◌, ◌⊎◌, inl, inr, ℕ, Bool, true, false, List, [], ◌∷◌, Option, None, Some, if◌then◌else◌, bytes_eq, refl, sym, ap, ◌∙◌, subst}
-use Rattle.std.specs.List.{fold}
+use Rattle.std.proofs.Common.{◌≡◌, ◌≢◌, ◌↔◌, inl, inr, ℕ, ℤ, Bool, true, false, List, [], ◌∷◌, Option, None, Some, if◌then◌else◌, bytes_eq, refl, sym, ap, ◌∙◌, subst}
 use Rattle.std.proofs.lemmas.Option.{none-some}
 use Rattle.std.proofs.lemmas.Slice.Eq.{bytes_eq-Decides}
 use Rattle.digit_tuple.specs.Steps.{StepLog}
 use Rattle.wal_outside.specs.Files.{Files}
-use Rattle.wal_outside.specs.declared.folder.Folder.TheVariants.{Automata}
+use Rattle.wal_outside.specs.declared.folder.Folder.{Folder}
+use Rattle.wal_outside.specs.declared.folder.Folder.TheVariants.{Automata, Words}
 use Rattle.dfa_loading.specs.Loading.{AreListedBy}
-use Rattle.dfa_loading.specs.Places.{IsListedAt}
+use Rattle.dfa_loading.specs.Places.{IsListedBy}
 use Rattle.dfa_loading.specs.declared.loaded.Loaded.{Loaded}
 use Rattle.number_relations.specs.Relations.{RelationValue, RelationHolds}
+use Rattle.word_output.specs.Words.{WordValue, HasLetter}
 use Rattle.formula_resolve.specs.FirstMentions.{IsOnce}
 use Rattle.formula_resolve.specs.declared.file.File.{File}
 use Rattle.formula_resolve.specs.declared.file.File.TheVariants.{Automaton, Word}
 use Rattle.formula_truth.proofs.MeaningLemmas.{MeanTheSame}
-use Rattle.formula_build.specs.Libraries.{NamedRelation, NamedSystem, AreSealed, relation_named, meanings_of}
-use Rattle.definitions.specs.Laws.{TextsMeanTheirTrees}
+use Rattle.formula_build.specs.Libraries.{NamedRelation, NamedWord, NamedSystem, AreSealed, relation_named, word_named, meanings_of}
+use Rattle.definitions.specs.Laws.{TextsMeanTheirTrees, WordTextsMeanTheirTrees}
 use Rattle.definitions.specs.TableLaws.{TablesHold}
 use Rattle.definitions.specs.Texts.{HasTreeText}
-use Rattle.definitions.specs.TreeMeanings.{chosen, tree_holds, bound_holds, meanings_in}
-use Rattle.definitions.specs.Trees.{Entry, Bytes, Defined, Ledger, Bindings, unbound, tree_of, with_entry, with_file, bindings_of}
-use Rattle.session_cli.specs.FormulaSteps.{AreMeant, IsTableRead, AreTablesRead}
+use Rattle.definitions.specs.TreeMeanings.{tree_holds, bound_holds, tree_letter, bound_letter, meanings_in}
+use Rattle.definitions.specs.Trees.{Tree, Entry, Bytes, Defined, Ledger, Bindings, unbound, tree_of, bindings_of}
+use Rattle.definitions.specs.WordLaws.{WordsHaveFileLetters}
+use Rattle.session_cli.specs.FormulaSteps.{AreMeant}
+use Rattle.session_cli.specs.TableReads.{TableRead, ARelation, AWord, relations_in, words_in, library_with, IsTableRead, IsRelationRead, IsWordRead, AreTablesRead}
 use Rattle.session_cli.specs.TableReading.{IsReadable, AreReadable}
-use Rattle.session_cli.specs.Texts.{no_custom, HasText, HasTextAt, Stores}
-use Rattle.session_cli.proofs.TableNames.{HasNo, AreNamedApart, named_apart}
+use Rattle.session_cli.specs.Texts.{no_custom, HasText, HasTextIn, HasTextAt, Stores}
+use Rattle.session_cli.proofs.BoundFiles.{file_of, AreMeantAs, AreUnlike, are_unlike, bound_there, bound_back}
 use Rattle.session_cli.proofs.TableRelations.{relation_holds}
+use Rattle.session_cli.proofs.TableWords.{word_letters}
 
 -- the text of an entry is that of its definition
 tree_text : (entry : Entry) (text : List ℕ) → HasText entry text → HasTreeText no_custom (tree_of entry) text
@@ -32,11 +36,11 @@ tree_text (Bytes bytes) text has = has
 tree_text (Defined tree) text has = has
 
 -- where there is a text there is an entry
-entry_there : (entry : Option Entry) (text : Option (List ℕ)) (bytes : List ℕ) → HasTextAt entry text → text ≡ Some bytes → (e : Entry) × (entry ≡ Some e) × HasText e bytes
-entry_there None None bytes has is = absurd (none-some bytes is)
-entry_there None (Some text) bytes has is = absurd has
-entry_there (Some e) None bytes has is = absurd has
-entry_there (Some e) (Some text) bytes has is = (e, refl, subst (HasText e) same has)
+entry_there : (folder : Folder) (entry : Option Entry) (text : Option (List ℕ)) (bytes : List ℕ) → HasTextAt folder entry text → text ≡ Some bytes → (e : Entry) × (entry ≡ Some e) × HasTextIn folder e bytes
+entry_there folder None None bytes has is = absurd (none-some bytes is)
+entry_there folder None (Some text) bytes has is = absurd has
+entry_there folder (Some e) None bytes has is = absurd has
+entry_there folder (Some e) (Some text) bytes has is = (e, refl, subst (HasTextIn folder e) same has)
   where
     same : text ≡ bytes
     same = cc
@@ -47,139 +51,182 @@ pub record HoldsAs (ledger : Ledger) (name : List ℕ) (r : RelationValue) : Typ
   pub there : ledger Automata name ≡ Some entry
   pub same : (ns : List ℕ) → RelationHolds r ns ↔ tree_holds no_custom (tree_of entry) ns
 
--- the numbers of which an automaton's name holds by these bindings
-abbrev IsBoundTo : Bindings → List ℕ → List ℕ → Type 0
-IsBoundTo bindings name ns = bound_holds no_custom bindings Automata name ns
+-- what stands under the name has the letters that the word has
+pub record HasLettersAs (ledger : Ledger) (name : List ℕ) (w : WordValue) : Type 0 where
+  pub entry : Entry
+  pub there : ledger Words name ≡ Some entry
+  pub same : (ns : List ℕ) (letter : ℤ) → HasLetter w ns letter ↔ tree_letter no_custom (tree_of entry) ns letter
 
--- the numbers of which the relation of this name holds
-abbrev NamedHolds : List NamedRelation → List ℕ → List ℕ → Type 0
-NamedHolds read name ns = (r : RelationValue) × (relation_named read name ≡ Some r) × RelationHolds r ns
+-- what was read means the same as what the ledger has under its name
+abbrev pub MeansAs : Ledger → TableRead → Type 0
+MeansAs ledger (ARelation r) = HoldsAs ledger r.name r.relation
+MeansAs ledger (AWord w) = HasLettersAs ledger w.name w.word
 
--- one name more that is bound
-bound_is : (ledger : Ledger) (bindings : Bindings) (at name ns : List ℕ) (entry : Entry) → ledger Automata at ≡ Some entry → IsBoundTo (with_file ledger bindings (Automaton at)) name ns ≡ chosen (bytes_eq at name) (tree_holds no_custom (tree_of entry) ns) (IsBoundTo bindings name ns)
-bound_is ledger bindings at name ns entry there = ap (λ (e : Option Entry). IsBoundTo (with_entry bindings Automata at e) name ns) there
+-- the names of the same kind of file are the same
+automata_same : (m n : List ℕ) → Automaton m ≡ Automaton n → m ≡ n
+automata_same m n same = cc
 
-module _ (texts_mean : TextsMeanTheirTrees) (tables_hold : TablesHold) where
+words_same : (m n : List ℕ) → Word m ≡ Word n → m ≡ n
+words_same m n same = cc
+
+module _ (ledger : Ledger) (name ns : List ℕ) where
+  -- the numbers of which an automaton's name holds by these bindings
+  abbrev IsBoundTo : Bindings → Type 0
+  IsBoundTo bindings = bound_holds no_custom bindings Automata name ns
+
+  abbrev TreeHolds : Tree → Type 0
+  TreeHolds tree = tree_holds no_custom tree ns
+
+  -- the numbers of which the relation of this name holds
+  abbrev NamedHolds : List TableRead → Type 0
+  NamedHolds reads = (r : RelationValue) × (relation_named (relations_in reads) name ≡ Some r) × RelationHolds r ns
+
+  relation_none : NamedHolds [] → ⊥
+  relation_none (v, is, holds) = none-some v is
+
+  relation_first : (r : TableRead) (reads : List TableRead) → file_of r ≡ Automaton name → MeansAs ledger r → (entry : Entry) × (ledger Automata name ≡ Some entry) × (NamedHolds (r ∷ reads) ↔ TreeHolds (tree_of entry))
+  relation_first (AWord w) reads same like = absurd (cc)
+  relation_first (ARelation r) reads same like = (like.entry, ap (ledger Automata) (sym own) ∙ like.there, (there, back))
+    where
+      own : r.name ≡ name
+      own = automata_same r.name name same
+
+      found : relation_named (r ∷ relations_in reads) name ≡ Some r.relation
+      found = ap (λ (c : Bool). if c then Some r.relation else relation_named (relations_in reads) name) ((bytes_eq-Decides r.name name).1 own)
+
+      there : NamedHolds (ARelation r ∷ reads) → TreeHolds (tree_of like.entry)
+      there (v, is, holds) =
+          let one : v ≡ r.relation = let e : Some v ≡ Some r.relation = sym is ∙ found in cc in
+          (like.same ns).0 (subst (λ (x : RelationValue). RelationHolds x ns) one holds)
+
+      back : TreeHolds (tree_of like.entry) → NamedHolds (ARelation r ∷ reads)
+      back holds = (r.relation, found, (like.same ns).1 holds)
+
+  relation_other : (r : TableRead) (reads : List TableRead) → file_of r ≢ Automaton name → NamedHolds (r ∷ reads) ↔ NamedHolds reads
+  relation_other (AWord w) reads apart = (λ h. h, λ h. h)
+  relation_other (ARelation r) reads apart = by (bytes_eq r.name name) refl
+    where
+      by : (b : Bool) → bytes_eq r.name name ≡ b → NamedHolds (ARelation r ∷ reads) ↔ NamedHolds reads
+      by true same = absurd (apart (ap Automaton ((bytes_eq-Decides r.name name).0 same)))
+      by false other =
+          let skipped : relation_named (r ∷ relations_in reads) name ≡ relation_named (relations_in reads) name = ap (λ (c : Bool). if c then Some r.relation else relation_named (relations_in reads) name) other in
+          (λ (h : NamedHolds (ARelation r ∷ reads)). (h.0, sym skipped ∙ h.1, h.2), λ (h : NamedHolds reads). (h.0, skipped ∙ h.1, h.2))
+
+  module _ (named : List File) (reads : List TableRead) (apart : AreUnlike named) (like : AreMeantAs (MeansAs ledger) named reads) where
+    -- the relation of the name holds of the numbers of which what the name is bound to does
+    holds_bound : NamedHolds reads → IsBoundTo (bindings_of ledger named)
+    holds_bound holds = bound_there ledger (Automaton name) IsBoundTo TreeHolds (λ bindings at under tree. refl) (MeansAs ledger) NamedHolds relation_none relation_first relation_other named reads unbound apart like holds
+
+    bound_held : IsBoundTo (bindings_of ledger named) → NamedHolds reads
+    bound_held holds = elim (bound_back ledger (Automaton name) IsBoundTo TreeHolds (λ bindings at under tree. refl) (MeansAs ledger) NamedHolds relation_none relation_first relation_other named reads unbound apart like holds) [ inl found ↦ found | inr none ↦ absurd none ]
+
+module _ (ledger : Ledger) (name ns : List ℕ) (letter : ℤ) where
+  -- the letter that a word's name has by these bindings
+  abbrev IsLettered : Bindings → Type 0
+  IsLettered bindings = bound_letter no_custom bindings Words name ns letter
+
+  abbrev TreeLetter : Tree → Type 0
+  TreeLetter tree = tree_letter no_custom tree ns letter
+
+  -- the letter of the word of this name
+  abbrev NamedLetter : List TableRead → Type 0
+  NamedLetter reads = (w : WordValue) × (word_named (words_in reads) name ≡ Some w) × HasLetter w ns letter
+
+  word_none : NamedLetter [] → ⊥
+  word_none (v, is, has) = none-some v is
+
+  word_first : (r : TableRead) (reads : List TableRead) → file_of r ≡ Word name → MeansAs ledger r → (entry : Entry) × (ledger Words name ≡ Some entry) × (NamedLetter (r ∷ reads) ↔ TreeLetter (tree_of entry))
+  word_first (ARelation r) reads same like = absurd (cc)
+  word_first (AWord w) reads same like = (like.entry, ap (ledger Words) (sym own) ∙ like.there, (there, back))
+    where
+      own : w.name ≡ name
+      own = words_same w.name name same
+
+      found : word_named (w ∷ words_in reads) name ≡ Some w.word
+      found = ap (λ (c : Bool). if c then Some w.word else word_named (words_in reads) name) ((bytes_eq-Decides w.name name).1 own)
+
+      there : NamedLetter (AWord w ∷ reads) → TreeLetter (tree_of like.entry)
+      there (v, is, has) =
+          let one : v ≡ w.word = let e : Some v ≡ Some w.word = sym is ∙ found in cc in
+          (like.same ns letter).0 (subst (λ (x : WordValue). HasLetter x ns letter) one has)
+
+      back : TreeLetter (tree_of like.entry) → NamedLetter (AWord w ∷ reads)
+      back has = (w.word, found, (like.same ns letter).1 has)
+
+  word_other : (r : TableRead) (reads : List TableRead) → file_of r ≢ Word name → NamedLetter (r ∷ reads) ↔ NamedLetter reads
+  word_other (ARelation r) reads apart = (λ h. h, λ h. h)
+  word_other (AWord w) reads apart = by (bytes_eq w.name name) refl
+    where
+      by : (b : Bool) → bytes_eq w.name name ≡ b → NamedLetter (AWord w ∷ reads) ↔ NamedLetter reads
+      by true same = absurd (apart (ap Word ((bytes_eq-Decides w.name name).0 same)))
+      by false other =
+          let skipped : word_named (w ∷ words_in reads) name ≡ word_named (words_in reads) name = ap (λ (c : Bool). if c then Some w.word else word_named (words_in reads) name) other in
+          (λ (h : NamedLetter (AWord w ∷ reads)). (h.0, sym skipped ∙ h.1, h.2), λ (h : NamedLetter reads). (h.0, skipped ∙ h.1, h.2))
+
+  module _ (named : List File) (reads : List TableRead) (apart : AreUnlike named) (like : AreMeantAs (MeansAs ledger) named reads) where
+    -- the word of the name has the letters that what the name is bound to has
+    letter_bound : NamedLetter reads → IsLettered (bindings_of ledger named)
+    letter_bound has = bound_there ledger (Word name) IsLettered TreeLetter (λ bindings at under tree. refl) (MeansAs ledger) NamedLetter word_none word_first word_other named reads unbound apart like has
+
+    bound_lettered : IsLettered (bindings_of ledger named) → NamedLetter reads
+    bound_lettered has = elim (bound_back ledger (Word name) IsLettered TreeLetter (λ bindings at under tree. refl) (MeansAs ledger) NamedLetter word_none word_first word_other named reads unbound apart like has) [ inl found ↦ found | inr none ↦ absurd none ]
+
+-- the laws of definitions by which what is read of a file means what the file does
+pub record MeaningLaws : Type 0 where
+  pub texts : TextsMeanTheirTrees
+  pub words : WordTextsMeanTheirTrees
+  pub tables : TablesHold
+  pub letters : WordsHaveFileLetters
+
+module _ (laws : MeaningLaws) (ledger : Ledger) (files : Files) (systems : List NamedSystem) (stores : Stores ledger files) (sealed : AreSealed systems) (are : AreMeant no_custom systems) where
   -- a relation that is read of a table holds as what the ledger has under the table's name
-  table_holds_as : (ledger : Ledger) (files : Files) (systems : List NamedSystem) → Stores ledger files → AreSealed systems → AreMeant no_custom systems → (name : List ℕ) (table : Loaded) (old new : StepLog) (r : NamedRelation) → IsListedAt files (Automata, name) table
-      → IsReadable systems table → IsTableRead systems old table r new → HoldsAs ledger name r.relation
-  table_holds_as ledger files systems stores sealed are name table old new r listed readable read =
-      let found = entry_there (ledger Automata name) (files Automata name) listed.text (stores Automata name) listed.there in
+  table_holds_as : (table : Loaded) (old new : StepLog) (r : NamedRelation) → IsListedBy files (Automaton r.name) table → IsReadable systems table → IsRelationRead systems old table r new → HoldsAs ledger r.name r.relation
+  table_holds_as table old new r listed readable read =
+      let found = entry_there Automata (ledger Automata r.name) (files Automata r.name) listed.text (stores Automata r.name) listed.there in
       let holds : (ns : List ℕ) → RelationHolds r.relation ns ↔ tree_holds no_custom (tree_of found.0) ns = λ ns.
-      let file = relation_holds tables_hold systems sealed are old new table r listed.text listed.lists.lists readable read ns in
-      let tree = texts_mean no_custom (tree_of found.0) listed.text (tree_text found.0 listed.text found.2) ns in
+      let file = relation_holds laws.tables systems sealed are old new table r listed.text listed.lists.lists readable read ns in
+      let tree = laws.texts no_custom (tree_of found.0) listed.text (tree_text found.0 listed.text found.2.1) ns in
       ((λ h. tree.0 (file.0 h)), (λ h. file.1 (tree.1 h))) in
       record { entry = found.0; there = found.1; same = holds }
 
--- each relation has the name of its file, and holds as what the ledger has there
-abbrev pub HoldAs : Ledger → List File → List NamedRelation → Type 0
-HoldAs ledger [] [] = Unit {0}
-HoldAs ledger [] (r ∷ read) = ⊥
-HoldAs ledger (file ∷ named) [] = ⊥
-HoldAs ledger (Automaton m ∷ named) (r ∷ read) = (r.name ≡ m) × HoldsAs ledger m r.relation × HoldAs ledger named read
-HoldAs ledger (Word m ∷ named) (r ∷ read) = ⊥
+  -- a word that is read of a table has the letters of what the ledger has under the table's name
+  word_letters_as : (table : Loaded) (old new : StepLog) (w : NamedWord) → IsListedBy files (Word w.name) table → IsReadable systems table → IsWordRead systems old table w new → HasLettersAs ledger w.name w.word
+  word_letters_as table old new w listed readable read =
+      let found = entry_there Words (ledger Words w.name) (files Words w.name) listed.text (stores Words w.name) listed.there in
+      let letters : (ns : List ℕ) (letter : ℤ) → HasLetter w.word ns letter ↔ tree_letter no_custom (tree_of found.0) ns letter = λ ns letter.
+      let file = word_letters systems sealed old new table w readable read are laws.letters listed.text listed.lists.lists ns letter in
+      let tree = laws.words no_custom (tree_of found.0) listed.text found.2.0 (tree_text found.0 listed.text found.2.1) ns letter in
+      ((λ h. tree.0 (file.0 h)), (λ h. file.1 (tree.1 h))) in
+      record { entry = found.0; there = found.1; same = letters }
 
-module _ (ledger : Ledger) (files : Files) (name ns : List ℕ) where
-  -- a binding of this name counts, and one of another name leaves what was bound
-  bound_first : (bindings : Bindings) (at : List ℕ) (r : RelationValue) (like : HoldsAs ledger at r) → at ≡ name → IsBoundTo (with_file ledger bindings (Automaton at)) name ns ≡ tree_holds no_custom (tree_of like.entry) ns
-  bound_first bindings at r like same =
-      bound_is ledger bindings at name ns like.entry like.there
-      ∙ ap (λ (b : Bool). chosen b (tree_holds no_custom (tree_of like.entry) ns) (IsBoundTo bindings name ns)) ((bytes_eq-Decides at name).1 same)
+  file_read : (old new : StepLog) (table : Loaded) (r : TableRead) → IsTableRead systems old table r new → table.file ≡ file_of r
+  file_read old new table (ARelation r) read = read.file_is
+  file_read old new table (AWord w) read = read.file_is
 
-  entry_other : (bindings : Bindings) (at : List ℕ) (entry : Option Entry) → bytes_eq at name ≡ false → IsBoundTo (with_entry bindings Automata at entry) name ns ≡ IsBoundTo bindings name ns
-  entry_other bindings at None apart = refl
-  entry_other bindings at (Some e) apart = ap (λ (b : Bool). chosen b (tree_holds no_custom (tree_of e) ns) (IsBoundTo bindings name ns)) apart
+  means_as : (table : Loaded) (old new : StepLog) (r : TableRead) → IsListedBy files (file_of r) table → IsReadable systems table → IsTableRead systems old table r new → MeansAs ledger r
+  means_as table old new (ARelation r) listed readable read = table_holds_as table old new r listed readable read
+  means_as table old new (AWord w) listed readable read = word_letters_as table old new w listed readable read
 
-  tests_apart : (at : List ℕ) → at ≢ name → bytes_eq at name ≡ false
-  tests_apart at apart = by (bytes_eq at name) refl
-    where
-      by : (b : Bool) → bytes_eq at name ≡ b → b ≡ false
-      by true same = absurd (apart ((bytes_eq-Decides at name).0 same))
-      by false other = refl
+  -- what is read of tables means what the ledger has under their names
+  tables_mean_as : (named : List File) (tables : List Loaded) (reads : List TableRead) (old new : StepLog) → AreListedBy files named tables → AreReadable systems tables → AreTablesRead systems old tables reads new → AreMeantAs (MeansAs ledger) named reads
+  tables_mean_as [] [] [] old new listed readable made = tt
+  tables_mean_as [] [] (r ∷ reads) old new listed readable made = absurd made
+  tables_mean_as [] (table ∷ tables) reads old new listed readable made = absurd listed
+  tables_mean_as (file ∷ named) [] reads old new listed readable made = absurd listed
+  tables_mean_as (file ∷ named) (table ∷ tables) [] old new listed readable made = absurd made
+  tables_mean_as (file ∷ named) (table ∷ tables) (r ∷ reads) old new listed readable (mid, first, rest) =
+      let own : file_of r ≡ file = sym (file_read old mid table r first) ∙ listed.0.lists.file_is in
+      (own, means_as table old mid r (subst (λ (f : File). IsListedBy files f table) (sym own) listed.0) readable.0 first, tables_mean_as named tables reads mid new listed.1 readable.1 rest)
 
-  bound_other : (bindings : Bindings) (at : List ℕ) → at ≢ name → IsBoundTo (with_file ledger bindings (Automaton at)) name ns ≡ IsBoundTo bindings name ns
-  bound_other bindings at apart = entry_other bindings at (ledger Automata at) (tests_apart at apart)
-
-  bound_after : (named : List File) (tables : List Loaded) (bindings : Bindings) → AreListedBy files named tables → HasNo name tables → IsBoundTo (fold (with_file ledger) bindings named) name ns ≡ IsBoundTo bindings name ns
-  bound_after [] [] bindings are none = refl
-  bound_after [] (table ∷ tables) bindings are none = absurd are
-  bound_after (file ∷ named) [] bindings are none = absurd are
-  bound_after (Word m ∷ named) (table ∷ tables) bindings are none = absurd are.0
-  bound_after (Automaton m ∷ named) (table ∷ tables) bindings are none =
-      bound_after named tables (with_file ledger bindings (Automaton m)) are.1 none.1 ∙ bound_other bindings m (λ same. none.0 (are.0.lists.name_is ∙ same))
-
-  -- the first file is bound to what the first relation holds of, where it has the name
-  first_bound : (named : List File) (tables : List Loaded) (table : Loaded) (bindings : Bindings) (m : List ℕ) (r : NamedRelation) (like : HoldsAs ledger m r.relation) → AreListedBy files named tables → HasNo table.name tables → table.name ≡ m → r.name ≡ m → r.name ≡ name
-      → IsBoundTo (fold (with_file ledger) (with_file ledger bindings (Automaton m)) named) name ns ≡ tree_holds no_custom (tree_of like.entry) ns
-  first_bound named tables table bindings m r like are none listed own same =
-      let at : m ≡ name = sym own ∙ same in
-      bound_after named tables (with_file ledger bindings (Automaton m)) are (subst (λ (n : List ℕ). HasNo n tables) (listed ∙ at) none) ∙ bound_first bindings m r.relation like at
-
-  -- what the relation of the name holds of is what the name is bound to
-  bound_there : (named : List File) (tables : List Loaded) (read : List NamedRelation) (bindings : Bindings) → AreListedBy files named tables → AreNamedApart tables → HoldAs ledger named read → NamedHolds read name ns → IsBoundTo (fold (with_file ledger) bindings named) name ns
-  bound_there [] tables [] bindings are apart like (v, is, holds) = absurd (none-some v is)
-  bound_there [] tables (r ∷ read) bindings are apart like holds = absurd like
-  bound_there (file ∷ named) [] read bindings are apart like holds = absurd are
-  bound_there (file ∷ named) (table ∷ tables) [] bindings are apart like (v, is, holds) = absurd (none-some v is)
-  bound_there (Word m ∷ named) (table ∷ tables) (r ∷ read) bindings are apart like holds = absurd like
-  bound_there (Automaton m ∷ named) (table ∷ tables) (r ∷ read) bindings are apart like (v, is, holds) =
-      by (bytes_eq r.name name) refl is (λ rest. bound_there named tables read (with_file ledger bindings (Automaton m)) are.1 apart.1 like.2 (v, rest, holds))
-    where
-      by : (b : Bool) → bytes_eq r.name name ≡ b → (if b then Some r.relation else relation_named read name) ≡ Some v → (relation_named read name ≡ Some v → IsBoundTo (fold (with_file ledger) (with_file ledger bindings (Automaton m)) named) name ns)
-          → IsBoundTo (fold (with_file ledger) (with_file ledger bindings (Automaton m)) named) name ns
-      by true same first rest =
-          let one : r.relation ≡ v = let e : Some r.relation ≡ Some v = first in cc in
-          let tree = (like.1.same ns).0 (subst (λ (x : RelationValue). RelationHolds x ns) (sym one) holds) in
-          subst (λ (X : Type 0). X) (sym (first_bound named tables table bindings m r like.1 are.1 apart.0 are.0.lists.name_is like.0 ((bytes_eq-Decides r.name name).0 same))) tree
-      by false other found rest = rest found
-
-  -- and what the name is bound to the relation of the name holds of, or it was bound before
-  bound_back : (named : List File) (tables : List Loaded) (read : List NamedRelation) (bindings : Bindings) → AreListedBy files named tables → AreNamedApart tables → HoldAs ledger named read → IsBoundTo (fold (with_file ledger) bindings named) name ns → NamedHolds read name ns ⊎ IsBoundTo bindings name ns
-  bound_back [] tables [] bindings are apart like holds = inr holds
-  bound_back [] tables (r ∷ read) bindings are apart like holds = absurd like
-  bound_back (file ∷ named) [] read bindings are apart like holds = absurd are
-  bound_back (file ∷ named) (table ∷ tables) [] bindings are apart like holds = absurd like
-  bound_back (Word m ∷ named) (table ∷ tables) (r ∷ read) bindings are apart like holds = absurd like
-  bound_back (Automaton m ∷ named) (table ∷ tables) (r ∷ read) bindings are apart like holds =
-      by (bytes_eq r.name name) refl (bound_back named tables read (with_file ledger bindings (Automaton m)) are.1 apart.1 like.2 holds)
-    where
-      found : (b : Bool) → bytes_eq r.name name ≡ b → relation_named (r ∷ read) name ≡ (if b then Some r.relation else relation_named read name)
-      found b test = ap (λ (c : Bool). if c then Some r.relation else relation_named read name) test
-
-      by : (b : Bool) → bytes_eq r.name name ≡ b → (NamedHolds read name ns ⊎ IsBoundTo (with_file ledger bindings (Automaton m)) name ns) → NamedHolds (r ∷ read) name ns ⊎ IsBoundTo bindings name ns
-      by true same before =
-          let tree = subst (λ (X : Type 0). X) (first_bound named tables table bindings m r like.1 are.1 apart.0 are.0.lists.name_is like.0 ((bytes_eq-Decides r.name name).0 same)) holds in
-          inl (r.relation, found true same, (like.1.same ns).1 tree)
-      by false other (inl (v, is, held)) = inl (v, found false other ∙ is, held)
-      by false other (inr old) =
-          let unlike : m ≢ name = λ same. let yes : bytes_eq r.name name ≡ true = (bytes_eq-Decides r.name name).1 (like.0 ∙ same) in cc in
-          inr (subst (λ (X : Type 0). X) (bound_other bindings m unlike) old)
-
-module _ (texts_mean : TextsMeanTheirTrees) (tables_hold : TablesHold) where
-  -- the relations that are read of the tables hold as what the ledger has under their names
-  tables_hold_as : (ledger : Ledger) (files : Files) (systems : List NamedSystem) → Stores ledger files → AreSealed systems → AreMeant no_custom systems → (named : List File) (tables : List Loaded) (read : List NamedRelation) (old new : StepLog) → AreListedBy files named tables
-      → AreReadable systems tables → AreTablesRead systems old tables read new → HoldAs ledger named read
-  tables_hold_as ledger files systems stores sealed are [] [] [] old new listed readable made = tt
-  tables_hold_as ledger files systems stores sealed are [] [] (r ∷ read) old new listed readable made = absurd made
-  tables_hold_as ledger files systems stores sealed are [] (table ∷ tables) read old new listed readable made = absurd listed
-  tables_hold_as ledger files systems stores sealed are (file ∷ named) [] read old new listed readable made = absurd listed
-  tables_hold_as ledger files systems stores sealed are (file ∷ named) (table ∷ tables) [] old new listed readable made = absurd made
-  tables_hold_as ledger files systems stores sealed are (Word m ∷ named) (table ∷ tables) (r ∷ read) old new listed readable made = absurd listed.0
-  tables_hold_as ledger files systems stores sealed are (Automaton m ∷ named) (table ∷ tables) (r ∷ read) old new listed readable (mid, first, rest) = (
-    first.name_is ∙ listed.0.lists.name_is,
-    table_holds_as texts_mean tables_hold ledger files systems stores sealed are m table old mid r listed.0 readable.0 first,
-    tables_hold_as ledger files systems stores sealed are named tables read mid new listed.1 readable.1 rest,
-  )
-
-  -- so names mean the same in the library of these relations and by the bindings of the files
-  pub tables_mean_the_same : (ledger : Ledger) (files : Files) (systems : List NamedSystem) → Stores ledger files → AreSealed systems → AreMeant no_custom systems → (named : List File) (tables : List Loaded) (read : List NamedRelation) (old new : StepLog) → IsOnce named
-      → AreListedBy files named tables → AreReadable systems tables → AreTablesRead systems old tables read new → MeanTheSame (meanings_of (record { relations = read; systems = systems })) (meanings_in no_custom (bindings_of ledger named))
-  tables_mean_the_same ledger files systems stores sealed are named tables read old new once listed readable made =
-      let apart : AreNamedApart tables = named_apart files named tables once listed in
-      let like : HoldAs ledger named read = tables_hold_as ledger files systems stores sealed are named tables read old new listed readable made in
+  -- so names mean the same in the library of what is read and by the bindings of the files
+  pub tables_mean_the_same : (named : List File) (tables : List Loaded) (reads : List TableRead) (old new : StepLog) → IsOnce named
+      → AreListedBy files named tables → AreReadable systems tables → AreTablesRead systems old tables reads new → MeanTheSame (meanings_of (library_with reads systems)) (meanings_in no_custom (bindings_of ledger named))
+  tables_mean_the_same named tables reads old new once listed readable made =
+      let apart : AreUnlike named = are_unlike named once in
+      let like : AreMeantAs (MeansAs ledger) named reads = tables_mean_as named tables reads old new listed readable made in
       record {
-        holds_there = λ name ns holds. bound_there ledger files name ns named tables read unbound listed apart like holds;
-        holds_back = λ name ns holds. elim (bound_back ledger files name ns named tables read unbound listed apart like holds) [ inl found ↦ found | inr none ↦ absurd none ];
-        letter_there = λ name ns letter is. is;
-        letter_back = λ name ns letter is. is;
+        holds_there = λ name ns holds. holds_bound ledger name ns named reads apart like holds;
+        holds_back = λ name ns holds. bound_held ledger name ns named reads apart like holds;
+        letter_there = λ name ns letter has. letter_bound ledger name ns letter named reads apart like has;
+        letter_back = λ name ns letter has. bound_lettered ledger name ns letter named reads apart like has;
       }

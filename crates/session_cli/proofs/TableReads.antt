@@ -1,20 +1,32 @@
--- Tables read one after another: the systems under their headers, the relations of those in front and of one more, and the refusal of one.
+-- Tables read one after another: the systems under their headers, what those in front make and one more, and the refusal of one.
 use Rattle.std.proofs.Common.{◌≡◌, ◌⊎◌, ℕ, zero, suc, ◌+◌, ◌<◌, List, [], ◌∷◌, ◌++◌, length, take, map, get_or, Option, None, Some, Result, Ok, Err, Vec, Global, inl, inr, refl, sym, ap, ◌∙◌, subst, arith}
 use Rattle.std.specs.List.{AllZip}
 use Rattle.std.specs.Result.{IsErrAnd}
-use Rattle.std.proofs.lemmas.List.{take_more, map-append}
+use Rattle.std.proofs.lemmas.List.{take_more, map-append, length-map}
 use Rattle.std.proofs.lemmas.Option.{none-some}
 use Rattle.digit_tuple.specs.Steps.{StepLog}
 use Rattle.digit_tuple.specs.declared.step_fault.StepFault.{StepFault}
-use Rattle.digit_tuple.specs.declared.step_fault.StepFault.TheVariants as faults
-use Rattle.dfa_reading.specs.Headers.{Header, Truth, Systems, Sets}
+use Rattle.digit_tuple.specs.declared.step_fault.StepFault.TheVariants.{Memory}
+use Rattle.dfa_reading.specs.Headers.{Header, Truth, Systems, Sets, Below, digits_in, has_states}
+use Rattle.dfa_reading.specs.Listed.{Listed}
+use Rattle.dfa_reading.specs.Systems.{digit_limit}
+use Rattle.dfa_reading.specs.WordFiles.{IsWordListed}
+use Rattle.dfa_loading.specs.Places.{place_of}
+use Rattle.formula_resolve.specs.declared.file.File.{File}
+use Rattle.formula_resolve.specs.declared.file.File.TheVariants.{Automaton, Word}
 use Rattle.dfa_loading.specs.declared.loaded.Loaded.{Loaded}
-use Rattle.formula_build.specs.Libraries.{NamedRelation, NamedSystem, system_named, with_relation}
+use Rattle.formula_build.specs.Libraries.{NamedRelation, NamedWord, NamedSystem, ReadValue, system_named, with_relation, with_word}
 use Rattle.num_system.specs.Sealed.{SystemValue}
-use Rattle.number_relations.specs.Relations.{RelationValue, HaveOneWay}
-use Rattle.definitions.specs.TableSteps.{AreForTracks}
-use Rattle.session_cli.specs.FormulaSteps.{AreSystemsUnder, IsTableRead, IsTableRefused, AreTablesRead, IsReadingRefused}
-use Rattle.session_cli.specs.TableReading.{IsReadable, AreReadable, ReadsTables}
+use Rattle.num_system.specs.Tracks.{HaveOneWay}
+use Rattle.number_relations.specs.Relations.{RelationValue}
+use Rattle.word_output.specs.Words.{WordValue}
+use Rattle.word_output.specs.WordReadings.{IsWordDone, IsWordRefused, HasWordGap}
+use Rattle.word_output.specs.declared.word_fault.WordFault.TheVariants as words
+use Rattle.definitions.specs.TableSteps.{AreForTracks, IsTableDone, PassesTable}
+use Rattle.session_cli.specs.declared.read_fault.ReadFault.{ReadFault}
+use Rattle.session_cli.specs.declared.read_fault.ReadFault.TheVariants.{Step, Gap}
+use Rattle.session_cli.specs.TableReads.{TableRead, ARelation, AWord, relations_in, words_in, read_of, AreSystemsUnder, IsRelationRead, IsWordRead, IsTableRead, PassesFile, IsTableRefused, IsTableGap, AreTablesRead, IsReadingRefused, IsReadingGap}
+use Rattle.session_cli.specs.TableReading.{IsReadable, AreReadable, IsTableFault, IsReadingFault, ReadsTables, with_read}
 
 -- the system stands under the name
 abbrev pub StandsUnder : List NamedSystem → List ℕ → SystemValue → Type 0
@@ -86,23 +98,34 @@ readable_at systems (t ∷ tables) zero table all within is = subst (IsReadable 
 readable_at systems (t ∷ tables) (suc i) table all within is = readable_at systems tables i table all.1 (omega (arith, within)) is
 
 -- tables were read, and then one more
-pub one_more_read : (systems : List NamedSystem) (old mid new : StepLog) (tables : List Loaded) (relations : List NamedRelation) (table : Loaded) (r : NamedRelation)
-    → AreTablesRead systems old tables relations mid → IsTableRead systems mid table r new → AreTablesRead systems old (tables ++ table ∷ []) (relations ++ r ∷ []) new
+pub one_more_read : (systems : List NamedSystem) (old mid new : StepLog) (tables : List Loaded) (reads : List TableRead) (table : Loaded) (r : TableRead)
+    → AreTablesRead systems old tables reads mid → IsTableRead systems mid table r new → AreTablesRead systems old (tables ++ table ∷ []) (reads ++ r ∷ []) new
 one_more_read systems old mid new [] [] table r front read = (new, subst (λ (o : StepLog). IsTableRead systems o table r new) front read, refl)
-one_more_read systems old mid new [] (q ∷ relations) table r front read = absurd front
+one_more_read systems old mid new [] (q ∷ reads) table r front read = absurd front
 one_more_read systems old mid new (t ∷ tables) [] table r front read = absurd front
-one_more_read systems old mid new (t ∷ tables) (q ∷ relations) table r (next, first, rest) read = (next, first, one_more_read systems next mid new tables relations table r rest read)
+one_more_read systems old mid new (t ∷ tables) (q ∷ reads) table r (next, first, rest) read = (next, first, one_more_read systems next mid new tables reads table r rest read)
 
 -- tables were read, and then one was refused: so are all, whichever follow
-pub one_refused : (systems : List NamedSystem) (old mid : StepLog) (tables : List Loaded) (relations : List NamedRelation) (i : ℕ) (table : Loaded) (fault : StepFault) → i < length tables → table ≡ get_or tables i table
-    → AreTablesRead systems old (take i tables) relations mid → IsTableRefused systems mid table fault → IsReadingRefused systems old tables fault
-one_refused systems old mid [] relations i table fault within is front refused = absurd (omega (arith, within))
+pub one_refused : (systems : List NamedSystem) (old mid : StepLog) (tables : List Loaded) (reads : List TableRead) (i : ℕ) (table : Loaded) (fault : StepFault) → i < length tables → table ≡ get_or tables i table
+    → AreTablesRead systems old (take i tables) reads mid → IsTableRefused systems mid table fault → IsReadingRefused systems old tables fault
+one_refused systems old mid [] reads i table fault within is front refused = absurd (omega (arith, within))
 one_refused systems old mid (t ∷ tables) [] zero table fault within is front refused =
     inl (subst (λ (x : Loaded). IsTableRefused systems old x fault) is (subst (λ (o : StepLog). IsTableRefused systems o table fault) front refused))
-one_refused systems old mid (t ∷ tables) (q ∷ relations) zero table fault within is front refused = absurd front
+one_refused systems old mid (t ∷ tables) (q ∷ reads) zero table fault within is front refused = absurd front
 one_refused systems old mid (t ∷ tables) [] (suc i) table fault within is front refused = absurd front
-one_refused systems old mid (t ∷ tables) (q ∷ relations) (suc i) table fault within is (next, first, rest) refused =
-    inr (q, next, first, one_refused systems next mid tables relations i table fault (omega (arith, within)) is rest refused)
+one_refused systems old mid (t ∷ tables) (q ∷ reads) (suc i) table fault within is (next, first, rest) refused =
+    inr (q, next, first, one_refused systems next mid tables reads i table fault (omega (arith, within)) is rest refused)
+
+-- or a letter is missing in one
+one_gap : (systems : List NamedSystem) (old mid : StepLog) (tables : List Loaded) (reads : List TableRead) (i : ℕ) (table : Loaded) (name : List ℕ) (spelling : List (List ℕ)) → i < length tables → table ≡ get_or tables i table
+    → AreTablesRead systems old (take i tables) reads mid → IsTableGap systems mid table name spelling → IsReadingGap systems old tables name spelling
+one_gap systems old mid [] reads i table name spelling within is front gap = absurd (omega (arith, within))
+one_gap systems old mid (t ∷ tables) [] zero table name spelling within is front gap =
+    inl (subst (λ (x : Loaded). IsTableGap systems old x name spelling) is (subst (λ (o : StepLog). IsTableGap systems o table name spelling) front gap))
+one_gap systems old mid (t ∷ tables) (q ∷ reads) zero table name spelling within is front gap = absurd front
+one_gap systems old mid (t ∷ tables) [] (suc i) table name spelling within is front gap = absurd front
+one_gap systems old mid (t ∷ tables) (q ∷ reads) (suc i) table name spelling within is (next, first, rest) gap =
+    inr (q, next, first, one_gap systems next mid tables reads i table name spelling (omega (arith, within)) is rest gap)
 
 -- one more in a vector
 pub pushed : {X Y : Type 0} (f : X → Y) (new mid : Vec X Global) (items : List X) (x : X) → new ≡ mid → mid.items ≡ items ++ x ∷ [] → map f new.items ≡ map f items ++ f x ∷ []
@@ -125,21 +148,114 @@ none_missing systems header names tracks i name asked header_is under within is 
     let (s, there) = zip_at (StandsUnder systems) names tracks i name all within is in
     none-some s (sym none ∙ ap (system_named systems) same ∙ there)
 
+-- what was read, with one more
+read_more : (reads : List TableRead) (r : TableRead) → with_read (read_of reads) r ≡ read_of (reads ++ r ∷ [])
+read_more reads r = λ i. record { relations = relations_more reads r i; words = words_more reads r i }
+  where
+    relations_more : (rs : List TableRead) (q : TableRead) → (with_read (read_of rs) q).relations ≡ relations_in (rs ++ q ∷ [])
+    relations_more [] (ARelation x) = refl
+    relations_more [] (AWord x) = refl
+    relations_more (ARelation y ∷ rs) (ARelation x) = ap (λ (zs : List NamedRelation). y ∷ zs) (relations_more rs (ARelation x))
+    relations_more (ARelation y ∷ rs) (AWord x) = ap (λ (zs : List NamedRelation). y ∷ zs) (relations_more rs (AWord x))
+    relations_more (AWord y ∷ rs) (ARelation x) = relations_more rs (ARelation x)
+    relations_more (AWord y ∷ rs) (AWord x) = relations_more rs (AWord x)
+
+    words_more : (rs : List TableRead) (q : TableRead) → (with_read (read_of rs) q).words ≡ words_in (rs ++ q ∷ [])
+    words_more [] (ARelation x) = refl
+    words_more [] (AWord x) = refl
+    words_more (ARelation y ∷ rs) (ARelation x) = words_more rs (ARelation x)
+    words_more (ARelation y ∷ rs) (AWord x) = words_more rs (AWord x)
+    words_more (AWord y ∷ rs) (ARelation x) = ap (λ (zs : List NamedWord). y ∷ zs) (words_more rs (ARelation x))
+    words_more (AWord y ∷ rs) (AWord x) = ap (λ (zs : List NamedWord). y ∷ zs) (words_more rs (AWord x))
+
+-- what the tables in front make
+abbrev pub AreReadSoFar : List NamedSystem → StepLog → List Loaded → ReadValue → StepLog → Type 0
+AreReadSoFar systems old tables read new = (reads : List TableRead) × AreTablesRead systems old tables reads new × (read ≡ read_of reads)
+
 -- tables were read, and then the next
-pub read_on : (systems : List NamedSystem) (old mid new : StepLog) (tables : List Loaded) (i : ℕ) (table : Loaded) (relations more : List NamedRelation) (r shared : RelationValue) → i < length tables → table ≡ get_or tables i table
-    → AreTablesRead systems old (take i tables) relations mid → IsTableRead systems mid table (record { name = table.name; relation = r }) new → shared ≡ r → more ≡ with_relation relations table.name shared
-    → AreTablesRead systems old (take (i + 1) tables) more new
-read_on systems old mid new tables i table relations more r shared within is front read same more_is =
-    let tables_are : take (i + 1) tables ≡ take i tables ++ table ∷ [] = take_more tables i table within ∙ ap (λ (t : Loaded). take i tables ++ t ∷ []) (sym is) in
-    let relations_are : more ≡ with_relation relations table.name r = more_is ∙ ap (with_relation relations table.name) same in
-    subst (λ (ts : List Loaded). AreTablesRead systems old ts more new) (sym tables_are)
-    (subst (λ (rs : List NamedRelation). AreTablesRead systems old (take i tables ++ table ∷ []) rs new) (sym relations_are)
-    (one_more_read systems old mid new (take i tables) relations table (record { name = table.name; relation = r }) front read))
+pub read_on : (systems : List NamedSystem) (old mid new : StepLog) (tables : List Loaded) (i : ℕ) (table : Loaded) (before after : ReadValue) → i < length tables → table ≡ get_or tables i table
+    → AreReadSoFar systems old (take i tables) before mid → (r : TableRead) × IsTableRead systems mid table r new × (after ≡ with_read before r) → AreReadSoFar systems old (take (i + 1) tables) after new
+read_on systems old mid new tables i table before after within is (reads, front, before_is) (r, read, after_is) =
+    let tables_are : take (i + 1) tables ≡ take i tables ++ table ∷ [] = take_more tables i table within ∙ ap (λ (t : Loaded). take i tables ++ t ∷ []) (sym is) in (
+      reads ++ r ∷ [],
+      subst (λ (ts : List Loaded). AreTablesRead systems old ts (reads ++ r ∷ []) new) (sym tables_are) (one_more_read systems old mid new (take i tables) reads table r front read),
+      after_is ∙ ap (λ (v : ReadValue). with_read v r) before_is ∙ read_more reads r,
+    )
 
 -- tables were read, and then reading stopped
-pub reading_stops : (systems : List NamedSystem) (old mid new : StepLog) (tables : List Loaded) (i : ℕ) (table : Loaded) (relations : List NamedRelation) (fault : StepFault) (result : Result (List NamedRelation) StepFault) → i < length tables
-    → table ≡ get_or tables i table → AreTablesRead systems old (take i tables) relations mid → (fault ≡ faults.Memory) ⊎ IsTableRefused systems mid table fault → IsErrAnd result (λ e. e ≡ fault) → ReadsTables systems old tables result new
-reading_stops systems old mid new tables i table relations fault (Ok read) within is front stops same = absurd same
-reading_stops systems old mid new tables i table relations fault (Err e) within is front (inl memory) same = inl (same ∙ memory)
-reading_stops systems old mid new tables i table relations fault (Err e) within is front (inr refused) same =
-    inr (subst (IsReadingRefused systems old tables) (sym same) (one_refused systems old mid tables relations i table fault within is front refused))
+reading_fault : (systems : List NamedSystem) (old mid : StepLog) (tables : List Loaded) (i : ℕ) (table : Loaded) (before : ReadValue) (fault : ReadFault) → i < length tables → table ≡ get_or tables i table
+    → AreReadSoFar systems old (take i tables) before mid → IsTableFault systems mid table fault → IsReadingFault systems old tables fault
+reading_fault systems old mid tables i table before (Step fault) within is (reads, front, before_is) (inl memory) = inl memory
+reading_fault systems old mid tables i table before (Step fault) within is (reads, front, before_is) (inr refused) = inr (one_refused systems old mid tables reads i table fault within is front refused)
+reading_fault systems old mid tables i table before (Gap name spelling) within is (reads, front, before_is) gap = one_gap systems old mid tables reads i table name spelling within is front gap
+
+pub reading_stops : (systems : List NamedSystem) (old mid new : StepLog) (tables : List Loaded) (i : ℕ) (table : Loaded) (before : ReadValue) (fault : ReadFault) (result : Result ReadValue ReadFault) → i < length tables → table ≡ get_or tables i table
+    → AreReadSoFar systems old (take i tables) before mid → IsTableFault systems mid table fault → IsErrAnd result (λ e. e ≡ fault) → ReadsTables systems old tables result new
+reading_stops systems old mid new tables i table before fault (Ok read) within is front stops same = absurd same
+reading_stops systems old mid new tables i table before fault (Err e) within is front stops same =
+    subst (IsReadingFault systems old tables) (sym same) (reading_fault systems old mid tables i table before fault within is front stops)
+
+-- what reading a word asks for of a table and its systems
+pub record MayReadWord (listed : Listed) (tracks : List SystemValue) : Type 0 where
+  pub states : 0 < length listed.outputs
+  pub word : IsWordListed listed
+  pub count : length tracks ≡ length (digits_in listed.header)
+  pub one_way : HaveOneWay tracks
+
+pub may_read_word : (systems : List NamedSystem) (table : Loaded) (name : List ℕ) (tracks : List SystemValue) → table.file ≡ Word name → IsReadable systems table → AreSystemsUnder systems table.listed.header tracks → MayReadWord table.listed tracks
+may_read_word systems table name tracks file_is readable under =
+    let word : IsWordListed table.listed = readable.is_word name file_is in
+    let for_word : AreForTracks (Systems word.names) tracks = subst (λ (h : Header). AreForTracks h tracks) word.header (readable_tracks systems table tracks readable under) in
+    record {
+      states = readable.is_table (ap has_states word.header);
+      word = word;
+      count = for_word.0 ∙ sym (ap (λ (h : Header). length (digits_in h)) word.header ∙ length-map word.names (λ (n : List ℕ). Below (digit_limit n)));
+      one_way = for_word.1;
+    }
+
+-- the relation of a table is read
+pub relation_made : (systems : List NamedSystem) (old new : StepLog) (table : Loaded) (tracks : List SystemValue) (r : RelationValue) → AreSystemsUnder systems table.listed.header tracks → IsTableDone old tracks table.listed r new
+    → (name : List ℕ) → table.file ≡ Automaton name → IsRelationRead systems old table (record { name = name; relation = r }) new
+relation_made systems old new table tracks r under done name file_is = record { file_is = file_is; tracks = tracks; over = under; done = done }
+
+-- or refused
+pub relation_refused : (systems : List NamedSystem) (old : StepLog) (table : Loaded) (name : List ℕ) (tracks : List SystemValue) (fault : StepFault) → table.file ≡ Automaton name → AreSystemsUnder systems table.listed.header tracks
+    → (fault ≡ Memory) ⊎ PassesTable old tracks table.listed fault → IsTableFault systems old table (Step fault)
+relation_refused systems old table name tracks fault file_is under (inl memory) = inl memory
+relation_refused systems old table name tracks fault file_is under (inr passes) =
+    inr (record { tracks = tracks; over = under; passes = subst (λ (f : File). PassesFile f old tracks table.listed fault) (sym file_is) passes })
+
+-- a word is read
+pub word_made : (systems : List NamedSystem) (old new : StepLog) (table : Loaded) (tracks : List SystemValue) (w : WordValue) → AreSystemsUnder systems table.listed.header tracks → IsWordDone old tracks table.listed w new
+    → (name : List ℕ) → table.file ≡ Word name → IsWordRead systems old table (record { name = name; word = w }) new
+word_made systems old new table tracks w under done name file_is = record { file_is = file_is; tracks = tracks; over = under; done = done }
+
+pub word_refused : (systems : List NamedSystem) (old : StepLog) (table : Loaded) (name : List ℕ) (tracks : List SystemValue) (fault : StepFault) → table.file ≡ Word name → AreSystemsUnder systems table.listed.header tracks
+    → IsWordRefused old tracks table.listed (words.Step fault) → IsTableFault systems old table (Step fault)
+word_refused systems old table name tracks fault file_is under (inl memory) = inl memory
+word_refused systems old table name tracks fault file_is under (inr passes) =
+    inr (record { tracks = tracks; over = under; passes = subst (λ (f : File). PassesFile f old tracks table.listed fault) (sym file_is) passes })
+
+-- a letter is missing in it
+pub word_gap : (systems : List NamedSystem) (old : StepLog) (table : Loaded) (name told : List ℕ) (tracks : List SystemValue) (spelling : List (List ℕ)) → table.file ≡ Word name → told ≡ (place_of table.file).1 → AreSystemsUnder systems table.listed.header tracks
+    → HasWordGap old.limit tracks table.listed spelling → IsTableFault systems old table (Gap told spelling)
+word_gap systems old table name told tracks spelling file_is told_is under gap =
+    let own : told ≡ name = told_is ∙ ap (λ (f : File). (place_of f).1) file_is in
+    record { file_is = file_is ∙ ap Word (sym own); tracks = tracks; over = under; gap = gap }
+
+-- one table is added
+pub relation_added : (systems : List NamedSystem) (old mid new : StepLog) (table : Loaded) (name : List ℕ) (r shared : RelationValue) (before more after : ReadValue) → IsRelationRead systems old table (record { name = name; relation = r }) mid → shared ≡ r
+    → more ≡ record { relations = with_relation before.relations name shared; words = before.words } → new ≡ mid → after ≡ more → (q : TableRead) × IsTableRead systems old table q new × (after ≡ with_read before q)
+relation_added systems old mid new table name r shared before more after read same is steps library = (
+  ARelation (record { name = name; relation = r }),
+  subst (IsRelationRead systems old table (record { name = name; relation = r })) (sym steps) read,
+  library ∙ is ∙ (λ i. record { relations = with_relation before.relations name (same i); words = before.words }),
+)
+
+pub word_added : (systems : List NamedSystem) (old mid new : StepLog) (table : Loaded) (name : List ℕ) (w shared : WordValue) (before more after : ReadValue) → IsWordRead systems old table (record { name = name; word = w }) mid → shared ≡ w
+    → more ≡ record { relations = before.relations; words = with_word before.words name shared } → new ≡ mid → after ≡ more → (q : TableRead) × IsTableRead systems old table q new × (after ≡ with_read before q)
+word_added systems old mid new table name w shared before more after read same is steps library = (
+  AWord (record { name = name; word = w }),
+  subst (IsWordRead systems old table (record { name = name; word = w })) (sym steps) read,
+  library ∙ is ∙ (λ i. record { relations = before.relations; words = with_word before.words name (same i) }),
+)

@@ -11,8 +11,9 @@ use Rattle.dfa_reading.specs.Reading.{relation_of}
 use Rattle.dfa_loading.specs.declared.loaded.Loaded.{Loaded}
 use Rattle.numeration.specs.Systems.{System}
 use Rattle.num_system.specs.Sealed.{SystemValue, IsSealed, system_of}
-use Rattle.number_relations.specs.Relations as relations
-use Rattle.number_relations.specs.Relations.{RelationValue, RelationHolds, HaveOneWay, way_of}
+use Rattle.num_system.specs.Tracks as relations
+use Rattle.num_system.specs.Tracks.{HaveOneWay, way_of}
+use Rattle.number_relations.specs.Relations.{RelationValue, RelationHolds}
 use Rattle.formula_build.specs.Libraries.{NamedRelation, NamedSystem, AreSealed, system_named}
 use Rattle.definitions.specs.Tracks as tracks
 use Rattle.definitions.specs.Tracks.{names_of, systems_of}
@@ -20,7 +21,8 @@ use Rattle.definitions.specs.Named.{AreNamed, IsSystemNamed}
 use Rattle.definitions.specs.Files.{HasListedWord, HoldsUnder, HoldsBelow, ListedHolds, FileHolds}
 use Rattle.definitions.specs.TableLaws.{AreTableSystems, IsRelationOfTable, TablesHold}
 use Rattle.definitions.specs.TableSteps.{AreForTracks, HoldsBelowOver, ListedHoldsOver}
-use Rattle.session_cli.specs.FormulaSteps.{AreMeant, AreSystemsUnder, IsTableRead}
+use Rattle.session_cli.specs.FormulaSteps.{AreMeant}
+use Rattle.session_cli.specs.TableReads.{AreSystemsUnder, IsRelationRead}
 use Rattle.session_cli.specs.TableReading.{IsReadable}
 use Rattle.session_cli.specs.Texts.{no_custom}
 use Rattle.session_cli.proofs.HeaderLines.{listed_some}
@@ -28,7 +30,7 @@ use Rattle.session_cli.proofs.MeantNames.{found_meant}
 use Rattle.definitions.proofs.NameLemmas.{one_meaning}
 
 -- what stands under each of some names
-abbrev AreUnder : List NamedSystem → List (List ℕ) → List SystemValue → Type 0
+abbrev pub AreUnder : List NamedSystem → List (List ℕ) → List SystemValue → Type 0
 AreUnder systems names found = AllZip (λ name s. system_named systems name ≡ Some s) names found
 
 one_some : {X : Type 0} {o : Option X} (x y : X) → o ≡ Some x → o ≡ Some y → x ≡ y
@@ -66,7 +68,7 @@ under_sealed systems [] (s ∷ found) sealed under = absurd under
 under_sealed systems (name ∷ names) [] sealed under = absurd under
 under_sealed systems (name ∷ names) (s ∷ found) sealed under = (found_sealed systems name s sealed under.0, under_sealed systems names found sealed under.1)
 
-as_many_under : (systems : List NamedSystem) (names : List (List ℕ)) (found : List SystemValue) → AreUnder systems names found → length found ≡ length names
+pub as_many_under : (systems : List NamedSystem) (names : List (List ℕ)) (found : List SystemValue) → AreUnder systems names found → length found ≡ length names
 as_many_under systems [] [] under = refl
 as_many_under systems [] (s ∷ found) under = absurd under
 as_many_under systems (name ∷ names) [] under = absurd under
@@ -83,24 +85,24 @@ below_tracks systems (Systems names) found under one = (as_many_under systems na
 below_tracks systems (Sets sets) found under one = absurd under
 
 -- the systems that are found, each with its name
-abbrev with_names : List (List ℕ) → List SystemValue → List tracks.NamedSystem
+abbrev pub with_names : List (List ℕ) → List SystemValue → List tracks.NamedSystem
 with_names [] found = []
 with_names (name ∷ names) [] = []
 with_names (name ∷ names) (s ∷ found) = record { name = name; system = system_of s } ∷ with_names names found
 
 module _ (systems : List NamedSystem) (are : AreMeant no_custom systems) where
-  names_with : (names : List (List ℕ)) (found : List SystemValue) → AreUnder systems names found → names ≡ names_of (with_names names found)
+  pub names_with : (names : List (List ℕ)) (found : List SystemValue) → AreUnder systems names found → names ≡ names_of (with_names names found)
   names_with [] found under = refl
   names_with (name ∷ names) [] under = absurd under
   names_with (name ∷ names) (s ∷ found) under = ap (λ (ns : List (List ℕ)). name ∷ ns) (names_with names found under.1)
 
-  systems_with : (names : List (List ℕ)) (found : List SystemValue) → AreUnder systems names found → systems_of (with_names names found) ≡ relations.systems_of found
+  pub systems_with : (names : List (List ℕ)) (found : List SystemValue) → AreUnder systems names found → systems_of (with_names names found) ≡ relations.systems_of found
   systems_with [] [] under = refl
   systems_with [] (s ∷ found) under = absurd under
   systems_with (name ∷ names) [] under = absurd under
   systems_with (name ∷ names) (s ∷ found) under = ap (λ (ss : List System). system_of s ∷ ss) (systems_with names found under.1)
 
-  named_with : (way : Direction) (names : List (List ℕ)) (found : List SystemValue) → AllByRecursion (λ (s : SystemValue). s.way ≡ way) found → AreUnder systems names found → AreNamed no_custom way (with_names names found)
+  pub named_with : (way : Direction) (names : List (List ℕ)) (found : List SystemValue) → AllByRecursion (λ (s : SystemValue). s.way ≡ way) found → AreUnder systems names found → AreNamed no_custom way (with_names names found)
   named_with way [] found ways under = tt
   named_with way (name ∷ names) [] ways under = absurd under
   named_with way (name ∷ names) (s ∷ found) ways under =
@@ -158,21 +160,21 @@ file_same text listed ns lists = (there, λ holds. (listed, lists, holds))
         subst (λ (l : Listed). ListedHolds no_custom l ns) same holds
 
 -- the systems of a readable table have one direction
-read_one_way : (systems : List NamedSystem) (old new : StepLog) (table : Loaded) (r : NamedRelation) (readable : IsReadable systems table) (read : IsTableRead systems old table r new) → HaveOneWay read.tracks
-read_one_way systems old new table r readable read = subst HaveOneWay (one_below systems table.listed.header readable.tracks read.tracks readable.over read.over) readable.one_way
+pub read_one_way : (systems : List NamedSystem) (table : Loaded) (found : List SystemValue) → IsReadable systems table → AreSystemsUnder systems table.listed.header found → HaveOneWay found
+read_one_way systems table found readable over = subst HaveOneWay (one_below systems table.listed.header readable.tracks found readable.over over) readable.one_way
 
 -- the relation that is read of a table is one over its systems
-pub relation_of_table : TablesHold → (systems : List NamedSystem) → AreSealed systems → (old new : StepLog) (table : Loaded) (r : NamedRelation) → IsReadable systems table → (read : IsTableRead systems old table r new) → IsRelationOfTable read.tracks table.listed r.relation
+pub relation_of_table : TablesHold → (systems : List NamedSystem) → AreSealed systems → (old new : StepLog) (table : Loaded) (r : NamedRelation) → IsReadable systems table → (read : IsRelationRead systems old table r new) → IsRelationOfTable read.tracks table.listed r.relation
 relation_of_table hold systems sealed old new table r readable read =
-    let one : HaveOneWay read.tracks = read_one_way systems old new table r readable read in
+    let one : HaveOneWay read.tracks = read_one_way systems table read.tracks readable read.over in
     let over : AreTableSystems table.listed read.tracks = record { sealed = below_sealed systems table.listed.header read.tracks sealed read.over; tracks = below_tracks systems table.listed.header read.tracks read.over one } in
     hold old.limit read.tracks table.listed r.relation read.done.lines over read.done.steps
 
 -- it holds of the numbers of which the text does that lists the table
 pub relation_holds : TablesHold → (systems : List NamedSystem) → AreSealed systems → AreMeant no_custom systems → (old new : StepLog) (table : Loaded) (r : NamedRelation) (text : List ℕ) → relation_of text ≡ Ok table.listed
-    → IsReadable systems table → IsTableRead systems old table r new → (ns : List ℕ) → RelationHolds r.relation ns ↔ FileHolds no_custom text ns
+    → IsReadable systems table → IsRelationRead systems old table r new → (ns : List ℕ) → RelationHolds r.relation ns ↔ FileHolds no_custom text ns
 relation_holds hold systems sealed are old new table r text lists readable read ns =
-    let one : HaveOneWay read.tracks = read_one_way systems old new table r readable read in
+    let one : HaveOneWay read.tracks = read_one_way systems table read.tracks readable read.over in
     let made : IsRelationOfTable read.tracks table.listed r.relation = relation_of_table hold systems sealed old new table r readable read in
     let names : ListedHolds no_custom table.listed ns ↔ ListedHoldsOver read.tracks table.listed ns = listed_same systems are table.listed read.tracks ns (λ names is. listed_some text table.listed names lists is) read.over one in
     let file : FileHolds no_custom text ns ↔ ListedHolds no_custom table.listed ns = file_same text table.listed ns lists in

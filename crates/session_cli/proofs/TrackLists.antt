@@ -6,7 +6,7 @@ use Rattle.digit_tuple.specs.Systems.{IsDigitCount, digit_sets}
 use Rattle.digit_tuple.specs.declared.systems.SystemTrack.{SystemTrack}
 use Rattle.formula_resolve.specs.declared.variable.Variable.{Variable}
 use Rattle.num_system.specs.Sealed.{SystemValue}
-use Rattle.number_relations.specs.Relations.{systems_of}
+use Rattle.num_system.specs.Tracks.{systems_of}
 use Rattle.numeration.specs.Spelling as spelling
 use Rattle.digit_tuple.proofs.SystemLemmas.{length-digit_set}
 use Rattle.session_cli.specs.FormulaPlans.{tracks_over}

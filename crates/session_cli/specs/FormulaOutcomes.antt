@@ -33,7 +33,7 @@ use Rattle.session_cli.specs.Checks.{Check, Pure, Then}
 use Rattle.definitions.specs.Trees.{Variable, Formula, Bindings, Defined, Ledger, bindings_of}
 use Rattle.definitions.specs.Named.{Custom, IsSystemNamed, IsKnown, AreKnown, IsFirstWithout}
 use Rattle.definitions.specs.FormulaTexts.{HasVerdict}
-use Rattle.session_cli.specs.FormulaSteps.{AreFormulaSteps, AreStepsRefused}
+use Rattle.session_cli.specs.FormulaSteps.{AreFormulaSteps, AreStepsRefused, IsLetterMissing}
 use Rattle.session_cli.specs.Texts.{no_custom, Stores}
 use Rattle.session_cli.specs.HeadAnswers.{HeadAnswers}
 use Rattle.session_cli.specs.Accepting.{Success, stored}
@@ -77,11 +77,13 @@ ResolvedAnswers tables formula (Err (faults.Clash name first other)) = fault_of 
 ResolvedAnswers tables formula (Err (faults.Direction first other)) = fault_of (headers_of tables) formula ≡ Some (resolves.Direction first other)
 ResolvedAnswers tables formula (Err fault) = ⊥
 
--- the lines of the steps, or the number of the first one that passes a limit
+-- the lines of the steps; or the number of the first one that passes a limit; or the first word in which a letter is missing, where that
+-- comes first
 abbrev pub BuiltAnswers : ℕ → Custom → List Loaded → trees.Formula → Result (List StepLine) Fault → Type 0
 BuiltAnswers limit custom tables formula (Ok lines) = (relation : RelationValue) × AreFormulaSteps limit custom tables formula (Ok relation) lines
 BuiltAnswers limit custom tables formula (Err (faults.Letters step)) = AreStepsRefused limit custom tables formula (steps.Letters step)
 BuiltAnswers limit custom tables formula (Err (faults.States step)) = AreStepsRefused limit custom tables formula (steps.States step)
+BuiltAnswers limit custom tables formula (Err (faults.WordGap name spelling)) = IsLetterMissing limit custom tables name spelling
 BuiltAnswers limit custom tables formula (Err fault) = ⊥
 
 -- a variable over the system that the name of its system means

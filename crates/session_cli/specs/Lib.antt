@@ -6,11 +6,13 @@ pub mod Texts
 pub mod HeadTracks
 pub mod TrackSteps
 pub mod Accepting
+pub mod TableReads
 pub mod FormulaSteps
 pub mod HeadAnswers
 pub mod RegOutcomes
 pub mod FormulaOutcomes
 pub mod Outcomes
+pub mod SpellingTexts
 pub mod Lines
 pub mod Views
 pub mod Runs

@@ -9,6 +9,7 @@ use Rattle.session_cli.specs.declared.fault.Grammar.{Grammar}
 use Rattle.session_cli.specs.declared.fault.Grammar.TheVariants as grammars
 use Rattle.session_cli.specs.declared.fault.Fault.{Fault}
 use Rattle.session_cli.specs.declared.fault.Fault.TheVariants as faults
+use Rattle.session_cli.specs.SpellingTexts.{spelling_text}
 use Rattle.session_cli.specs.Accepting.{Success}
 
 -- the line of a step with its number: its kind, its width, and the number of states of its result
@@ -62,6 +63,7 @@ detail (faults.Clash name first other) = ((codes ": F16 Clash " ++ name) ++ (cod
 detail (faults.Direction first other) = (codes ": F17 Direction " ++ first) ++ (codes " " ++ other)
 detail (faults.Letters step) = codes ": F18 Letters step " ++ decimal step
 detail (faults.States step) = codes ": F19 States step " ++ decimal step
+detail (faults.WordGap name spelling) = (codes ": F20 WordGap " ++ name) ++ (codes " " ++ spelling_text spelling)
 detail (faults.Plain name) = codes ": F21 Plain " ++ name
 detail (faults.Store folder name) = (codes ": F26 Store " ++ folder_text folder) ++ (codes "/" ++ name)
 detail faults.Memory = codes ": F27 Memory"

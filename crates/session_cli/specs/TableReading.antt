@@ -1,19 +1,26 @@
--- The relations of loaded tables, read into the library of a formula.
-use Rattle.std.specs.Prelude.{◌≡◌, ◌⊎◌, List, Result, MatchResult}
+-- What loaded tables make, read into the library of a formula.
+use Rattle.std.specs.Prelude.{◌≡◌, ◌⊎◌, ℕ, List, Result, MatchResult}
 use Rattle.std.specs.List.{AllByRecursion}
 use Rattle.digit_tuple.specs.Steps.{StepLog}
 use Rattle.digit_tuple.specs.declared.step_fault.StepFault.{StepFault}
 use Rattle.digit_tuple.specs.declared.step_fault.StepFault.TheVariants as faults
 use Rattle.dfa_loading.specs.declared.loaded.Loaded.{Loaded}
-use Rattle.formula_build.specs.Libraries.{NamedRelation, NamedSystem}
+use Rattle.dfa_reading.specs.WordFiles.{IsWordListed}
+use Rattle.formula_resolve.specs.declared.file.File.TheVariants.{Automaton, Word}
+use Rattle.formula_build.specs.Libraries.{NamedSystem, ReadValue, with_relation, with_word}
 use Rattle.num_system.specs.Sealed.{SystemValue}
-use Rattle.number_relations.specs.Relations.{RelationValue, HaveOneWay}
+use Rattle.num_system.specs.Tracks.{HaveOneWay}
+use Rattle.number_relations.specs.Relations.{RelationValue}
+use Rattle.word_output.specs.Words.{WordValue}
 use Rattle.definitions.specs.TableSteps.{IsTable}
-use Rattle.session_cli.specs.FormulaSteps.{AreSystemsUnder, IsTableRead, IsTableRefused, AreTablesRead, IsReadingRefused}
+use Rattle.session_cli.specs.declared.read_fault.ReadFault.{ReadFault}
+use Rattle.session_cli.specs.declared.read_fault.ReadFault.TheVariants.{Step, Gap}
+use Rattle.session_cli.specs.TableReads.{TableRead, ARelation, AWord, read_of, AreSystemsUnder, IsRelationRead, IsWordRead, IsTableRead, IsTableRefused, IsTableGap, AreTablesRead, IsReadingRefused, IsReadingGap}
 
--- a table over systems, each of which stands under its name, in one direction
+-- a table over systems, each of which stands under its name, in one direction; a word's lists a word
 pub record IsReadable (systems : List NamedSystem) (table : Loaded) : Type 0 where
   pub is_table : IsTable table.listed
+  pub is_word : (name : List ℕ) → table.file ≡ Word name → IsWordListed table.listed
   pub tracks : List SystemValue
   pub over : AreSystemsUnder systems table.listed.header tracks
   pub one_way : HaveOneWay tracks
@@ -21,14 +28,37 @@ pub record IsReadable (systems : List NamedSystem) (table : Loaded) : Type 0 whe
 abbrev pub AreReadable : List NamedSystem → List Loaded → Type 0
 AreReadable systems tables = AllByRecursion (IsReadable systems) tables
 
--- the relation of the table is made by its steps, or the first that passes a limit is refused, or memory runs out
-abbrev pub ReadsTable : List NamedSystem → StepLog → Loaded → Result RelationValue StepFault → StepLog → Type 0
-ReadsTable systems old table result new = MatchResult result
-    (λ r. IsTableRead systems old table (record { name = table.name; relation = r }) new)
-    (λ fault. (fault ≡ faults.Memory) ⊎ IsTableRefused systems old table fault)
+-- why a table is not read: memory ran out, or a step is the first to pass a limit, or a letter is missing
+abbrev pub IsTableFault : List NamedSystem → StepLog → Loaded → ReadFault → Type 0
+IsTableFault systems old table (Step fault) = (fault ≡ faults.Memory) ⊎ IsTableRefused systems old table fault
+IsTableFault systems old table (Gap name spelling) = IsTableGap systems old table name spelling
 
--- the relations of the tables, each under its name
-abbrev pub ReadsTables : List NamedSystem → StepLog → List Loaded → Result (List NamedRelation) StepFault → StepLog → Type 0
-ReadsTables systems old tables result new = MatchResult result
-    (λ relations. AreTablesRead systems old tables relations new)
-    (λ fault. (fault ≡ faults.Memory) ⊎ IsReadingRefused systems old tables fault)
+-- the relation of an automaton's table is made by its steps, or not
+abbrev pub ReadsRelation : List NamedSystem → StepLog → Loaded → Result RelationValue ReadFault → StepLog → Type 0
+ReadsRelation systems old table result new =
+    MatchResult result (λ r. (name : List ℕ) → table.file ≡ Automaton name → IsRelationRead systems old table (record { name = name; relation = r }) new) (IsTableFault systems old table)
+
+-- the word of a word's table
+abbrev pub ReadsWord : List NamedSystem → StepLog → Loaded → Result WordValue ReadFault → StepLog → Type 0
+ReadsWord systems old table result new =
+    MatchResult result (λ w. (name : List ℕ) → table.file ≡ Word name → IsWordRead systems old table (record { name = name; word = w }) new) (IsTableFault systems old table)
+
+-- with one more after the others
+abbrev pub with_read : ReadValue → TableRead → ReadValue
+with_read read (ARelation r) = record { relations = with_relation read.relations r.name r.relation; words = read.words }
+with_read read (AWord w) = record { relations = read.relations; words = with_word read.words w.name w.word }
+
+-- what a table makes is added, or it is not read
+abbrev pub AddsTable : List NamedSystem → StepLog → Loaded → ReadValue → Result (Unit {0}) ReadFault → ReadValue → StepLog → Type 0
+AddsTable systems old table before result after new =
+    MatchResult result (λ _. (r : TableRead) × IsTableRead systems old table r new × (after ≡ with_read before r)) (IsTableFault systems old table)
+
+-- why tables are not read
+abbrev pub IsReadingFault : List NamedSystem → StepLog → List Loaded → ReadFault → Type 0
+IsReadingFault systems old tables (Step fault) = (fault ≡ faults.Memory) ⊎ IsReadingRefused systems old tables fault
+IsReadingFault systems old tables (Gap name spelling) = IsReadingGap systems old tables name spelling
+
+-- what the tables make, each under its name, or why they are not read
+abbrev pub ReadsTables : List NamedSystem → StepLog → List Loaded → Result ReadValue ReadFault → StepLog → Type 0
+ReadsTables systems old tables result new =
+    MatchResult result (λ read. (reads : List TableRead) × AreTablesRead systems old tables reads new × (read ≡ read_of reads)) (IsReadingFault systems old tables)

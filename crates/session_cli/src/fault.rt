@@ -1,8 +1,9 @@
 ghost use Rattle.std.specs.Prelude.{◌≡◌};
 ghost use Rattle.session_cli.specs.declared.fault.Fault.TheVariants.{Memory};
 ghost use Rattle.session_cli.specs.TrackSystems.{fault_of};
-ghost use Rattle.session_cli.specs.FormulaFaults.{fault_of_loading, fault_of_resolution, fault_of_formula};
+ghost use Rattle.session_cli.specs.FormulaFaults.{fault_of_loading, fault_of_resolution, fault_of_reading, fault_of_formula};
 
+use crate::read_fault::ReadFault;
 use dfa_loading::{FileFlaw, LoadFault};
 use digit_tuple::faults::OutOfMemory;
 use digit_tuple::name::Name;
@@ -11,6 +12,7 @@ use formula_parse::ParseFault;
 use formula_resolve::ResolveFault;
 use std::alloc::{AllocError, AllocFailed};
 use wal_outside::Folder;
+use word_output::spelling::Spelling;
 
 /// The part of a command that a fault is about. Bytes count from the part's begin.
 #[derive(Clone, Copy, Debug, PartialEq, Eq)]
@@ -57,6 +59,8 @@ pub enum Fault {
     Letters(u64),
     /// F19: this step, counted from 1, would have more values than a step may have.
     States(u64),
+    /// F20: the word of this name has no letter at some place: this is the first of all spellings of such places.
+    WordGap(Name, Spelling),
     /// F21: the automaton of this name is over sets.
     Plain(Name),
     /// F26: the store failed at this file.
@@ -83,6 +87,17 @@ impl From<StepFault> for Fault {
             StepFault::Letters(step) => Fault::Letters(step),
             StepFault::States(step) => Fault::States(step),
             StepFault::Memory => Fault::Memory,
+        }
+    }
+}
+
+impl From<ReadFault> for Fault {
+    ghost from_gives = { λ f e. e ≡ fault_of_reading f };
+
+    fn from(fault: ReadFault) -> Fault {
+        match fault {
+            ReadFault::Step(fault) => Fault::from(fault),
+            ReadFault::Gap(name, spelling) => Fault::WordGap(name, spelling),
         }
     }
 }

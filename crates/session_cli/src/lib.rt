@@ -23,7 +23,9 @@ mod sealed_systems;
 mod step_options;
 // the command `reg`
 mod reg;
-// the relations of loaded tables
+// why the tables of a formula are not read
+mod read_fault;
+// the relations and the words of loaded tables
 mod table_reading;
 // the text of what a formula makes
 mod formula_text;

@@ -1,59 +1,112 @@
-//! The relations of loaded tables.
+//! The relations and the words of loaded tables.
 
-ghost use Rattle.std.specs.Prelude.{List, map, IfOk};
+ghost use Rattle.std.specs.Prelude.{◌≡◌, ℕ, List, map, IfOk};
 ghost use Rattle.std.specs.Rc.{rc_value};
 ghost use Rattle.dfa_reading.specs.HeaderViews.{header_view};
+ghost use Rattle.formula_resolve.specs.declared.file.File.TheVariants as files;
 ghost use Rattle.num_system.specs.Sealed.{SystemValue};
-ghost use Rattle.session_cli.specs.FormulaSteps.{AreSystemsUnder};
-ghost use Rattle.session_cli.specs.TableReading.{IsReadable, AreReadable, ReadsTable, ReadsTables};
+ghost use Rattle.session_cli.specs.TableReads.{AreSystemsUnder};
+ghost use Rattle.session_cli.specs.TableReading.{IsReadable, AreReadable, AddsTable, ReadsRelation, ReadsWord, ReadsTables};
 
+use crate::read_fault::ReadFault;
 use definitions::table_relation;
 use dfa_loading::Loaded;
 use dfa_reading::FileHeader;
 use digit_tuple::faults::OutOfMemory;
-use digit_tuple::step_fault::StepFault;
+use digit_tuple::name::Name;
 use digit_tuple::steps::Steps;
 use formula_build::{Library, NamedSystems};
+use formula_resolve::File;
 use num_system::system::System;
 use number_relations::relation::Relation;
 use std::alloc::Global;
 use std::rc::Rc;
+use word_output::word::Word;
+use word_output::word_fault::WordFault;
+use word_output::word_reading::read_word_steps;
 
-/// The relation of each table under its name, made by the table's steps, one table after another. No table is over sets, and
-/// the systems of each stand under their names.
+/// What the table of each file makes, under the name of the file: an automaton's a relation, and a word's a word. It is made by
+/// the table's steps, one table after another. No table is over sets, and the systems of each stand under their names.
 ///
 /// # Errors
-/// `Letters` and `States` exactly at the first step that passes a limit, with its number.
+/// `Letters` and `States` exactly at the first step that passes a limit, with its number; `Gap` exactly where the steps of a word
+/// are done and it has no letter at some place, with its name and the first of all spellings of such places.
 pub(crate) fn read_tables(
     alloc: Global,
     tables: &[Loaded],
     systems: &NamedSystems,
     steps: &mut Steps,
-) -> Result<Library, StepFault>
+) -> Result<Library, ReadFault>
     requires { AreReadable systems.now tables.now }
     ensures { ReadsTables systems.now steps.old tables.now result steps.new }
 {
     let mut library = Library::new(alloc);
     for table in tables {
-        let relation = read_table(alloc, table, systems, steps)?;
-        let shared = Rc::new(alloc, relation)?;
-        library.add_relation(alloc, &table.name, shared)?;
+        add_table(alloc, table, systems, steps, &mut library)?;
     }
     Ok(library)
 }
 
-/// The relation of a table.
-fn read_table(
+/// Adds what a table makes.
+fn add_table(
     alloc: Global,
     table: &Loaded,
     systems: &NamedSystems,
     steps: &mut Steps,
-) -> Result<Relation, StepFault>
+    library: &mut Library,
+) -> Result<(), ReadFault>
     requires { IsReadable systems.now table.now }
-    ensures { ReadsTable systems.now steps.old table.now result steps.new }
+    ensures { AddsTable systems.now steps.old table.now library.old result library.new steps.new }
+{
+    match &table.file {
+        File::Automaton(name) => {
+            let relation = read_relation(alloc, table, systems, steps)?;
+            let shared = Rc::new(alloc, relation)?;
+            library.add_relation(alloc, name, shared)?;
+        }
+        File::Word(name) => {
+            let word = read_word(alloc, table, systems, steps)?;
+            let shared = Rc::new(alloc, word)?;
+            library.add_word(alloc, name, shared)?;
+        }
+    }
+    Ok(())
+}
+
+/// The relation of an automaton's table.
+fn read_relation(
+    alloc: Global,
+    table: &Loaded,
+    systems: &NamedSystems,
+    steps: &mut Steps,
+) -> Result<Relation, ReadFault>
+    requires table { IsReadable systems.now table.now }
+    requires automaton { (name : List ℕ) × (table.now.file ≡ files.Automaton name) }
+    ensures { ReadsRelation systems.now steps.old table.now result steps.new }
 {
     let tracks = tracks_under(alloc, table.listed.header(), systems)?;
-    table_relation(alloc, &table.listed, &tracks, steps)
+    Ok(table_relation(alloc, &table.listed, &tracks, steps)?)
+}
+
+/// The word of a word's table.
+fn read_word(
+    alloc: Global,
+    table: &Loaded,
+    systems: &NamedSystems,
+    steps: &mut Steps,
+) -> Result<Word, ReadFault>
+    requires table { IsReadable systems.now table.now }
+    requires word { (name : List ℕ) × (table.now.file ≡ files.Word name) }
+    ensures { ReadsWord systems.now steps.old table.now result steps.new }
+{
+    let tracks = tracks_under(alloc, table.listed.header(), systems)?;
+    match read_word_steps(alloc, &table.listed, &tracks, steps) {
+        Ok(word) => Ok(word),
+        Err(WordFault::Step(fault)) => Err(ReadFault::Step(fault)),
+        Err(WordFault::Gap(spelling)) => {
+            Err(ReadFault::Gap(table.name().copy(alloc)?, spelling))
+        }
+    }
 }
 
 /// The systems that stand under the names of a header, none below `true` and `false`.

@@ -54,6 +54,12 @@ mod fibonacci_formulas;
 #[cfg(test)]
 mod call_rows;
 
+// formulas with automatic words, and theorems on them
+#[cfg(test)]
+mod word_rows;
+#[cfg(test)]
+mod word_theorems;
+
 // words of the command line
 #[cfg(test)]
 mod words;

@@ -1,9 +1,9 @@
-use Rattle.std.proofs.Common.{◌≡◌, ℕ, List, map, length, sym, ap, ◌∙◌, subst}
+use Rattle.std.proofs.Common.{◌≡◌, ℕ, List, map, sym, ap, ◌∙◌, subst}
 use Rattle.std.specs.Rc.{rc_value}
-use Rattle.digit_tuple.specs.Letters.{IsAlphabet, IsTooLarge}
+use Rattle.digit_tuple.specs.Letters.{IsAlphabet}
 use Rattle.dfa_reading.specs.Branching.{AreGiven, IsBranching, sizes_in}
 use Rattle.numeration.specs.Spelling.{sizes_of}
-use Rattle.number_relations.specs.Relations.{systems_of}
+use Rattle.num_system.specs.Tracks.{systems_of}
 use Rattle.definitions.proofs.TableSystems.{given_below, sizes_below}
 use Rattle.definitions.proofs.table.branching_of.Goals as goal
 

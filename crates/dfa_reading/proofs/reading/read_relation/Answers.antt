@@ -22,7 +22,7 @@ lines-preserved c =
     let added : add_line c.lines.at (draft_view c.lines.draft) c.cut_at.result.0.now ≡ Some (draft_view c.add_line.new.self) = sym c.in_ok-add_line.ensures ∙ ap (λ (b : Bool). cond b (Some (draft_view c.add_line.new.self)) None) c.if-not-branch.false in
     let shorter : length c.in-Some.next.now < length c.lines.rest.now = rw c.in-Some.is at c.cut_at.ensures.shorter in
     record {
-      read = read_line c.lines.at (draft_view c.lines.draft) (draft_view c.add_line.new.self) c.lines.rest.now c.cut_at.result.0.now c.in-Some.next.now (add_lines 1 no_draft (lines_of c.args.text.now)) lines added c.lines.invariant.read;
+      read = read_line add_line c.lines.at (draft_view c.lines.draft) (draft_view c.add_line.new.self) c.lines.rest.now c.cut_at.result.0.now c.in-Some.next.now (add_lines 1 no_draft (lines_of c.args.text.now)) lines added c.lines.invariant.read;
       after = count_line c.lines.at (1 + line_after (lines_of c.args.text.now)) c.lines.rest.now c.cut_at.result.0.now c.in-Some.next.now lines c.lines.invariant.after;
       is = line_read-kept c.lines.at (draft_view c.lines.draft) (draft_view c.add_line.new.self) c.cut_at.result.0.now added c.lines.invariant.is;
       room = omega (arith, c.lines.invariant.room);

@@ -1,8 +1,8 @@
-use Rattle.digit_tuple.specs.Headers.{sets_of}
-use Rattle.dfa_text.specs.RelationText.{state_lines}
-use Rattle.dfa_text.proofs.Counting.{lines_more}
+use Rattle.std.proofs.Common.{length, ap, ◌∙◌}
+use Rattle.std.proofs.lemmas.List.FromFn.{length-map-range_with_len}
+use Rattle.digit_tuple.specs.Deterministic.{states_of, accepting_of}
+use Rattle.dfa_text.specs.RelationText.{output_listed}
 use Rattle.dfa_text.proofs.relation_text.print_relation.Goals as goal
 
-pub loop-state-preserved : goal.loop-state-preserved
-loop-state-preserved c =
-    (lines_more (state_lines (sets_of c.args.header.now) c.args.d.now) c.push_header.new.out.items c.loop-state.out.items c.push_state.new.out.items c.loop-state.state c.loop-state.invariant.0 c.in_ok-push_state.ensures.text, c.in_ok-push_state.ensures.tracks)
+pub print_word-requires-clause-outputs : goal.print_word-requires-clause-outputs
+print_word-requires-clause-outputs c = ap length (c.deref.ensures.value ∙ c.in_ok-outputs.ensures) ∙ length-map-range_with_len (λ q. output_listed (accepting_of c.args.d.now q)) 0 (states_of c.args.d.now)

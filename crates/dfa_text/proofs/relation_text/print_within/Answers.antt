@@ -1,26 +1,8 @@
-use Rattle.std.proofs.Common.{◌++◌, ◌<◌, length, sym, ap, arith, codes, true≢false}
-use Rattle.std.specs.List.{flat_map, range_with_len}
-use Rattle.std.proofs.lemmas.List.{length-append}
-use Rattle.digit_tuple.specs.Deterministic.{states_of}
-use Rattle.digit_tuple.specs.Headers.{sets_of}
-use Rattle.dfa_text.specs.Parts.{text_of_lines}
-use Rattle.dfa_text.specs.RelationText.{header_line, state_lines, relation_text}
-use Rattle.dfa_text.proofs.Counting.{lines_more, longer_by_numbers}
+use Rattle.std.proofs.Common.{length, ap, ◌∙◌}
+use Rattle.std.proofs.lemmas.List.FromFn.{length-map-range_with_len}
+use Rattle.digit_tuple.specs.Deterministic.{states_of, accepting_of}
+use Rattle.dfa_text.specs.RelationText.{output_listed}
 use Rattle.dfa_text.proofs.relation_text.print_within.Goals as goal
 
-pub loop-state-preserved : goal.loop-state-preserved
-loop-state-preserved c =
-    (lines_more (state_lines (sets_of c.args.header.now) c.args.d.now) c.push_header.new.out.items c.loop-state.out.items c.push_state.new.out.items c.loop-state.state c.loop-state.invariant.0 c.in_ok-push_state.ensures.text, c.in_ok-push_state.ensures.tracks)
-
--- what was printed is already too long
-pub returns-then-len-most-clause-within : goal.returns-then-len-most-clause-within
-unfolding relation_text
-returns-then-len-most-clause-within c =
-    let f = state_lines (sets_of c.args.header.now) c.args.d.now in
-    let head = header_line c.args.header.now ++ codes "\n" in
-    let states = states_of c.args.d.now in
-    let so_far = text_of_lines (flat_map f (range_with_len 0 c.loop-state.state)) in
-    let all = text_of_lines (flat_map f (range_with_len 0 states)) in
-    let more = longer_by_numbers f c.loop-state.state states (omega (arith, c.loop-state-test.true, c.states-state-end.ensures.value)) in
-    let long : c.args.most < length (head ++ all) = omega (arith, more, ap length c.loop-state.invariant.0, length-append c.push_header.new.out.items so_far, ap length c.in_ok-push_header.ensures, ap length c.new-out.ensures.items, length-append c.new-out.result.items head, length-append head all, c.if-len-most.true, c.len.ensures) in
-    ((λ e. absurd (true≢false (sym e))), (λ h. absurd (omega (arith, long, h))))
+pub print_word_within-requires-clause-outputs : goal.print_word_within-requires-clause-outputs
+print_word_within-requires-clause-outputs c = ap length (c.deref.ensures.value ∙ c.in_ok-outputs.ensures) ∙ length-map-range_with_len (λ q. output_listed (accepting_of c.args.d.now q)) 0 (states_of c.args.d.now)

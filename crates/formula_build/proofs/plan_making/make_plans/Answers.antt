@@ -3,7 +3,7 @@ use Rattle.std.proofs.Common.{◌≡◌, ◌<◌, List, [], ◌∷◌, ◌++◌,
 use Rattle.std.proofs.lemmas.List.{get_or_default, length-append}
 use Rattle.digit_tuple.specs.Steps.{StepLog}
 use Rattle.number_relations.specs.Relations.{RelationValue}
-use Rattle.number_relations.proofs.StepsDone.{handed_on}
+use Rattle.num_system.proofs.LineLemmas.{handed_on}
 use Rattle.formula_plan.specs.Plans.{is_step}
 use Rattle.formula_plan.specs.Makings.{plan_at}
 use Rattle.formula_build.specs.Building.{Builds, IsBuilt}

@@ -4,7 +4,7 @@ use Rattle.minimise.proofs.ResidualLemmas.{AreCoarse}
 use Rattle.minimise.proofs.refinement.refined_classes.Given as goal
 
 abbrev pub invariant-refine : goal.invariant-refine
-invariant-refine l = AreCoarse l.dfa l.classes.items l.count
+invariant-refine l = AreCoarse l.machine.dfa.now l.machine.outputs.now l.classes.items l.count
 
 abbrev pub decreases-refine : goal.decreases-refine
-decreases-refine l = (states_of l.dfa + 1) - l.count
+decreases-refine l = (states_of l.machine.dfa.now + 1) - l.count

@@ -3,7 +3,7 @@ use Rattle.std.proofs.lemmas.Bool.Decides.{Decides-eqb, Decides-like}
 use Rattle.digit_tuple.proofs.NumberingLemmas.{IsNumbered-inserted}
 use Rattle.minimise.specs.Hashes.{hash_of}
 use Rattle.minimise.proofs.NumberedLemmas.{AreNumberedBy, AreNumberedBy-more}
-use Rattle.minimise.proofs.HashLemmas.{AreCoarseClasses-hashed}
+use Rattle.minimise.proofs.HashLemmas.{KeepAlike-hashed}
 use Rattle.minimise.proofs.rounds.rehashed.Goals as goal
 
 abbrev single : ℕ → List ℕ
@@ -25,4 +25,4 @@ pub returns : goal.returns
 returns c =
     let d = c.args.dfa.now in
     let classes = c.args.classes.now in
-    AreCoarseClasses-hashed d classes c.states.ensures.table (map single c.loop-place.hashes.keys) c.loop-place.numbers.items c.loop-place.place (omega arith) c.requires c.loop-place.invariant
+    KeepAlike-hashed d classes c.states.ensures.table (map single c.loop-place.hashes.keys) c.loop-place.numbers.items c.loop-place.place (omega arith) c.loop-place.invariant

@@ -3,7 +3,7 @@ use Rattle.std.proofs.lemmas.Result.{IfOk-weaker}
 use Rattle.num_system.specs.Sealed.{SystemValue, system_of, IsSealed}
 use Rattle.number_relations.specs.Relations.{HoldsOver, IsClosedOver}
 use Rattle.number_relations.proofs.ArithmeticLemmas.{outside_placed}
-use Rattle.number_relations.proofs.HoldLemmas.{closed_from}
+use Rattle.num_system.proofs.HoldLemmas.{closed_from}
 use Rattle.number_relations.proofs.PairLemmas.{repeated_two}
 use Rattle.number_relations.proofs.arithmetic.outside.Goals as goal
 

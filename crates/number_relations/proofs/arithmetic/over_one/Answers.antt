@@ -3,7 +3,8 @@ use Rattle.std.specs.Rc.{rc_value}
 use Rattle.std.proofs.lemmas.List.{take_all}
 use Rattle.std.proofs.lemmas.Result.{IfOk-weaker}
 use Rattle.num_system.specs.Sealed.{SystemValue}
-use Rattle.number_relations.specs.Relations.{HaveOneWay, IsClosedOver}
+use Rattle.num_system.specs.Tracks.{HaveOneWay}
+use Rattle.number_relations.specs.Relations.{IsClosedOver}
 use Rattle.number_relations.specs.Placed.{IsPlaced}
 use Rattle.number_relations.proofs.PairLemmas.{over_one_placed, repeated, repeated_one_way}
 use Rattle.number_relations.proofs.arithmetic.over_one.Goals as goal

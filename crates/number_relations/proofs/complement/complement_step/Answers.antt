@@ -4,11 +4,12 @@ use Rattle.std.proofs.lemmas.List.Elements.{All-contains_itself}
 use Rattle.digit_tuple.specs.Deterministic.{Automaton}
 use Rattle.product_op.specs.Validity.{AreLanguages}
 use Rattle.number_relations.specs.Relations.{relation_over}
-use Rattle.number_relations.specs.Joins.{languages_of}
+use Rattle.num_system.specs.Tracks.{languages_of}
 use Rattle.number_relations.specs.Complements.{DoesRelationComplement}
 use Rattle.number_relations.proofs.ComplementLemmas.{complement_is, own_languages}
-use Rattle.number_relations.proofs.NamedSystems.{under_own}
-use Rattle.number_relations.proofs.StepsDone.{complement_done, complement_of, complement_refused, handed_on}
+use Rattle.num_system.proofs.UnderNames.{under_own}
+use Rattle.num_system.proofs.LineLemmas.{handed_on}
+use Rattle.number_relations.proofs.StepsDone.{complement_done, complement_of, complement_refused}
 use Rattle.number_relations.proofs.complement.complement_step.Goals as goal
 
 pub systems_for-requires-clause-there : goal.systems_for-requires-clause-there

@@ -5,7 +5,8 @@ use Rattle.num_system.specs.Sealed.{SystemValue, system_of, IsSealed}
 use Rattle.number_relations.specs.Relations.{RelationValue, IsRelation, relation_over}
 use Rattle.number_relations.specs.Constants.{DoesRelationConstant}
 use Rattle.number_relations.proofs.ConstantRelations.{constant_is}
-use Rattle.number_relations.proofs.StepsDone.{constant_done, constant_language, constant_of, constant_refused, handed_on}
+use Rattle.num_system.proofs.LineLemmas.{handed_on}
+use Rattle.number_relations.proofs.StepsDone.{constant_done, constant_language, constant_of, constant_refused}
 use Rattle.number_relations.proofs.constant.constant_step.Goals as goal
 
 pub returns-in_err-constant : goal.returns-in_err-constant

@@ -4,7 +4,8 @@ use Rattle.digit_tuple.specs.Deterministic.{Automaton}
 use Rattle.product_op.specs.Tracks.{joint_sizes}
 use Rattle.product_op.specs.Validity.{AreLanguages}
 use Rattle.number_relations.specs.Relations.{named_of, relation_over}
-use Rattle.number_relations.specs.Joins.{joint_systems, languages_of}
+use Rattle.num_system.specs.Tracks.{languages_of}
+use Rattle.number_relations.specs.Joins.{joint_systems}
 use Rattle.number_relations.proofs.GrowthLemmas.{join_of}
 use Rattle.number_relations.proofs.JoinLemmas.{join_is, joint_languages}
 use Rattle.number_relations.proofs.JointSystems.{agree_on_sizes}

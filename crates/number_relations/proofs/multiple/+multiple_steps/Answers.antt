@@ -4,7 +4,7 @@ use Rattle.num_system.specs.Sealed.{IsSealed}
 use Rattle.number_relations.specs.Multiples.{AreMultiplesDone, DoesMultiple, PassesMultiple}
 use Rattle.number_relations.proofs.MultipleLemmas.{double_multiple, equal_multiple}
 use Rattle.number_relations.proofs.MultiplesDone.{distinct_exchanged, lesser_passes, multiple_last, multiple_made, nothing_made}
-use Rattle.number_relations.proofs.StepsDone.{handed_on}
+use Rattle.num_system.proofs.LineLemmas.{handed_on}
 use Rattle.number_relations.proofs.multiple.+multiple_steps.Goals as goal
 
 pub multiple_steps-requires : goal.multiple_steps-requires

@@ -2,7 +2,7 @@ use Rattle.std.proofs.Common.{rules, ◌<◌, map, length, get_or, sym, ap, ◌�
 use Rattle.std.specs.Rc.{rc_value}
 use Rattle.std.proofs.lemmas.List.{get_or-map}
 use Rattle.digit_tuple.proofs.NameLemmas.{place_of-contained}
-use Rattle.number_relations.specs.Relations.{absent_system}
+use Rattle.num_system.specs.Tracks.{absent_system}
 use Rattle.number_relations.proofs.placed.system_for.Goals as goal
 
 pub bounds-systems-place : goal.bounds-systems-place

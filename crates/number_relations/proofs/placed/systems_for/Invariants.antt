@@ -1,6 +1,6 @@
 use Rattle.std.proofs.Common.{◌≡◌, take, map}
 use Rattle.std.specs.Rc.{rc_value}
-use Rattle.number_relations.specs.Placed.{systems_under}
+use Rattle.num_system.specs.Tracks.{systems_under}
 use Rattle.number_relations.proofs.placed.systems_for.Given as goal
 
 abbrev pub invariant-loop-name : goal.invariant-loop-name

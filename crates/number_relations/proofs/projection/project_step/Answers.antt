@@ -1,7 +1,8 @@
 use Rattle.std.proofs.Common.{◌≡◌, map}
 use Rattle.std.specs.Rc.{rc_value}
 use Rattle.project_close.proofs.ProjectionLemmas.{names_without-there}
-use Rattle.number_relations.specs.Relations.{relation_over, way_of}
+use Rattle.num_system.specs.Tracks.{way_of}
+use Rattle.number_relations.specs.Relations.{relation_over}
 use Rattle.number_relations.specs.Projections.{staying_systems}
 use Rattle.number_relations.proofs.GrowthLemmas.{projection_of}
 use Rattle.number_relations.proofs.ProjectLemmas.{projection_is}

@@ -11,13 +11,13 @@ use Rattle.automaton_steps.specs.Numbered.{numbered}
 use Rattle.automaton_steps.specs.PadSteps.{IsPadStep}
 use Rattle.automaton_steps.specs.ValidSteps.{IsValidStep, DoesValid}
 use Rattle.num_system.specs.Sealed.{SystemValue}
-use Rattle.number_relations.specs.Relations.{IsRelation, relation_over, way_of, systems_of}
-use Rattle.number_relations.specs.Joins.{languages_of}
+use Rattle.num_system.specs.Tracks.{way_of, systems_of, languages_of}
+use Rattle.number_relations.specs.Relations.{IsRelation, relation_over}
 use Rattle.number_relations.specs.Readings.{DoesReading, IsReadDone}
 use Rattle.number_relations.proofs.ReadingLemmas.{reading_is}
 use Rattle.number_relations.proofs.ReadingsDone.{reading_done, valid_stops}
-use Rattle.number_relations.proofs.SealedLemmas.{languages_fit}
-use Rattle.number_relations.proofs.StepsDone.{handed_on}
+use Rattle.num_system.proofs.SealedLemmas.{languages_fit}
+use Rattle.num_system.proofs.LineLemmas.{handed_on}
 use Rattle.number_relations.proofs.reading.reading_steps.Goals as goal
 
 pub valid_step-requires : goal.valid_step-requires

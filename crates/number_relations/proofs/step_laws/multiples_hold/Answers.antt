@@ -1,5 +1,6 @@
 use Rattle.std.proofs.Common.{ℕ, ◌≡◌, ◌*◌, List, subst, ◌↔◌}
-use Rattle.number_relations.specs.Relations.{RelationHolds, number_under}
+use Rattle.num_system.specs.Tracks.{number_under}
+use Rattle.number_relations.specs.Relations.{RelationHolds}
 use Rattle.number_relations.proofs.MultipleLemmas.{steps_multiple}
 use Rattle.number_relations.proofs.RelationLemmas.{numbers_of_names}
 use Rattle.number_relations.proofs.step_laws.multiples_hold.Goals as goal

@@ -5,8 +5,8 @@ use Rattle.std.proofs.lemmas.List.{get_or-map, length-map}
 use Rattle.std.proofs.lemmas.Result.{IfOk-weaker}
 use Rattle.digit_tuple.proofs.NameLemmas.{place_of-contained}
 use Rattle.num_system.specs.Sealed.{SystemValue}
-use Rattle.number_relations.specs.Relations.{absent_system, system_under}
-use Rattle.number_relations.proofs.NamedSystems.{under_left, under_missing}
+use Rattle.num_system.specs.Tracks.{absent_system, system_under}
+use Rattle.num_system.proofs.UnderNames.{under_left, under_missing}
 use Rattle.number_relations.proofs.track_systems.joint_system.Goals as goal
 
 pub bounds-systems-place : goal.bounds-systems-place

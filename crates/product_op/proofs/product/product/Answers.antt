@@ -4,11 +4,11 @@ use Rattle.std.proofs.lemmas.Result.{IfOk-weaker}
 use Rattle.digit_tuple.specs.Deterministic.{Automaton, accepts_of}
 use Rattle.digit_tuple.specs.Names.{AreDistinct, AreJoint, joint_names}
 use Rattle.product_op.specs.Tracks.{joint_sizes}
-use Rattle.product_op.specs.Readings.{readings_in}
+use Rattle.product_op.specs.Readings.{readings_in, AreCanonical}
 use Rattle.product_op.specs.TrackReadings.{AllFitTracks, argument_reading, track_readings}
 use Rattle.digit_tuple.proofs.JointNames.{AreJoint-joint_names}
 use Rattle.product_op.proofs.SizeLemmas.{AreDistinct-ordered}
-use Rattle.product_op.proofs.ProductLemmas.{AllFitTracks-counted, AreSideBySide-product, AreSideBySide-made, length-joint, product-language, product-width, product-apart}
+use Rattle.product_op.proofs.ProductLemmas.{AllFitTracks-counted, AreSideBySide-product, AreCanonical-product, AreSideBySide-made, length-joint, product-language, product-width, product-apart}
 use Rattle.product_op.proofs.product.product.Goals as goal
 
 pub product_readers-requires-clause-languages : goal.product_readers-requires-clause-languages
@@ -24,6 +24,15 @@ tracked_side_by_side-requires-clause-readers c =
     let are = ap readings_in c.deref.ensures.value ∙ c.in_ok-readers.ensures ∙ ap (λ (ls : List Automaton). argument_reading a b a ∷ argument_reading a b b ∷ track_readings (joint_sizes a b) ls) c.counted.ensures in
     AreSideBySide-made c.args.op a b languages (readings_in c.deref.result.now) c.in_ok-joint.joint.alphabet are c.in_ok-joint.ensures.sizes
     (AreSideBySide-product a b c.in_ok-joint.ensures.first c.in_ok-joint.ensures.second c.requires.agree c.args.op languages (AllFitTracks-counted c.args.op (joint_sizes a b) languages c.requires.languages))
+
+pub tracked_side_by_side-requires-clause-canonical : goal.tracked_side_by_side-requires-clause-canonical
+tracked_side_by_side-requires-clause-canonical c =
+    let a = c.args.a.now in
+    let b = c.args.b.now in
+    let languages = map rc_value c.args.valid.now in
+    let are = ap readings_in c.deref.ensures.value ∙ c.in_ok-readers.ensures ∙ ap (λ (ls : List Automaton). argument_reading a b a ∷ argument_reading a b b ∷ track_readings (joint_sizes a b) ls) c.counted.ensures in
+    subst AreCanonical (sym are)
+    (AreCanonical-product a b c.in_ok-joint.ensures.first c.in_ok-joint.ensures.second c.requires.agree c.args.op languages (AllFitTracks-counted c.args.op (joint_sizes a b) languages c.requires.languages))
 
 pub tracked_side_by_side-requires-clause-count : goal.tracked_side_by_side-requires-clause-count
 tracked_side_by_side-requires-clause-count c =

@@ -22,7 +22,7 @@ returns-then-is_dead-clause-language c =
     let rs = readings_in c.args.readers.now in
     let dead : is_dead_key c.args.rule rs (first_key rs) ≡ true = ap (is_dead_key c.args.rule rs) (sym (c.deref.ensures.value ∙ c.in_ok-first.ensures)) ∙ sym c.is_dead.ensures ∙ c.if-is_dead.true in
     IfOk-weaker c.no_words_within.result _ _
-    (λ stepped is w over. ap (λ (d : Automaton). accepts_of d w) is ∙ bare_refuses c.args.alphabet w ∙ sym (dead-flags rs (product c.args.alphabet) c.requires.readings_are c.args.rule dead w))
+    (λ stepped is w over. ap (λ (d : Automaton). accepts_of d w) is ∙ bare_refuses c.args.alphabet w ∙ sym (dead-flags rs (product c.args.alphabet) c.requires.readers.readings_are c.args.rule dead w))
     c.no_words_within.ensures.no_words
 
 pub returns-then-is_dead-clause-width : goal.returns-then-is_dead-clause-width
@@ -31,7 +31,7 @@ returns-then-is_dead-clause-width c =
     let dead : is_dead_key c.args.rule rs (first_key rs) ≡ true = ap (is_dead_key c.args.rule rs) (sym (c.deref.ensures.value ∙ c.in_ok-first.ensures)) ∙ sym c.is_dead.ensures ∙ c.if-is_dead.true in
     let letters = product c.args.alphabet in
     IfOk-weaker c.no_words_within.result _ _
-    (λ stepped one. subst (HasWidth (AreAlike rs) letters) (sym one) (HasWidth-one (AreAlike rs) letters (λ w over. dead-alike rs letters c.requires.readings_are c.args.rule dead w [])))
+    (λ stepped one. subst (HasWidth (AreAlike rs) letters) (sym one) (HasWidth-one (AreAlike rs) letters (λ w over. dead-alike rs letters c.requires.readers.readings_are c.args.rule dead w [])))
     c.no_words_within.ensures.width
 
 pub returns-then-is_dead-clause-states : goal.returns-then-is_dead-clause-states
@@ -55,8 +55,8 @@ returns-clause-width c =
     let live : is_dead_key rule rs (first_key rs) ≡ false = ap (is_dead_key rule rs) (sym (c.deref.ensures.value ∙ c.in_ok-first.ensures)) ∙ sym c.is_dead.ensures ∙ c.if-is_dead.false in
     IfOk-weaker c.explore_canonical.result _ _
     (λ stepped. HasWidth-same (LeadAlike (live_key_after rule rs) (first_key rs)) (AreAlike rs) letters stepped.width
-    (λ w v over there same. alike_from_keys rs letters c.requires.readings_are rule live w v same)
-    (keys_from_alike rs letters c.requires.readings_are rule live))
+    (λ w v over there same. alike_from_keys rs letters c.requires.readers.readings_are rule live w v same)
+    (keys_from_alike rs letters c.requires.readers.readings_are rule live c.requires.canonical))
     c.explore_canonical.ensures.width
 
 pub returns-clause-states : goal.returns-clause-states
@@ -65,4 +65,4 @@ returns-clause-states c refused =
     let rule = c.args.rule in
     let letters = product c.args.alphabet in
     let live : is_dead_key rule rs (first_key rs) ≡ false = ap (is_dead_key rule rs) (sym (c.deref.ensures.value ∙ c.in_ok-first.ensures)) ∙ sym c.is_dead.ensures ∙ c.if-is_dead.false in
-    HasApart-same (LeadAlike (live_key_after rule rs) (first_key rs)) (AreAlike rs) letters (c.args.limit + 1) (keys_from_alike rs letters c.requires.readings_are rule live) (c.explore_canonical.ensures.states refused)
+    HasApart-same (LeadAlike (live_key_after rule rs) (first_key rs)) (AreAlike rs) letters (c.args.limit + 1) (keys_from_alike rs letters c.requires.readers.readings_are rule live c.requires.canonical) (c.explore_canonical.ensures.states refused)

@@ -3,10 +3,10 @@ use Rattle.std.specs.Rc.{rc_value}
 use Rattle.std.proofs.lemmas.Result.{IfOk-weaker}
 use Rattle.digit_tuple.specs.Deterministic.{Automaton, accepts_of}
 use Rattle.digit_tuple.specs.Names.{AreDistinct}
-use Rattle.product_op.specs.Readings.{readings_in}
+use Rattle.product_op.specs.Readings.{readings_in, AreCanonical}
 use Rattle.product_op.specs.TrackReadings.{AllFitTracks, validity_readings}
 use Rattle.product_op.proofs.ReadingLemmas.{AllFitTracks-languages}
-use Rattle.product_op.proofs.ProductLemmas.{AreSideBySide-valid, validity-language, validity-width, validity-apart}
+use Rattle.product_op.proofs.ProductLemmas.{AreSideBySide-valid, AreCanonical-validity, validity-language, validity-width, validity-apart}
 use Rattle.product_op.proofs.validity.among_valid.Goals as goal
 
 pub validity_readers-requires-clause-languages : goal.validity_readers-requires-clause-languages
@@ -21,6 +21,13 @@ tracked_side_by_side-requires-clause-readers c =
     let are = ap readings_in c.deref.ensures.value ∙ c.in_ok-readers.ensures ∙ ap (λ (x : Automaton). validity_readings x languages) c.dfa-dfa.ensures.value in
     let sizes = c.in_ok-alphabet.ensures ∙ c.alphabet.ensures.sizes ∙ ap (λ (x : Automaton). x.sizes) c.dfa-dfa.ensures.value in
     AreSideBySide-valid a languages c.args.rule (readings_in c.deref.result.now) c.in_ok-alphabet.alphabet are sizes c.names.ensures.tracked.canonical (AllFitTracks-languages a.automaton.sizes languages c.requires.languages) c.requires.enough
+
+pub tracked_side_by_side-requires-clause-canonical : goal.tracked_side_by_side-requires-clause-canonical
+tracked_side_by_side-requires-clause-canonical c =
+    let a = c.args.a.now in
+    let languages = map rc_value c.args.valid.now in
+    let are = ap readings_in c.deref.ensures.value ∙ c.in_ok-readers.ensures ∙ ap (λ (x : Automaton). validity_readings x languages) c.dfa-dfa.ensures.value in
+    subst AreCanonical (sym are) (AreCanonical-validity a.automaton c.names.ensures.tracked.canonical languages (AllFitTracks-languages a.automaton.sizes languages c.requires.languages))
 
 pub tracked_side_by_side-requires-clause-count : goal.tracked_side_by_side-requires-clause-count
 tracked_side_by_side-requires-clause-count c =

@@ -1,8 +1,6 @@
-use Rattle.std.proofs.Common.{◌++◌, List, None, Ok, Err, sym, ap, ◌∙◌, subst, inr}
+use Rattle.std.proofs.Common.{◌++◌, List, Ok, Err, sym, ap, ◌∙◌, subst, inr}
 use Rattle.std.proofs.lemmas.Result.{err_from_is_err_and}
 use Rattle.wal_outside.specs.declared.folder.Folder.TheVariants.{Bases}
-use Rattle.digit_tuple.specs.Steps.{StepLog}
-use Rattle.dfa_loading.specs.Headers.{headers_of}
 use Rattle.formula_build.proofs.ReadFormulas.{read_formed}
 use Rattle.formula_build.specs.Libraries.{NamedSystem}
 use Rattle.formula_build.specs.Resolved.{AreWays}
@@ -12,7 +10,9 @@ use Rattle.formula_resolve.specs.Headers.{Headers}
 use Rattle.formula_resolve.specs.declared.variable.Variable.{Variable}
 use Rattle.session_cli.specs.FormulaOutcomes.{AreVariables, bindings_now}
 use Rattle.session_cli.specs.FormulaPlans.{HaveTracks, IsTextOf, HasNoTextOf}
-use Rattle.session_cli.specs.FormulaSteps.{AreTablesRead, no_steps}
+use Rattle.session_cli.specs.FormulaFaults.{fault_of_reading}
+use Rattle.session_cli.specs.FormulaSteps.{no_steps}
+use Rattle.session_cli.specs.TableReads.{library_with}
 use Rattle.session_cli.specs.Lines.{verdict_line}
 use Rattle.session_cli.specs.Texts.{no_custom}
 use Rattle.session_cli.specs.TableReading.{AreReadable}
@@ -24,7 +24,6 @@ use Rattle.session_cli.proofs.FormulaPlanning.{text_made, text_refused, verdict_
 use Rattle.session_cli.proofs.FormulaReady.{stopped_here, set_up, fits_here, known_here, solution_here, tracks_here, variables_here, steps_here, reading_here, resolves_here}
 use Rattle.session_cli.proofs.FormulaRefusals.{unbuilt, unread}
 use Rattle.session_cli.proofs.FormulaSolutions.{are_variables, as_many, over_digits}
-use Rattle.session_cli.proofs.TableFits.{library_with}
 use Rattle.session_cli.proofs.formula.built.Goals as goal
 
 pub resolve-requires-clause-formed : goal.resolve-requires-clause-formed
@@ -51,7 +50,7 @@ returns-in_err-library c =
     let limit = c.args.options.limit in
     let fault = c.in_err-library.field-0.0 in
     let told = resolves_here tables f c.names.result.now.headers (c.names.ensures.headers ∙ c.requires.headers) c.in_ok-resolved.ensures.told in
-    λ ledger files place stores listed. rw (p.1, p.2) (resolved_unbuilt limit ledger place tables f (track_systems.fault_of fault) told
+    λ ledger files place stores listed. rw (p.1, p.2) (resolved_unbuilt limit ledger place tables f (fault_of_reading fault) told
     (unread limit (ledger Bases) tables f fault
     (stopped_here systems c.names-2.result.now.systems limit (ledger Bases) c.new-steps.result tables fault c.names.ensures.sealed (c.names.ensures.meant (ledger Bases)) c.names-2.ensures.systems c.new-steps.ensures c.in_err-library.ensures)))
 
@@ -65,9 +64,10 @@ build-requires-clause-fits c =
     let headers = c.names.ensures.headers ∙ c.requires.headers in
     let told = resolves_here tables f c.names.result.now.headers headers c.in_ok-resolved.ensures.told in
     let read = c.in_ok-library.library in
-    let reading = reading_here systems c.names-2.result.now.systems limit c.new-steps.result c.read_tables.new.steps tables read c.names-2.ensures.systems c.new-steps.ensures c.in_ok-library.ensures in
-    let up = set_up r read c.args.formula.now tables c.names.result.now systems c.in_ok-resolved.ensures.formula c.in_ok-resolved.ensures.names headers c.names.ensures.systems in
-    fits_here r read f tables systems up (ground_fits f tables c.requires.files.0 c.requires.files.1 systems c.names.ensures.sealed c.names.ensures.meant told c.requires.systems read (no_steps limit) c.read_tables.new.steps reading)
+    let reads = c.in_ok-library.ensures.0 in
+    let reading = reading_here systems c.names-2.result.now.systems limit c.new-steps.result c.read_tables.new.steps tables reads c.names-2.ensures.systems c.new-steps.ensures c.in_ok-library.ensures.1 in
+    let up = set_up r read reads c.args.formula.now tables c.names.result.now systems c.in_ok-resolved.ensures.formula c.in_ok-resolved.ensures.names headers c.names.ensures.systems c.in_ok-library.ensures.2 in
+    fits_here r read reads f tables systems up (ground_fits f tables c.requires.files.0 c.requires.files.1 systems c.names.ensures.sealed c.names.ensures.meant told c.requires.systems reads (no_steps limit) c.read_tables.new.steps reading)
 
 pub build-requires-clause-known : goal.build-requires-clause-known
 build-requires-clause-known c =
@@ -79,9 +79,10 @@ build-requires-clause-known c =
     let headers = c.names.ensures.headers ∙ c.requires.headers in
     let told = resolves_here tables f c.names.result.now.headers headers c.in_ok-resolved.ensures.told in
     let read = c.in_ok-library.library in
-    let reading = reading_here systems c.names-2.result.now.systems limit c.new-steps.result c.read_tables.new.steps tables read c.names-2.ensures.systems c.new-steps.ensures c.in_ok-library.ensures in
-    let up = set_up r read c.args.formula.now tables c.names.result.now systems c.in_ok-resolved.ensures.formula c.in_ok-resolved.ensures.names headers c.names.ensures.systems in
-    known_here r read f tables systems up (ground_known f tables c.requires.files.0 c.requires.files.1 systems c.names.ensures.sealed c.names.ensures.meant told c.requires.systems read (no_steps limit) c.read_tables.new.steps reading c.requires.read)
+    let reads = c.in_ok-library.ensures.0 in
+    let reading = reading_here systems c.names-2.result.now.systems limit c.new-steps.result c.read_tables.new.steps tables reads c.names-2.ensures.systems c.new-steps.ensures c.in_ok-library.ensures.1 in
+    let up = set_up r read reads c.args.formula.now tables c.names.result.now systems c.in_ok-resolved.ensures.formula c.in_ok-resolved.ensures.names headers c.names.ensures.systems c.in_ok-library.ensures.2 in
+    known_here r read reads f tables systems up (ground_known f tables c.requires.files.0 c.requires.files.1 systems c.names.ensures.sealed c.names.ensures.meant told c.requires.systems reads (no_steps limit) c.read_tables.new.steps reading c.requires.read)
 
 pub returns-in_err-relation : goal.returns-in_err-relation
 returns-in_err-relation c =
@@ -94,11 +95,12 @@ returns-in_err-relation c =
     let headers = c.names.ensures.headers ∙ c.requires.headers in
     let told = resolves_here tables f c.names.result.now.headers headers c.in_ok-resolved.ensures.told in
     let read = c.in_ok-library.library in
-    let reading = reading_here systems c.names-2.result.now.systems limit c.new-steps.result c.read_tables.new.steps tables read c.names-2.ensures.systems c.new-steps.ensures c.in_ok-library.ensures in
-    let up = set_up r read c.args.formula.now tables c.names.result.now systems c.in_ok-resolved.ensures.formula c.in_ok-resolved.ensures.names headers c.names.ensures.systems in
+    let reads = c.in_ok-library.ensures.0 in
+    let reading = reading_here systems c.names-2.result.now.systems limit c.new-steps.result c.read_tables.new.steps tables reads c.names-2.ensures.systems c.new-steps.ensures c.in_ok-library.ensures.1 in
+    let up = set_up r read reads c.args.formula.now tables c.names.result.now systems c.in_ok-resolved.ensures.formula c.in_ok-resolved.ensures.names headers c.names.ensures.systems c.in_ok-library.ensures.2 in
     let fault = c.in_err-relation.field-0.0 in
     λ ledger files place stores listed.
-    let steps = steps_here r read f tables systems up limit (ledger Bases) c.read_tables.new.steps c.build.new.steps (Err fault) c.names.ensures.sealed (c.names.ensures.meant (ledger Bases)) reading c.in_err-relation.ensures.steps in
+    let steps = steps_here r read reads f tables systems up limit (ledger Bases) c.read_tables.new.steps c.build.new.steps (Err fault) c.names.ensures.sealed (c.names.ensures.meant (ledger Bases)) reading c.in_err-relation.ensures.steps in
     rw (p.1, p.2) (resolved_unbuilt limit ledger place tables f (track_systems.fault_of fault) told (unbuilt limit (ledger Bases) tables f fault (inr (c.build.new.steps.lines, steps))))
 
 pub formula_text-requires : goal.formula_text-requires
@@ -111,13 +113,14 @@ formula_text-requires c =
     let headers = c.names.ensures.headers ∙ c.requires.headers in
     let told = resolves_here tables f c.names.result.now.headers headers c.in_ok-resolved.ensures.told in
     let read = c.in_ok-library.library in
-    let reading = reading_here systems c.names-2.result.now.systems limit c.new-steps.result c.read_tables.new.steps tables read c.names-2.ensures.systems c.new-steps.ensures c.in_ok-library.ensures in
-    let up = set_up r read c.args.formula.now tables c.names.result.now systems c.in_ok-resolved.ensures.formula c.in_ok-resolved.ensures.names headers c.names.ensures.systems in
+    let reads = c.in_ok-library.ensures.0 in
+    let reading = reading_here systems c.names-2.result.now.systems limit c.new-steps.result c.read_tables.new.steps tables reads c.names-2.ensures.systems c.new-steps.ensures c.in_ok-library.ensures.1 in
+    let up = set_up r read reads c.args.formula.now tables c.names.result.now systems c.in_ok-resolved.ensures.formula c.in_ok-resolved.ensures.names headers c.names.ensures.systems c.in_ok-library.ensures.2 in
     let a = c.in_ok-relation.relation in
-    let over = tracks_here r read f tables systems up a c.in_ok-relation.ensures.tracks in
+    let over = tracks_here r read reads f tables systems up a c.in_ok-relation.ensures.tracks in
     let tracks : HaveTracks r.variables.items a.systems = record {
-      count = as_many (library_with read systems) r.variables.items a.systems over.systems_are;
-      digits = over_digits no_custom (library_with read systems) r.variables.items a.systems (c.names.ensures.meant no_custom) over.systems_are;
+      count = as_many (library_with reads systems) r.variables.items a.systems over.systems_are;
+      digits = over_digits no_custom (library_with reads systems) r.variables.items a.systems (c.names.ensures.meant no_custom) over.systems_are;
     } in
     subst (λ (vs : List Variable). HaveTracks vs a.systems) (sym c.deref.ensures.value) tracks
 
@@ -132,18 +135,19 @@ returns-in_err-stored c =
     let headers = c.names.ensures.headers ∙ c.requires.headers in
     let told = resolves_here tables f c.names.result.now.headers headers c.in_ok-resolved.ensures.told in
     let read = c.in_ok-library.library in
-    let reading = reading_here systems c.names-2.result.now.systems limit c.new-steps.result c.read_tables.new.steps tables read c.names-2.ensures.systems c.new-steps.ensures c.in_ok-library.ensures in
-    let up = set_up r read c.args.formula.now tables c.names.result.now systems c.in_ok-resolved.ensures.formula c.in_ok-resolved.ensures.names headers c.names.ensures.systems in
+    let reads = c.in_ok-library.ensures.0 in
+    let reading = reading_here systems c.names-2.result.now.systems limit c.new-steps.result c.read_tables.new.steps tables reads c.names-2.ensures.systems c.new-steps.ensures c.in_ok-library.ensures.1 in
+    let up = set_up r read reads c.args.formula.now tables c.names.result.now systems c.in_ok-resolved.ensures.formula c.in_ok-resolved.ensures.names headers c.names.ensures.systems c.in_ok-library.ensures.2 in
     let a = c.in_ok-relation.relation in
-    let over = tracks_here r read f tables systems up a c.in_ok-relation.ensures.tracks in
-    let solution = solution_here r read f tables systems up a c.in_ok-relation.ensures.solution in
-    let found = variables_here r read f tables systems up c.in_ok-resolved.ensures.planned in
-    let l = library_with read systems in
+    let over = tracks_here r read reads f tables systems up a c.in_ok-relation.ensures.tracks in
+    let solution = solution_here r read reads f tables systems up a c.in_ok-relation.ensures.solution in
+    let found = variables_here r read reads f tables systems up c.in_ok-resolved.ensures.planned in
+    let l = library_with reads systems in
     let meant = c.names.ensures.meant no_custom in
     let refused = subst (λ (vs : List Variable). HasNoTextOf vs a c.in_err-stored.field-0.0) c.deref.ensures.value c.in_err-stored.ensures in
     λ ledger files place stores listed.
-    let means = ground_means f tables files listed systems c.names.ensures.sealed c.names.ensures.meant told c.requires.systems read (no_steps limit) c.read_tables.new.steps reading ledger stores in
-    let steps = steps_here r read f tables systems up limit (ledger Bases) c.read_tables.new.steps c.build.new.steps (Ok a) c.names.ensures.sealed (c.names.ensures.meant (ledger Bases)) reading c.in_ok-relation.ensures.steps in
+    let means = ground_means f tables files listed systems c.names.ensures.sealed c.names.ensures.meant told c.requires.systems reads (no_steps limit) c.read_tables.new.steps reading ledger stores in
+    let steps = steps_here r read reads f tables systems up limit (ledger Bases) c.read_tables.new.steps c.build.new.steps (Ok a) c.names.ensures.sealed (c.names.ensures.meant (ledger Bases)) reading c.in_ok-relation.ensures.steps in
     let are = subst (λ (vs : List Variable). AreVariables (ledger Bases) vs (variables_over r.variables.items a.systems)) found (are_variables (ledger Bases) l r.variables.items a.systems (c.names.ensures.meant (ledger Bases)) over.systems_are) in
     rw (p.1, p.2) (steps_made limit ledger place tables f (variables_over r.variables.items a.systems) c.build.new.steps.lines c.args.options.shown (Err c.in_err-stored.field-0.0) told (a, steps) are
     (text_refused l (bindings_now ledger f) means meant f r.variables.items a solution over place c.build.new.steps.lines c.in_err-stored.field-0.0 refused))
@@ -158,20 +162,21 @@ returns c =
     let headers = c.names.ensures.headers ∙ c.requires.headers in
     let told = resolves_here tables f c.names.result.now.headers headers c.in_ok-resolved.ensures.told in
     let read = c.in_ok-library.library in
-    let reading = reading_here systems c.names-2.result.now.systems limit c.new-steps.result c.read_tables.new.steps tables read c.names-2.ensures.systems c.new-steps.ensures c.in_ok-library.ensures in
-    let up = set_up r read c.args.formula.now tables c.names.result.now systems c.in_ok-resolved.ensures.formula c.in_ok-resolved.ensures.names headers c.names.ensures.systems in
+    let reads = c.in_ok-library.ensures.0 in
+    let reading = reading_here systems c.names-2.result.now.systems limit c.new-steps.result c.read_tables.new.steps tables reads c.names-2.ensures.systems c.new-steps.ensures c.in_ok-library.ensures.1 in
+    let up = set_up r read reads c.args.formula.now tables c.names.result.now systems c.in_ok-resolved.ensures.formula c.in_ok-resolved.ensures.names headers c.names.ensures.systems c.in_ok-library.ensures.2 in
     let a = c.in_ok-relation.relation in
-    let over = tracks_here r read f tables systems up a c.in_ok-relation.ensures.tracks in
-    let solution = solution_here r read f tables systems up a c.in_ok-relation.ensures.solution in
-    let found = variables_here r read f tables systems up c.in_ok-resolved.ensures.planned in
-    let l = library_with read systems in
+    let over = tracks_here r read reads f tables systems up a c.in_ok-relation.ensures.tracks in
+    let solution = solution_here r read reads f tables systems up a c.in_ok-relation.ensures.solution in
+    let found = variables_here r read reads f tables systems up c.in_ok-resolved.ensures.planned in
+    let l = library_with reads systems in
     let meant = c.names.ensures.meant no_custom in
     let text = subst (λ (vs : List Variable). IsTextOf vs a c.in_ok-stored.stored.items) c.deref.ensures.value c.in_ok-stored.ensures in
     let printed = c.in_ok-push_verdict.ensures ∙ ap (λ front. front ++ verdict_line c.verdict.result) c.in_ok-printed.ensures in
     λ ledger files place stores listed.
-    let means = ground_means f tables files listed systems c.names.ensures.sealed c.names.ensures.meant told c.requires.systems read (no_steps limit) c.read_tables.new.steps reading ledger stores in
+    let means = ground_means f tables files listed systems c.names.ensures.sealed c.names.ensures.meant told c.requires.systems reads (no_steps limit) c.read_tables.new.steps reading ledger stores in
     let verdict = verdict_is l (bindings_now ledger f) means meant f r.variables.items a solution over c.verdict.result c.verdict.ensures.sentence c.verdict.ensures.truth in
-    let steps = steps_here r read f tables systems up limit (ledger Bases) c.read_tables.new.steps c.build.new.steps (Ok a) c.names.ensures.sealed (c.names.ensures.meant (ledger Bases)) reading c.in_ok-relation.ensures.steps in
+    let steps = steps_here r read reads f tables systems up limit (ledger Bases) c.read_tables.new.steps c.build.new.steps (Ok a) c.names.ensures.sealed (c.names.ensures.meant (ledger Bases)) reading c.in_ok-relation.ensures.steps in
     let are = subst (λ (vs : List Variable). AreVariables (ledger Bases) vs (variables_over r.variables.items a.systems)) found (are_variables (ledger Bases) l r.variables.items a.systems (c.names.ensures.meant (ledger Bases)) over.systems_are) in
     steps_made limit ledger place tables f (variables_over r.variables.items a.systems) c.build.new.steps.lines c.args.options.shown (Ok _) told (a, steps) are
     (text_made l (bindings_now ledger f) means meant f r.variables.items a solution over place c.build.new.steps.lines c.verdict.result c.args.options.shown _ verdict text printed)

@@ -1,4 +1,4 @@
-use Rattle.std.proofs.Common.{List, [], Ok, Err, refl, sym, subst}
+use Rattle.std.proofs.Common.{List, [], Err, sym, subst}
 use Rattle.std.proofs.lemmas.Result.{err_from_is_err_and}
 use Rattle.formula_parse.specs.Views.{formula_view}
 use Rattle.wal_outside.specs.Files.{Files}

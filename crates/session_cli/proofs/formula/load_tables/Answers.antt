@@ -1,9 +1,7 @@
-use Rattle.std.proofs.Common.{Err, refl, sym, ap, ◌∙◌, subst}
+use Rattle.std.proofs.Common.{refl, sym, ◌∙◌, subst}
 use Rattle.std.proofs.lemmas.Result.{err_from_is_err_and}
-use Rattle.wal_outside.specs.Views.{StoreView}
-use Rattle.formula_resolve.specs.FirstMentions.{first_files, IsOnce}
+use Rattle.formula_resolve.specs.FirstMentions.{IsOnce}
 use Rattle.formula_resolve.proofs.FirstLemmas.{first_once}
-use Rattle.session_cli.proofs.LoadedFiles.{tables_loaded, tables_unloaded}
 use Rattle.session_cli.proofs.StoreReads.{from_none}
 use Rattle.session_cli.proofs.formula.load_tables.Goals as goal
 

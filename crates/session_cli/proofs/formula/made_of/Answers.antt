@@ -1,4 +1,3 @@
-use Rattle.std.proofs.Common.{Err, sym, subst}
 use Rattle.std.proofs.lemmas.Result.{err_from_is_err_and}
 use Rattle.wal_outside.specs.declared.folder.Folder.TheVariants.{Bases}
 use Rattle.formula_parse.specs.Views.{formula_view}

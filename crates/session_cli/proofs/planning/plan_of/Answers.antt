@@ -1,5 +1,4 @@
-use Rattle.std.proofs.Common.{None, refl, sym, subst}
-use Rattle.wal_outside.specs.Files.{Files}
+use Rattle.std.proofs.Common.{None, refl}
 use Rattle.definitions.specs.Trees.{Ledger}
 use Rattle.wal_outside.specs.declared.folder.Folder.TheVariants.{Automata, Results}
 use Rattle.session_cli.specs.Outcomes.{word_text}

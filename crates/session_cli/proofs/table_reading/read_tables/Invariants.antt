@@ -1,7 +1,7 @@
 use Rattle.std.proofs.Common.{take}
-use Rattle.session_cli.specs.FormulaSteps.{AreTablesRead}
+use Rattle.session_cli.proofs.TableReads.{AreReadSoFar}
 use Rattle.session_cli.proofs.table_reading.read_tables.Given as goal
 
 -- the tables in front are read
 abbrev pub invariant-loop-table : goal.invariant-loop-table
-invariant-loop-table l = AreTablesRead l.systems l.initial.steps (take l.table-index l.tables) l.library l.steps
+invariant-loop-table l = AreReadSoFar l.systems l.initial.steps (take l.table-index l.tables) l.library l.steps

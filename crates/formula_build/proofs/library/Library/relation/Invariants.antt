@@ -5,4 +5,4 @@ use Rattle.formula_build.proofs.library.Library.relation.Given as goal
 
 -- the entries before have other names
 abbrev pub invariant-loop-entry : goal.invariant-loop-entry
-invariant-loop-entry l = relation_named (relation_entries (drop l.entry-index l.entry-items)) l.name ≡ relation_named l.self l.name
+invariant-loop-entry l = relation_named (relation_entries (drop l.entry-index l.entry-items)) l.name ≡ relation_named l.self.relations l.name

@@ -15,14 +15,16 @@ gathered c =
 
 pub split-requires-clause-states : goal.split-requires-clause-states
 split-requires-clause-states c =
-    let d = c.args.dfa.now in
+    let d = c.args.machine.now.dfa.now in
+    let outputs = c.args.machine.now.outputs.now in
     let part = edge_at c.states_by_class.new.out c.loop-place.place in
-    subst (IsUnion d) (sym c.key.ensures) (IsUnion-class d c.args.self.now.classes.items c.requires.partition.coarse c.args.set.now c.requires.set part.letter part.key (gathered c))
+    subst (IsUnion d outputs) (sym c.key.ensures) (IsUnion-class d outputs c.args.self.now.classes.items c.requires.partition.coarse c.args.set.now c.requires.set part.letter part.key (gathered c))
 
 pub split-requires-clause-class : goal.split-requires-clause-class
 split-requires-clause-class c =
-    let d = c.args.dfa.now in
+    let d = c.args.machine.now.dfa.now in
+    let outputs = c.args.machine.now.outputs.now in
     let p = c.args.self.now in
     let part = edge_at c.states_by_class.new.out c.loop-place.place in
-    let low = class_below d p.classes.items c.requires.partition.coarse c.args.set.now c.requires.set part.letter part.key (gathered c) (length (lists_in p.members.items)) c.requires.partition.below in
+    let low = class_below d outputs p.classes.items c.requires.partition.coarse c.args.set.now c.requires.set part.letter part.key (gathered c) (length (lists_in p.members.items)) c.requires.partition.below in
     omega (arith, low, c.letter.ensures, length-map p.members.items (λ v. v.items), c.loop-place.invariant.grown)

@@ -2,4 +2,4 @@ use Rattle.minimise.specs.Partition.{IsPartition}
 use Rattle.minimise.proofs.partition.Partition.part_by.Given as goal
 
 abbrev pub invariant-loop-place : goal.invariant-loop-place
-invariant-loop-place l = IsPartition l.dfa l.self
+invariant-loop-place l = IsPartition l.machine l.self

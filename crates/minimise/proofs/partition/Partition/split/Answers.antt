@@ -8,7 +8,7 @@ use Rattle.minimise.proofs.partition.Partition.split.Goals as goal
 
 pub smaller-requires : goal.smaller-requires
 smaller-requires c k z inside =
-    let d = c.args.dfa.now in
+    let d = c.args.machine.now.dfa.now in
     let p = c.args.self.now in
     let within : c.args.class < length (lists_in p.members.items) = omega (arith, c.requires.class, length-map p.members.items (λ (v : Vec ℕ Global). v.items)) in
     let is : list_at (lists_in p.members.items) c.args.class ≡ c.deref-2.result.now = list_at-item p.members.items c.args.class c.index-members.result.now c.requires.class c.index-members.ensures ∙ sym c.deref-2.ensures.value in
@@ -17,7 +17,8 @@ smaller-requires c k z inside =
 
 pub returns-clause-partition : goal.returns-clause-partition
 returns-clause-partition c =
-    let d = c.args.dfa.now in
+    let d = c.args.machine.now.dfa.now in
+    let outputs = c.args.machine.now.outputs.now in
     let p = c.args.self.now in
     let states = c.args.states.now in
     let members = lists_in p.members.items in
@@ -30,7 +31,7 @@ returns-clause-partition c =
     subst (λ (left : List ℕ). IsOneOf c.in_ok-set.set.items states c.args.class (states_with new left c.args.class)) is
     (subst (λ (classes : List ℕ). IsOneOf c.in_ok-set.set.items states c.args.class (states_with classes c.deref-2.result.now c.args.class)) c.deref.ensures.value c.in_ok-set.ensures) in
     let sized : length c.push.new.self.items ≡ length p.sizes.items + 1 = omega (arith, simp (length_push, length-set) at (ap length c.in_ok-push.ensures.items)) in
-    let next : IsUnion d c.in_ok-set.set.items = IsUnion-one_of d p.classes.items new states c.len-count.result c.requires.states c.give.ensures p.sizes.items members pending c.requires.partition count c.args.class c.in_ok-set.set.items within one in
-    let done = AreParted-split d p.classes.items new states c.len-count.result c.requires.states c.give.ensures p.sizes.items members pending c.requires.partition count c.push.new.self.items c.in_ok-set.set.items sized (omega arith) next in
-    subst (λ (ms : List (List ℕ)). AreParted d new c.push.new.self.items ms (lists_in c.push-3.new.self.items)) (sym (lists_in-push p.members.items c.push-2.new.self.items c.in_ok-from_slice.field-0 states c.in_ok-push-2.ensures.items c.in_ok-from_slice.ensures.items))
-    (subst (λ (ps : List (List ℕ)). AreParted d new c.push.new.self.items (members ++ states ∷ []) ps) (sym (lists_in-push p.pending.items c.push-3.new.self.items c.in_ok-set.set c.in_ok-set.set.items c.in_ok-push-3.ensures.items refl)) done)
+    let next : IsUnion d outputs c.in_ok-set.set.items = IsUnion-one_of d outputs p.classes.items new states c.len-count.result c.requires.states c.give.ensures p.sizes.items members pending c.requires.partition count c.args.class c.in_ok-set.set.items within one in
+    let done = AreParted-split d outputs p.classes.items new states c.len-count.result c.requires.states c.give.ensures p.sizes.items members pending c.requires.partition count c.push.new.self.items c.in_ok-set.set.items sized (omega arith) next in
+    subst (λ (ms : List (List ℕ)). AreParted d outputs new c.push.new.self.items ms (lists_in c.push-3.new.self.items)) (sym (lists_in-push p.members.items c.push-2.new.self.items c.in_ok-from_slice.field-0 states c.in_ok-push-2.ensures.items c.in_ok-from_slice.ensures.items))
+    (subst (λ (ps : List (List ℕ)). AreParted d outputs new c.push.new.self.items (members ++ states ∷ []) ps) (sym (lists_in-push p.pending.items c.push-3.new.self.items c.in_ok-set.set c.in_ok-set.set.items c.in_ok-push-3.ensures.items refl)) done)

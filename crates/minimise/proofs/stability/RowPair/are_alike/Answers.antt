@@ -1,6 +1,4 @@
-use Rattle.std.proofs.Common.{◌≡◌, sym, ◌∙◌}
-use Rattle.std.specs.Cmp.{booleans_Decides}
-use Rattle.digit_tuple.specs.Deterministic.{accepting_of}
+use Rattle.std.proofs.Common.{sym, ◌∙◌}
 use Rattle.digit_tuple.proofs.StateLemmas.{rows_tell}
 use Rattle.minimise.proofs.StabilityLemmas.{alike_from_rows, rows_from_alike}
 use Rattle.minimise.proofs.stability.RowPair.are_alike.Goals as goal
@@ -13,8 +11,7 @@ returns c =
     let q = c.args.q in
     let one = c.as_slice.ensures ∙ c.in_ok-read.ensures in
     let other = c.as_slice-2.ensures ∙ c.in_ok-read-2.ensures in
-    let told = rows_tell c.as_slice.result.now c.as_slice-2.result.now c.eq.result c.eq.ensures in
-    let accepting : accepting_of d p ≡ accepting_of d q = sym c.is_accepting.ensures ∙ (booleans_Decides c.is_accepting.result c.is_accepting-2.result).0 c.if-not-one_kind.false ∙ c.is_accepting-2.ensures in (
-      (λ is. alike_from_rows d classes c.requires.table p q accepting c.requires.own (sym one ∙ told.0 is ∙ other)),
+    let told = rows_tell c.as_slice.result.now c.as_slice-2.result.now c.eq.result c.eq.ensures in (
+      (λ is. alike_from_rows d classes c.requires.table p q c.requires.own (sym one ∙ told.0 is ∙ other)),
       (λ alike. told.1 (one ∙ rows_from_alike d classes c.requires.table p q alike ∙ sym other)),
     )

@@ -2,7 +2,7 @@ use Rattle.std.proofs.Common.{◌≡◌, length, ap, ◌∙◌, subst}
 use Rattle.std.proofs.lemmas.Result.{IfOk-weaker}
 use Rattle.num_system.specs.Sealed.{SystemValue, IsSealed}
 use Rattle.number_relations.specs.Comparisons.{compared_names}
-use Rattle.number_relations.specs.declared.comparison.Comparison.TheVariants.{Equal, Unequal, Less, Greater, AtMost, AtLeast}
+use Rattle.num_system.specs.declared.comparison.Comparison.TheVariants.{Equal, Unequal, Less, Greater, AtMost, AtLeast}
 use Rattle.number_relations.proofs.ArithmeticLemmas.{Fails, Holds, arm, at_least_compared, at_most_compared, compared_two, equal_closed, equal_compared, greater_compared, less_closed, less_compared, two_closed, unequal_compared}
 use Rattle.number_relations.proofs.relation.Relation.comparison.Goals as goal
 

@@ -2,7 +2,8 @@ use Rattle.std.proofs.Common.{List, map, sym, ap, ◌∙◌, subst}
 use Rattle.std.specs.List.{All, Contains}
 use Rattle.std.specs.Rc.{rc_value}
 use Rattle.num_system.specs.Sealed.{SystemValue}
-use Rattle.number_relations.specs.Placed.{IsOrdered, systems_under}
+use Rattle.num_system.specs.Tracks.{systems_under}
+use Rattle.number_relations.specs.Placed.{IsOrdered}
 use Rattle.number_relations.proofs.OrderedLemmas.{ordered_made, ordered_names}
 use Rattle.number_relations.proofs.relation.Relation.ordered.Goals as goal
 

@@ -3,7 +3,8 @@ use Rattle.std.specs.List.{All, Contains}
 use Rattle.std.specs.Rc.{rc_value}
 use Rattle.std.proofs.lemmas.List.{length-map}
 use Rattle.project_close.specs.Substitution.{IsSubstitution}
-use Rattle.number_relations.specs.Placed.{IsPlaced, each_once, systems_under}
+use Rattle.num_system.specs.Tracks.{systems_under}
+use Rattle.number_relations.specs.Placed.{IsPlaced, each_once}
 use Rattle.number_relations.proofs.OnceLemmas.{once_others}
 use Rattle.number_relations.proofs.PlacedLemmas.{once_names, placed_once, substitution}
 use Rattle.number_relations.proofs.relation.Relation.placed.Goals as goal

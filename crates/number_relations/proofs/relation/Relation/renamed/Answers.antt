@@ -1,6 +1,7 @@
 use Rattle.std.proofs.Common.{ℕ, List, map, sym, ap, ◌∙◌, subst}
 use Rattle.std.specs.Rc.{rc_value}
-use Rattle.number_relations.specs.Placed.{AgreeUnder, changed_names}
+use Rattle.num_system.specs.Tracks.{AgreeUnder}
+use Rattle.number_relations.specs.Placed.{changed_names}
 use Rattle.number_relations.proofs.RenamedLemmas.{changed_agree}
 use Rattle.number_relations.proofs.relation.Relation.renamed.Goals as goal
 

@@ -1,4 +1,4 @@
-use Rattle.std.proofs.Common.{◌≡◌, ℕ, subst, rules, Ok, Err, Result}
+use Rattle.std.proofs.Common.{◌≡◌, ℕ, subst, rules, Ok, Err}
 use Rattle.std.proofs.lemmas.Result.{err_from_is_err_and}
 use Rattle.definitions.specs.Trees.{Ledger}
 use Rattle.session_cli.specs.Checks.{Fails}

@@ -1,8 +1,0 @@
-use Rattle.std.proofs.Common.{◌≡◌, map, take}
-use Rattle.std.specs.Rc.{rc_value}
-use Rattle.numeration.specs.Spelling.{sizes_of}
-use Rattle.number_relations.specs.Relations.{systems_of}
-use Rattle.definitions.proofs.table.digits_of.Given as goal
-
-abbrev pub invariant-loop-system : goal.invariant-loop-system
-invariant-loop-system l = l.digits.items ≡ sizes_of (systems_of (map rc_value (take l.system-index l.systems)))

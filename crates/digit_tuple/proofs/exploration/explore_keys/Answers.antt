@@ -1,0 +1,143 @@
+use Rattle.std.proofs.Common.{rules, ◌≡◌, ◌+◌, ℕ, List, [], ◌∷◌, length, false, if◌then◌else◌, inl, inr, sym, ap, ◌∙◌, subst, arith}
+use Rattle.std.specs.List.{All}
+use Rattle.std.proofs.lemmas.List.{length-map}
+use Rattle.std.proofs.lemmas.List.Elements.{All-push, All-nil}
+use Rattle.digit_tuple.specs.Deterministic.{Automaton, IsTable, accepts_of}
+use Rattle.digit_tuple.specs.DfaRows.{state_in, states_in}
+use Rattle.digit_tuple.specs.FirstWords.{IsNumberedByFirsts}
+use Rattle.digit_tuple.specs.Letters.{IsWord}
+use Rattle.digit_tuple.specs.Width.{HasApart, HasWidth}
+use Rattle.digit_tuple.specs.declared.dfa.DfaState.{DfaState}
+use Rattle.digit_tuple.specs.Keys.{LeadAlike, key_accepts}
+use Rattle.digit_tuple.specs.Explored.{NumbersSome, key_at, IsExplored}
+use Rattle.digit_tuple.proofs.KeyEdgeLemmas.{IsStateFrom-written, Overflows-written, first_numbered, length-are_numbered}
+use Rattle.digit_tuple.proofs.FrontierLemmas.{All-state_from, IsFrontier-start}
+use Rattle.digit_tuple.proofs.ExploredLemmas.{IsExploring, IsExploring-start, IsExploring-pushed, IsExploring-refused, IsExploring-gap, HasApart-firsts, IsTable-explored, IsExplored-done, IsNumberedByFirsts-done, HasWidth-done, accepts_of-explored}
+use Rattle.digit_tuple.proofs.exploration.explore_keys.Goals as goal
+use Rattle.digit_tuple.proofs.exploration.explore_keys.Goals.{then-len-letters, else-len-letters, else-gap-via-then-gap+else-len-limit, else-gap-via-else-gap}
+
+pub returns-then-limit-eq0-clause-states : goal.returns-then-limit-eq0-clause-states
+returns-then-limit-eq0-clause-states g c h =
+    let s = c.args.graph.now in
+    let one : HasApart (LeadAlike (g.G.KeyGraph.after s) (g.G.KeyGraph.start s)) (g.G.KeyGraph.letters s) 1 =
+    HasApart-firsts (g.G.KeyGraph.letters s) (g.G.KeyGraph.start s) (g.G.KeyGraph.after s) (g.G.KeyGraph.start s ∷ []) ([] ∷ []) 0 0 (IsFrontier-start (g.G.KeyGraph.letters s) (g.G.KeyGraph.start s) (g.G.KeyGraph.after s)) in
+    let count : 1 ≡ c.args.limit + 1 = omega arith in
+    subst (HasApart (LeadAlike (g.G.KeyGraph.after s) (g.G.KeyGraph.start s)) (g.G.KeyGraph.letters s)) count one
+
+pub explore-init : goal.explore-init
+explore-init g c =
+    let s = c.args.graph.now in
+    let keys : g.G.KeyGraph.start s ∷ [] ≡ c.number_of.new.self = first_numbered c.new-keys.result c.number_of.new.self c.deref.result.now (g.G.KeyGraph.start s) c.in_ok-number_of.field-0 c.new-keys.ensures (c.deref.ensures.value ∙ c.in_ok-first_key.ensures) c.in_ok-number_of.ensures.number in
+    let none : [] ≡ states_in c.new-rows.result.items = ap states_in (sym c.new-rows.ensures.items) in
+    record {
+      few = omega (arith, ap length keys, c.if-limit-eq0.false);
+      room = λ never. absurd (cc);
+      valid = subst (All (g.G.KeyGraph.is_key s)) keys (All-push (g.G.KeyGraph.is_key s) [] (g.G.KeyGraph.start s) (All-nil (g.G.KeyGraph.is_key s)) (g.met.G.KeyGraph.start_is_key s c.requires.graph));
+      explored = omega (arith, c.new-rows.ensures.len);
+      exploring = subst (λ states. IsExploring (g.G.KeyGraph.letters s) (g.G.KeyGraph.start s) (g.G.KeyGraph.after s) (g.G.KeyGraph.accepts s) c.number_of.new.self states false) none
+          (subst (λ ks. IsExploring (g.G.KeyGraph.letters s) (g.G.KeyGraph.start s) (g.G.KeyGraph.after s) (g.G.KeyGraph.accepts s) ks [] false) keys
+          (IsExploring-start (g.G.KeyGraph.letters s) (g.G.KeyGraph.start s) (g.G.KeyGraph.after s) (g.G.KeyGraph.accepts s)));
+    }
+
+pub returns-in_err-edges-2-clause-states : goal.returns-in_err-edges-2-clause-states
+returns-in_err-edges-2-clause-states g c h =
+    let s = c.args.graph.now in
+    let p = c.len-in-explore-2.result in
+    let at : p ≡ length (states_in c.explore.rows.items) = omega (arith, c.len-in-explore-2.ensures, length-map c.explore.rows.items state_in, c.explore.rows.ok) in
+    let e = c.from_residual-in_err-edges-2.ensures in
+    let some : NumbersSome c.edges.new.out c.explore.keys c.number_edges.new.keys (c.args.limit + 1) = search rules in
+    IsExploring-refused (g.G.KeyGraph.letters s) (g.G.KeyGraph.start s) (g.G.KeyGraph.after s) (g.G.KeyGraph.accepts s) c.explore.keys c.number_edges.new.keys c.explore.rows.items c.explore.gap p (c.args.limit + 1)
+    c.explore.invariant.exploring at (omega arith)
+    (Overflows-written (g.G.KeyGraph.letters s) (g.G.KeyGraph.after s) c.explore.keys c.number_edges.new.keys (key_at c.explore.keys p) c.key-key.result.now c.edges.new.out (c.args.limit + 1) c.key-key.ensures c.in_ok-edges.ensures some)
+
+pub returns-then-len-limit-clause-states : goal.returns-then-len-limit-clause-states
+returns-then-len-limit-clause-states g c h =
+    let s = c.args.graph.now in
+    let p = c.len-in-explore-2.result in
+    let at : p ≡ length (states_in c.explore.rows.items) = omega (arith, c.len-in-explore-2.ensures, length-map c.explore.rows.items state_in, c.explore.rows.ok) in
+    let row : DfaState = record { accepting = c.is_accepting-accepting.result; edges = c.in_ok-edges-2.edges } in
+    let from = IsStateFrom-written (g.G.KeyGraph.letters s) (g.G.KeyGraph.after s) (g.G.KeyGraph.accepts s) c.explore.keys c.number_edges.new.keys (key_at c.explore.keys p) c.key-key.result.now c.edges.new.out row.accepting row.edges.items
+    c.key-key.ensures c.in_ok-edges.ensures c.in_ok-edges-2.ensures.edges c.is_accepting-accepting.ensures in
+    let now = IsExploring-pushed (g.G.KeyGraph.letters s) (g.G.KeyGraph.start s) (g.G.KeyGraph.after s) (g.G.KeyGraph.accepts s) c.explore.keys c.number_edges.new.keys c.explore.rows.items c.push.new.self.items row c.explore.gap c.if-len-letters.gap p
+    c.explore.invariant.exploring at (omega arith) from c.in_ok-push.ensures.items
+    (elim c.if-len-letters.branch [
+      | then-len-letters w ↦ inl (omega (arith, w.if-len-letters.true, c.in_ok-edges-2.edges.ok, c.letters-letters.ensures.value, c.requires.letters), w.gap-is)
+      | else-len-letters w ↦ inr (omega (arith, w.if-len-letters.false, c.in_ok-edges-2.edges.ok, c.letters-letters.ensures.value, c.requires.letters), w.gap-is)
+    ]) in
+    IsExploring-gap (g.G.KeyGraph.letters s) (g.G.KeyGraph.start s) (g.G.KeyGraph.after s) (g.G.KeyGraph.accepts s) c.number_edges.new.keys (states_in c.push.new.self.items) c.args.limit
+    (subst (IsExploring (g.G.KeyGraph.letters s) (g.G.KeyGraph.start s) (g.G.KeyGraph.after s) (g.G.KeyGraph.accepts s) c.number_edges.new.keys (states_in c.push.new.self.items)) c.if-gap.true now) (omega arith)
+
+pub explore-preserved : goal.explore-preserved
+explore-preserved g c =
+    let s = c.args.graph.now in
+    let p = c.len-in-explore-2.result in
+    let at : p ≡ length (states_in c.explore.rows.items) = omega (arith, c.len-in-explore-2.ensures, length-map c.explore.rows.items state_in, c.explore.rows.ok) in
+    let row : DfaState = record { accepting = c.is_accepting-accepting.result; edges = c.in_ok-edges-2.edges } in
+    let from = IsStateFrom-written (g.G.KeyGraph.letters s) (g.G.KeyGraph.after s) (g.G.KeyGraph.accepts s) c.explore.keys c.number_edges.new.keys (key_at c.explore.keys p) c.key-key.result.now c.edges.new.out row.accepting row.edges.items
+    c.key-key.ensures c.in_ok-edges.ensures c.in_ok-edges-2.ensures.edges c.is_accepting-accepting.ensures in
+    let now = IsExploring-pushed (g.G.KeyGraph.letters s) (g.G.KeyGraph.start s) (g.G.KeyGraph.after s) (g.G.KeyGraph.accepts s) c.explore.keys c.number_edges.new.keys c.explore.rows.items c.push.new.self.items row c.explore.gap c.if-len-letters.gap p
+    c.explore.invariant.exploring at (omega arith) from c.in_ok-push.ensures.items
+    (elim c.if-len-letters.branch [
+      | then-len-letters w ↦ inl (omega (arith, w.if-len-letters.true, c.in_ok-edges-2.edges.ok, c.letters-letters.ensures.value, c.requires.letters), w.gap-is)
+      | else-len-letters w ↦ inr (omega (arith, w.if-len-letters.false, c.in_ok-edges-2.edges.ok, c.letters-letters.ensures.value, c.requires.letters), w.gap-is)
+    ]) in
+    record {
+      few = c.in_ok-edges-2.ensures.few;
+      room = λ gap. elim c.else-gap.branch [
+        | else-gap-via-then-gap+else-len-limit w ↦ omega (arith, w.if-len-limit.false, w.len-then-gap.ensures.len, c.in_ok-edges-2.ensures.few)
+        | else-gap-via-else-gap w ↦ absurd (cc (gap, w.if-gap.false))
+      ];
+      valid = All-state_from (g.G.KeyGraph.is_key s) (g.G.KeyGraph.letters s) (g.G.KeyGraph.after s (key_at c.explore.keys p)) (g.G.KeyGraph.accepts s (key_at c.explore.keys p)) c.explore.keys c.number_edges.new.keys (state_in row)
+          (λ a small. g.met.G.KeyGraph.after_is_key s (key_at c.explore.keys p) a c.requires.graph (c.explore.invariant.valid p [] (omega arith)) small)
+          from c.explore.invariant.valid;
+      explored = let total : c.push.new.self.len ≡ c.explore.rows.len + 1 = c.in_ok-push.ensures.len in
+          let kept = length-are_numbered c.edges.new.out c.in_ok-edges-2.edges.items c.explore.keys c.number_edges.new.keys c.in_ok-edges-2.ensures.edges in
+          omega (arith, total, kept, c.len-in-explore-2.ensures);
+      exploring = now;
+    }
+
+pub from_states-requires : goal.from_states-requires
+from_states-requires g c =
+    let s = c.args.graph.now in
+    let d : Automaton = record { sizes = c.args.alphabet; states = states_in c.explore.rows.items } in
+    let size : length (states_in c.explore.rows.items) ≡ length c.explore.keys = omega (arith, length-map c.explore.rows.items state_in, c.explore.rows.ok, c.explore.invariant.explored) in
+    let small = c.explore.invariant.few in
+    subst (λ n. IsTable n (states_in c.explore.rows.items)) c.requires.letters
+    (IsTable-explored (g.G.KeyGraph.letters s) (g.G.KeyGraph.start s) (g.G.KeyGraph.after s) (g.G.KeyGraph.accepts s) c.explore.keys d c.explore.gap c.explore.invariant.exploring size (omega arith))
+
+pub returns-clause-explored : goal.returns-clause-explored
+returns-clause-explored g c =
+    let s = c.args.graph.now in
+    let d : Automaton = record { sizes = c.args.alphabet; states = states_in c.explore.rows.items } in
+    let size : length (states_in c.explore.rows.items) ≡ length c.explore.keys = omega (arith, length-map c.explore.rows.items state_in, c.explore.rows.ok, c.explore.invariant.explored) in
+    subst (IsExplored (g.G.KeyGraph.letters s) (g.G.KeyGraph.start s) (g.G.KeyGraph.after s) (g.G.KeyGraph.accepts s) c.explore.keys) (sym c.in_ok-dfa.ensures)
+    (IsExplored-done (g.G.KeyGraph.letters s) (g.G.KeyGraph.start s) (g.G.KeyGraph.after s) (g.G.KeyGraph.accepts s) c.explore.keys d c.explore.gap c.explore.invariant.exploring size)
+
+pub returns-clause-numbered : goal.returns-clause-numbered
+returns-clause-numbered g c =
+    let s = c.args.graph.now in
+    let d : Automaton = record { sizes = c.args.alphabet; states = states_in c.explore.rows.items } in
+    let size : length (states_in c.explore.rows.items) ≡ length c.explore.keys = omega (arith, length-map c.explore.rows.items state_in, c.explore.rows.ok, c.explore.invariant.explored) in (
+      c.explore.invariant.exploring.firsts,
+      subst (λ (d : Automaton). IsNumberedByFirsts d c.explore.invariant.exploring.firsts) (sym c.in_ok-dfa.ensures)
+          (IsNumberedByFirsts-done (g.G.KeyGraph.letters s) (g.G.KeyGraph.start s) (g.G.KeyGraph.after s) (g.G.KeyGraph.accepts s) c.explore.keys d c.explore.gap c.explore.invariant.exploring size c.requires.letters),
+    )
+
+pub returns-clause-language : goal.returns-clause-language
+returns-clause-language g c =
+    let s = c.args.graph.now in
+    let d : Automaton = record { sizes = c.args.alphabet; states = states_in c.explore.rows.items } in
+    let size : length (states_in c.explore.rows.items) ≡ length c.explore.keys = omega (arith, length-map c.explore.rows.items state_in, c.explore.rows.ok, c.explore.invariant.explored) in
+    let explored = IsExplored-done (g.G.KeyGraph.letters s) (g.G.KeyGraph.start s) (g.G.KeyGraph.after s) (g.G.KeyGraph.accepts s) c.explore.keys d c.explore.gap c.explore.invariant.exploring size in
+    subst (λ (d : Automaton). (word : List ℕ) → IsWord (g.G.KeyGraph.letters s) word → accepts_of d word ≡ key_accepts (g.G.KeyGraph.after s) (g.G.KeyGraph.accepts s) (g.G.KeyGraph.start s) word) (sym c.in_ok-dfa.ensures)
+    (accepts_of-explored (g.G.KeyGraph.letters s) (g.G.KeyGraph.start s) (g.G.KeyGraph.after s) (g.G.KeyGraph.accepts s) c.explore.keys d explored (omega (arith, c.explore.invariant.exploring.frontier.positive, size)))
+
+pub returns-clause-width : goal.returns-clause-width
+returns-clause-width g c =
+    let s = c.args.graph.now in
+    let d : Automaton = record { sizes = c.args.alphabet; states = states_in c.explore.rows.items } in
+    let size : length (states_in c.explore.rows.items) ≡ length c.explore.keys = omega (arith, length-map c.explore.rows.items state_in, c.explore.rows.ok, c.explore.invariant.explored) in
+    let wide = HasWidth-done (g.G.KeyGraph.letters s) (g.G.KeyGraph.start s) (g.G.KeyGraph.after s) (g.G.KeyGraph.accepts s) c.explore.keys d c.explore.gap c.explore.invariant.exploring size in
+    let one : c.from.result ≡ (if c.explore.gap then 1 else 0) = search rules in
+    let width : length c.explore.keys + (if c.explore.gap then 1 else 0) ≡ c.len-2.result + c.from.result = omega (arith, one, c.len-2.ensures.len) in
+    subst (HasWidth (LeadAlike (g.G.KeyGraph.after s) (g.G.KeyGraph.start s)) (g.G.KeyGraph.letters s)) width wide

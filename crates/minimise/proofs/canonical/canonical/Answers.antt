@@ -1,0 +1,23 @@
+use Rattle.std.proofs.Common.{List, ℕ, length, ap, ◌∙◌, subst}
+use Rattle.minimise.specs.ClassFunctions.{SameClassFunction}
+use Rattle.minimise.proofs.BitLemmas.{length-bits, SameLanguage-bits, IsCanonical-bits}
+use Rattle.minimise.proofs.canonical.canonical.Goals as goal
+
+pub canonical_classes-requires : goal.canonical_classes-requires
+canonical_classes-requires c = ap length (c.deref.ensures.value ∙ c.in_ok-outputs.ensures) ∙ length-bits c.args.d.now
+
+pub returns-clause-language : goal.returns-clause-language
+returns-clause-language c =
+    let d = c.args.d.now in
+    let least = c.in_ok-least.least in
+    let outputs = c.in_ok-least.field-0-1.items in
+    let same = subst (λ (os : List ℕ). SameClassFunction d os least outputs) (c.deref.ensures.value ∙ c.in_ok-outputs.ensures) c.in_ok-least.ensures.function in
+    SameLanguage-bits d least outputs c.in_ok-least.ensures.sizes same c.in_ok-least.ensures.canonical
+
+pub returns-clause-canonical : goal.returns-clause-canonical
+returns-clause-canonical c =
+    let d = c.args.d.now in
+    let least = c.in_ok-least.least in
+    let outputs = c.in_ok-least.field-0-1.items in
+    let same = subst (λ (os : List ℕ). SameClassFunction d os least outputs) (c.deref.ensures.value ∙ c.in_ok-outputs.ensures) c.in_ok-least.ensures.function in
+    IsCanonical-bits d least outputs c.in_ok-least.ensures.sizes same c.in_ok-least.ensures.canonical

@@ -1,0 +1,63 @@
+//! Automata with outputs (Moore machines), and the outputs that acceptance gives.
+
+ghost use Rattle.std.specs.Prelude.{◌≡◌, ◌≢◌, ◌<◌, ◌^◌, ◌↔◌, ℕ, length, IfOk};
+ghost use Rattle.std.specs.List.{Contains};
+ghost use Rattle.minimise.specs.Classes.{class_of};
+ghost use Rattle.minimise.specs.Outputs.{bits_of};
+
+use digit_tuple::dfa::Dfa;
+use digit_tuple::faults::OutOfMemory;
+use std::alloc::Global;
+
+/// An automaton, and an output of each of its states.
+#[derive(Clone, Copy)]
+pub struct Machine<'a> {
+    pub dfa: &'a Dfa,
+    pub outputs: &'a [u32],
+}
+
+impl Machine<'_> {
+    /// The output of a state; that of the sink is 0.
+    pub fn output(&self, state: u32) -> u32
+        ensures { result ≡ class_of self.now.outputs.now state }
+    {
+        output_of(self.outputs, state)
+    }
+}
+
+/// The output of a state, 0 past the states.
+pub fn output_of(outputs: &[u32], state: u32) -> u32
+    ensures { result ≡ class_of outputs.now state }
+{
+    if (state as usize) < outputs.len() {
+        outputs[state as usize]
+    } else {
+        0
+    }
+}
+
+/// For each state 1 where it accepts, and 0 elsewhere.
+pub fn accepting_outputs(alloc: Global, dfa: &Dfa) -> Result<Vec<u32>, OutOfMemory>
+    ensures { IfOk result (λ outputs. outputs.items ≡ bits_of dfa.now) }
+{
+    let states = dfa.states();
+    let mut outputs = Vec::with_capacity(alloc, states as usize)?;
+    for state in 0..states {
+        outputs.push(u32::from(dfa.accepting(state)))?;
+    }
+    Ok(outputs)
+}
+
+/// The states whose outputs are not 0, in order.
+pub fn states_with_output(alloc: Global, outputs: &[u32]) -> Result<Vec<u32>, OutOfMemory>
+    requires { length outputs.now < 2 ^ 32 }
+    ensures { IfOk result (λ states. (q : ℕ) → Contains states.items q ↔ (class_of outputs.now q ≢ 0)) }
+{
+    let mut states = Vec::new(alloc);
+    for place in 0..outputs.len() {
+        if outputs[place] != 0 {
+            states.push(place as u32)?;
+        }
+    }
+    Ok(states)
+}

@@ -1,6 +1,0 @@
-use Rattle.std.proofs.Common.{◌≡◌, map, take}
-use Rattle.std.specs.Rc.{rc_value}
-use Rattle.number_relations.proofs.reading.shared.Given as goal
-
-abbrev pub invariant-loop-system : goal.invariant-loop-system
-invariant-loop-system l = map rc_value l.again.items ≡ map rc_value (take l.system-index l.systems)

@@ -1,0 +1,59 @@
+-- What an accepted command makes may stand in its folder: no expression and no formula stands among words.
+use Rattle.std.proofs.Common.{◌≡◌, ◌≢◌, ℕ, Bool, true, false, ◌&&◌, eqb, List, Ok, Err, bytes_eq, sym, subst}
+use Rattle.std.proofs.lemmas.Bool.{and_parts}
+use Rattle.wal_outside.specs.Files.{same_file}
+use Rattle.wal_outside.specs.Folders.{folder_index}
+use Rattle.wal_outside.specs.declared.folder.Folder.{Folder}
+use Rattle.wal_outside.specs.declared.folder.Folder.TheVariants.{Automata, Words, Bases, Macros, Morphisms, Results, Commands}
+use Rattle.definitions.specs.Trees.{Tree, File, Regex, Formula, MayStandIn, Ledger, tree_of}
+use Rattle.session_cli.specs.declared.command_word.CommandWord.{CommandWord}
+use Rattle.session_cli.specs.declared.command_word.CommandWord.TheVariants as words
+use Rattle.session_cli.specs.Accepting.{Success, Answer}
+use Rattle.session_cli.specs.FormulaOutcomes.{formula_checks}
+use Rattle.session_cli.specs.Outcomes.{checks_of, checks_by, word_text}
+use Rattle.session_cli.specs.RegOutcomes.{reg_checks}
+use Rattle.session_cli.specs.Runs.{IsAnswer}
+
+-- the entry of an accepted command may stand in its folder
+abbrev pub Stands : Success → Type 0
+Stands success = MayStandIn success.folder (tree_of success.entry)
+
+abbrev pub MayStore : Answer → Type 0
+MayStore (Ok success) = Stands success
+MayStore (Err fault) = Unit {0}
+
+reg_stands : (limit : ℕ) (ledger : Ledger) (text : List ℕ) (success : Success) → (reg_checks limit ledger text).answers (Ok success) → Stands success
+reg_stands limit ledger text success (head, h, (tracks, t, (pattern, p, (lines, l, (is, fits))))) = subst Stands (sym is) (λ same. cc)
+
+formula_stands : (word : List ℕ) (folder : Folder) (limit : ℕ) (ledger : Ledger) (text : List ℕ) (success : Success) → folder ≢ Words → (formula_checks word folder limit ledger text).answers (Ok success) → Stands success
+formula_stands word folder limit ledger text success apart (head, h, (formula, f, (tables, t, (known, k, (resolved, r, (lines, b, (variables, v, (verdict, d, (is, fits))))))))) = subst Stands (sym is) apart
+
+by_word : (word : CommandWord) (limit : ℕ) (ledger : Ledger) (text : List ℕ) (success : Success) → (checks_by word limit ledger text).answers (Ok success) → Stands success
+by_word words.Reg limit ledger text success is = reg_stands limit ledger text success is
+by_word words.Eval limit ledger text success is = formula_stands (word_text words.Eval) Results limit ledger text success (λ same. cc) is
+by_word words.Def limit ledger text success is = formula_stands (word_text words.Def) Automata limit ledger text success (λ same. cc) is
+
+pub answer_stands : (limit : ℕ) (ledger : Ledger) (text : List ℕ) (answer : Answer) → IsAnswer (checks_of limit ledger text) answer → MayStore answer
+answer_stands limit ledger text (Ok success) (short, s, (word, w, is)) = by_word word limit ledger text success is
+answer_stands limit ledger text (Err fault) is = tt
+
+words_there : (at : Folder) → eqb (folder_index at) (folder_index Words) ≡ true → at ≡ Words
+words_there Automata same = absurd (cc)
+words_there Words same = λ i. Words
+words_there Bases same = absurd (cc)
+words_there Macros same = absurd (cc)
+words_there Morphisms same = absurd (cc)
+words_there Results same = absurd (cc)
+words_there Commands same = absurd (cc)
+
+-- so it may under the same place
+pub stands_there : (at folder : Folder) (under name : List ℕ) (tree : Tree) → same_file at under folder name ≡ true → MayStandIn at tree → MayStandIn folder tree
+stands_there at folder under name tree same may = by tree may
+  where
+    apart : at ≢ Words → folder ≢ Words
+    apart other = λ is. other (words_there at (subst (λ (g : Folder). eqb (folder_index at) (folder_index g) ≡ true) is (and_parts (eqb (folder_index at) (folder_index folder)) (bytes_eq under name) same).0))
+
+    by : (t : Tree) → MayStandIn at t → MayStandIn folder t
+    by (File bytes) stands = tt
+    by (Regex tracks expression) stands = apart stands
+    by (Formula variables formula bindings) stands = apart stands

@@ -1,0 +1,192 @@
+//! Formulas with automatic words: what is printed and stored of scripts over stores that hold words.
+
+use crate::whole::{Left, SURE, expect_stored, run_over};
+use std::alloc::Global;
+use std::process::Abort;
+use std::test::Fail;
+use wal_outside::{Folder, MemStore};
+
+/// A file, by its name and its text.
+type FileRow = (&'static str, &'static str);
+
+/// The words that the scripts name: `T` is the Thue-Morse word and `L` the same read from the least significant digit on; `Q`
+/// at i and j tells whether the Thue-Morse word has one letter there; `G` has no letter past 0, and `H` none at 2; `N` has a
+/// negative letter; `B` gives a letter two targets, `S` has a header of sets, and `Z` is 0 everywhere, over another system.
+static FILES: [FileRow; 10] = [
+    ("T", "msd_2\n\n0 0\n0 -> 0\n1 -> 1\n\n1 1\n0 -> 1\n1 -> 0\n"),
+    ("L", "lsd_2\n\n0 0\n0 -> 0\n1 -> 1\n\n1 1\n0 -> 1\n1 -> 0\n"),
+    (
+        "Q",
+        "msd_2 msd_2\n0 0\n0 0 -> 0\n0 1 -> 1\n1 0 -> 1\n1 1 -> 0\n1 1\n0 0 -> 1\n0 1 -> 0\n1 0 -> 0\n1 1 -> 1\n",
+    ),
+    ("G", "msd_2\n0 5\n0 -> 0\n"),
+    ("H", "msd_2\n0 5\n0 -> 0\n1 -> 1\n1 6\n1 -> 1\n"),
+    ("N", "msd_2\n0 -3\n* -> 1\n1 4\n0 -> 1\n1 -> 1\n"),
+    ("B", "msd_2\n0 0\n* -> 0\n1 -> 1\n1 1\n"),
+    ("S", "{0,1}\n0 0\n0 -> 0\n1 -> 0\n"),
+    ("Z", "msd_3\n0 0\n* -> 0\n"),
+    ("F", "msd_fib\n\n0 0\n0 -> 0\n1 -> 1\n\n1 1\n0 -> 0\n"),
+];
+
+/// Scripts, and what they print.
+static PRINTED: [(&str, &str); 28] = [
+    (
+        "eval o \"Ei,n n>=1 & At t<=n => T[i+t]=T[i+n+t]\";",
+        "FALSE\n",
+    ),
+    (
+        "eval s \"Ei,n n>=1 & At t<n => T[i+t]=T[i+n+t]\";",
+        "TRUE\n",
+    ),
+    ("eval q \"Ai,j Q[i][j]=@0 <=> T[i]=T[j]\";", "TRUE\n"),
+    (
+        "def r \"T[x]=@1\":",
+        "step 1 read 2 2\nstep 2 pad 3 2\nstep 3 valid 2 2\n",
+    ),
+    (
+        "def r \"T[x+1]<T[y]\":",
+        "step 1 read 2 2\nstep 2 pad 3 2\nstep 3 valid 2 2\nstep 4 const 3 2\nstep 5 product 9 3\nstep 6 project 3 2\nstep 7 product 4 4\nstep 8 product 12 6\nstep 9 project 8 8\n",
+    ),
+    (
+        "def r \"T[x]=T[x]\":",
+        "step 1 read 2 2\nstep 2 pad 3 2\nstep 3 valid 2 2\nstep 4 product 2 1\n",
+    ),
+    (
+        "def r \"T[2*x]=T[x]\":",
+        "step 1 read 2 2\nstep 2 pad 3 2\nstep 3 valid 2 2\nstep 4 product 4 2\nstep 5 product 4 2\nstep 6 project 1 1\n",
+    ),
+    (
+        "def r \"Q[i][i]=T[i]\":",
+        "step 1 read 2 2\nstep 2 pad 3 2\nstep 3 valid 2 2\nstep 4 read 2 2\nstep 5 pad 3 2\nstep 6 valid 2 2\nstep 7 product 2 2\n",
+    ),
+    ("eval w \"T[1][2]=@0\";", "error 1: F13 Arity T 1 2\n"),
+    ("eval w \"Q[1]=@0\";", "error 1: F13 Arity Q 2 1\n"),
+    (
+        "eval w \"T[x]=L[y]\";",
+        "error 1: F17 Direction msd_2 lsd_2\n",
+    ),
+    ("def w \"T[T]=@0 & T=3\";", ""),
+    (
+        "def w \"?msd_3 x=1 & T[x]=@0\";",
+        "error 1: F16 Clash x msd_3 msd_2\n",
+    ),
+    (
+        "def w \"Z[x]=@0 & x=1\";",
+        "error 1: F16 Clash x msd_3 msd_2\n",
+    ),
+    ("eval w \"G[0]=@5\";", "error 1: F20 WordGap G [1]\n"),
+    ("eval w \"H[0]=@5\";", "error 1: F20 WordGap H [1][0]\n"),
+    (
+        "eval w \"T[0]=@0 & G[0]=@5\";",
+        "error 1: F20 WordGap G [1]\n",
+    ),
+    (
+        "eval w \"G[0]=@5 & H[0]=@5\";",
+        "error 1: F20 WordGap G [1]\n",
+    ),
+    (
+        "eval w \"N[0]=@-3 & N[7]=@4 & N[7]>@-3 & @-3<N[7] & ~N[7]=@-4\";",
+        "TRUE\n",
+    ),
+    ("eval w \"Ex N[x]<@0 & (Ay N[y]<@0 => y=x)\";", "TRUE\n"),
+    (
+        "eval w \"B[0]=@0\";",
+        "error 1: F12 File Word Automata Library/B line 4\n",
+    ),
+    (
+        "eval w \"S[0]=@0\";",
+        "error 1: F12 File Word Automata Library/S line 1\n",
+    ),
+    (
+        "eval w \"$T(0) & T[0]=@0\";",
+        "error 1: F11 Unknown Automata Library/T\n",
+    ),
+    (
+        "eval w \"U[0]=@0 & $q(1)\";",
+        "error 1: F11 Unknown Word Automata Library/U\n",
+    ),
+    (
+        "def T \"x=1\"; eval w \"$T(1) & T[1]=@1 & ~$T(2) & T[3]=@0\";",
+        "TRUE\n",
+    ),
+    (
+        "def one \"T[x]=@1\"; eval w \"Ax $one(x) <=> T[x]!=@0\";",
+        "TRUE\n",
+    ),
+    (
+        "eval c \"?msd_fib Ei,n n>=1 & At t<2*n => F[i+t]=F[i+n+t]\";",
+        "TRUE\n",
+    ),
+    (
+        "eval c \"?msd_fib Ei,n n>=1 & At t<3*n => F[i+t]=F[i+n+t]\";",
+        "FALSE\n",
+    ),
+];
+
+/// Formulas with one free variable, and the texts that they store.
+static STORED: [(&str, &str); 3] = [
+    (
+        "T[x]=@1",
+        "msd_2\n\n0 0\n0 -> 0\n1 -> 1\n\n1 1\n0 -> 1\n1 -> 0\n",
+    ),
+    ("T[x-1]!=@0 & x=0", "msd_2\n\n0 0\n"),
+    (
+        "T[T]=@0 & T=3",
+        "msd_2\n\n0 0\n0 -> 0\n1 -> 1\n\n1 0\n1 -> 2\n\n2 1\n",
+    ),
+];
+
+/// Runs a script over a store that holds the words.
+pub fn run_over_words(alloc: Global, files: &[FileRow], script: &[u8]) -> Result<Left, Fail> {
+    let mut store = MemStore::new(alloc, Vec::new(alloc));
+    for (name, text) in files {
+        store.put(Folder::Words, name, text.as_bytes())?;
+    }
+    Ok(run_over(alloc, &["walnut"], script, &SURE, store)?)
+}
+
+/// A script over these words prints this.
+pub fn expect_printed(
+    rt: &impl Abort,
+    alloc: Global,
+    files: &[FileRow],
+    script: &str,
+    printed: &str,
+) -> Result<(), Fail> {
+    let left = run_over_words(alloc, files, script.as_bytes())?;
+    assert_eq!(rt; left.out.held(), printed.as_bytes(), "{script}");
+    Ok(())
+}
+
+fn expect_rows(rt: &impl Abort, alloc: Global, rows: &[(&str, &str)]) -> Result<(), Fail> {
+    for (script, printed) in rows {
+        expect_printed(rt, alloc, &FILES, script, printed)?;
+    }
+    Ok(())
+}
+
+#[test]
+fn formulas_with_words_print_as_listed(rt: HostRuntime) -> Result<(), Fail> {
+    expect_rows(&rt, rt.alloc(), &PRINTED)
+}
+
+/// The command that defines a formula.
+fn definition(alloc: Global, formula: &str) -> Result<Vec<u8>, Fail> {
+    let mut script = Vec::from_slice(alloc, b"def w \"".as_slice())?;
+    script.extend_from_slice(formula.as_bytes())?;
+    script.extend_from_slice(b"\";")?;
+    Ok(script)
+}
+
+fn expect_texts(rt: &impl Abort, alloc: Global, rows: &[(&str, &str)]) -> Result<(), Fail> {
+    for (formula, text) in rows {
+        let left = run_over_words(alloc, &FILES, &definition(alloc, formula)?)?;
+        expect_stored(rt, &left, "w", text)?;
+    }
+    Ok(())
+}
+
+#[test]
+fn formulas_with_words_store_their_texts(rt: HostRuntime) -> Result<(), Fail> {
+    expect_texts(&rt, rt.alloc(), &STORED)
+}

@@ -1,0 +1,69 @@
+-- The letters of places.
+use Rattle.std.proofs.Common.{◌≡◌, ℕ, ℤ, List, Some, IsTrue, sym, ◌∙◌, subst}
+use Rattle.std.proofs.lemmas.Option.{same_Some}
+use Rattle.digit_tuple.specs.Deterministic.{Automaton, accepts_of, letters_of}
+use Rattle.digit_tuple.specs.Letters.{IsWord, product}
+use Rattle.digit_tuple.specs.Paddings.{in_order}
+use Rattle.minimise.proofs.CanonicalLemmas.{canonical_forms}
+use Rattle.numeration.specs.Spelling.{Spells, letters_in}
+use Rattle.numeration.proofs.RankLemmas.{same_tests}
+use Rattle.num_system.specs.Tracks.{systems_of, way_of}
+use Rattle.num_system.specs.declared.comparison.Comparison.{Comparison}
+use Rattle.word_output.specs.LetterFunctions.{letter_after}
+use Rattle.word_output.specs.LetterSets.{ComparesLetters, IsLetterSet}
+use Rattle.word_output.specs.Laws.{LetterSetsHold, OneLetterSet, PlacesHaveLetters, PlacesHaveOneLetter}
+use Rattle.word_output.specs.Words.{HasLetter, IsWordValue, SpellsPlace, WordValue}
+use Rattle.word_output.proofs.OptionLemmas.{some_there, some_value}
+use Rattle.word_output.proofs.PlaceLemmas.{place_spelled}
+
+pub one_letter : PlacesHaveOneLetter
+one_letter v ns b c is (w, first, first_is) (u, second, second_is) = same_Some b c (sym first_is ∙ is.one ns w u first second ∙ second_is)
+
+pub some_letter : PlacesHaveLetters
+some_letter v ns is count =
+    let found = place_spelled v.systems is.sealed is.one_way ns count in
+    let letter = some_value (letter_after v.function found.0) ((is.everywhere found.0 found.1.over).1 (ns, found.1)) in
+    (letter.0, (found.0, found.1, letter.1))
+
+-- a word has the letter of the place that it spells
+pub letter_of_place : (v : WordValue) (ns w : List ℕ) (b : ℤ) → IsWordValue v → SpellsPlace v.systems ns w → HasLetter v ns b → letter_after v.function w ≡ Some b
+letter_of_place v ns w b is spelled (u, also, has) = is.one ns w u spelled also ∙ has
+
+-- a word that has a letter spells a place, which has the letter
+pub place_of_letter : (v : WordValue) (w : List ℕ) (b : ℤ) → IsWordValue v → IsWord (letters_in (systems_of v.systems)) w → letter_after v.function w ≡ Some b
+    → (ns : List ℕ) × SpellsPlace v.systems ns w × HasLetter v ns b
+place_of_letter v w b is over has =
+    let found = (is.everywhere w over).0 (some_there (letter_after v.function w) b has) in
+    (found.0, found.1, (w, found.1, has))
+
+module _ (v : WordValue) (comparison : Comparison) (letter : ℤ) (d : Automaton) (is : IsWordValue v) (set : IsLetterSet comparison letter v.function d) where
+  abbrev HasSuch : List ℕ → Type 0
+  HasSuch ns = (b : ℤ) × HasLetter v ns b × ComparesLetters comparison b letter
+
+  to_function : (w : List ℕ) → IsWord (letters_in (systems_of v.systems)) w → IsWord (letters_of v.function.automaton) w
+  to_function w over = subst (λ (sizes : List ℕ). IsWord (product sizes) w) (sym is.sizes) over
+
+  there : (w : List ℕ) → IsWord (letters_in (systems_of v.systems)) w → IsTrue (accepts_of d w) → (ns : List ℕ) × Spells (systems_of v.systems) (in_order (way_of v.systems) w) ns × HasSuch ns
+  there w over accepted =
+      let such = (set.language w (to_function w over)).0 accepted in
+      let place = place_of_letter v w such.0 is over such.1 in
+      (place.0, place.1.spells, (such.0, place.2, such.2))
+
+  back : (w : List ℕ) → IsWord (letters_in (systems_of v.systems)) w → (ns : List ℕ) × Spells (systems_of v.systems) (in_order (way_of v.systems) w) ns × HasSuch ns → IsTrue (accepts_of d w)
+  back w over (ns, spelled, (b, has, compares)) =
+      (set.language w (to_function w over)).1 (b, letter_of_place v ns w b is (record { over = over; spells = spelled }) has, compares)
+
+pub letter_sets : LetterSetsHold
+letter_sets v comparison letter d is set = record {
+  sizes = set.sizes ∙ is.sizes;
+  accepts = λ w over. (there v comparison letter d is set w over, back v comparison letter d is set w over);
+}
+
+pub one_set : OneLetterSet
+one_set comparison letter f d e one other =
+    canonical_forms d e one.canonical other.canonical (one.sizes ∙ sym other.sizes)
+    (λ w over.
+    let here : IsWord (letters_of f.automaton) w = subst (λ (sizes : List ℕ). IsWord (product sizes) w) one.sizes over in
+    let first = one.language w here in
+    let second = other.language w here in
+    same_tests (accepts_of d w) (accepts_of e w) (λ is. second.1 (first.0 is), λ is. first.1 (second.0 is)))

@@ -1,0 +1,152 @@
+-- Each step of automatic words has one outcome.
+use Rattle.std.proofs.Common.{◌≡◌, ℕ, List, sym, ap, ◌∙◌, subst, refl}
+use Rattle.digit_tuple.specs.Deterministic.{Automaton, accepts_of, letters_of, states_of}
+use Rattle.digit_tuple.specs.Letters.{IsTooLarge, IsWord, product}
+use Rattle.digit_tuple.specs.Width.{IsEquivalence}
+use Rattle.digit_tuple.specs.declared.direction.Direction.{Direction}
+use Rattle.digit_tuple.specs.declared.direction.Direction.TheVariants.{Msd, Lsd}
+use Rattle.digit_tuple.specs.declared.kind.Kind.TheVariants as kinds
+use Rattle.digit_tuple.proofs.WidthLemmas.{IsEquivalence-facts, IsOneWidth-equivalence}
+use Rattle.dfa_reading.specs.Listed.{Listed}
+use Rattle.minimise.specs.Tracked.{NamedAutomaton}
+use Rattle.minimise.proofs.CanonicalLemmas.{canonical_forms}
+use Rattle.numeration.proofs.RankLemmas.{same_tests}
+use Rattle.num_system.proofs.StepLemmas.{not_too_large}
+use Rattle.num_system.specs.declared.comparison.Comparison.{Comparison}
+use Rattle.automaton_steps.specs.Laws.{HasOneOutcome}
+use Rattle.automaton_steps.proofs.OneLines.{not_beside, one_line}
+use Rattle.word_output.specs.Laws.{PairsHaveOneOutcome}
+use Rattle.word_output.specs.LetterFunctions.{LetterFunctionValue, LetterFunctionsAreEqual, letter_after}
+use Rattle.word_output.specs.LetterPaddings.{IsLetterPadding, IsLetterPadStep, LetterPadExceeds, PaddedLettersAlike}
+use Rattle.word_output.specs.LetterReadings.{IsLetterReading, IsLetterReadStep, LeadsListed, LetterReadExceeds, ListedAlike}
+use Rattle.word_output.specs.ValidLetters.{AreValidLetters, IsValidLettersStep, ValidLettersAlike, ValidLettersExceed}
+use Rattle.word_output.specs.WordPairs.{IsPair, PairAlike, PlacedLetters, pair_sizes}
+use Rattle.word_output.proofs.OptionLemmas.{same_option}
+use Rattle.word_output.proofs.TupleWords.{tuples_of}
+
+-- words that are alike to a step: these are equivalences
+listed_alike : (sizes : List ℕ) (listed : Listed) → IsEquivalence (ListedAlike sizes listed)
+listed_alike sizes listed = IsEquivalence-facts (λ w q. LeadsListed sizes listed w q)
+
+padded_alike : (direction : Direction) (f : LetterFunctionValue) → IsEquivalence (PaddedLettersAlike direction f)
+padded_alike Msd f = record {
+  reflexive = λ w. record { zeros = ((λ are. are), (λ are. are)); stripped = λ u over. refl };
+  symmetric = λ w v alike. record { zeros = (alike.zeros.1, alike.zeros.0); stripped = λ u over. sym (alike.stripped u over) };
+  transitive = λ u v w one two. record {
+    zeros = ((λ are. two.zeros.0 (one.zeros.0 are)), (λ are. one.zeros.1 (two.zeros.1 are)));
+    stripped = λ t over. one.stripped t over ∙ two.stripped t over;
+  };
+}
+padded_alike Lsd f = record {
+  reflexive = λ w. record { stripped = λ u over. refl; whole = λ u over. refl };
+  symmetric = λ w v alike. record { stripped = λ u over. sym (alike.stripped u over); whole = λ u over. sym (alike.whole u over) };
+  transitive = λ u v w one two. record { stripped = λ t over. one.stripped t over ∙ two.stripped t over; whole = λ t over. one.whole t over ∙ two.whole t over };
+}
+
+valid_alike : (f : LetterFunctionValue) (languages : List Automaton) → IsEquivalence (ValidLettersAlike f languages)
+valid_alike f languages = record {
+  reflexive = λ w. record { letters = λ u over. refl; tracks = λ track less u over. refl };
+  symmetric = λ w v alike. record { letters = λ u over. sym (alike.letters u over); tracks = λ track less u over. sym (alike.tracks track less u over) };
+  transitive = λ u v w one two. record {
+    letters = λ t over. one.letters t over ∙ two.letters t over;
+    tracks = λ track less t over. one.tracks track less t over ∙ two.tracks track less t over;
+  };
+}
+
+pub pair_alike : (a b : PlacedLetters) → IsEquivalence (PairAlike a b)
+pair_alike a b = record {
+  reflexive = λ w. record { first = λ u over. refl; second = λ u over. refl };
+  symmetric = λ w v alike. record { first = λ u over. sym (alike.first u over); second = λ u over. sym (alike.second u over) };
+  transitive = λ u v w one two. record { first = λ t over. one.first t over ∙ two.first t over; second = λ t over. one.second t over ∙ two.second t over };
+}
+
+same_states : (f g : LetterFunctionValue) → f ≡ g → states_of f.automaton ≡ states_of g.automaton
+same_states f g same = ap (λ (x : LetterFunctionValue). states_of x.automaton) same
+
+module _ (equal : LetterFunctionsAreEqual) where
+  one_read : (sizes : List ℕ) (listed : Listed) (f g : LetterFunctionValue) → IsLetterReading sizes listed f → IsLetterReading sizes listed g → f ≡ g
+  one_read sizes listed f g one other =
+      equal f g one.function other.function (one.sizes_are ∙ sym other.sizes_are)
+      (λ w over.
+      let tuples = tuples_of sizes w (subst (λ (ns : List ℕ). IsWord (product ns) w) one.sizes_are over) in
+      same_option (letter_after f w) (letter_after g w) (λ letter.
+      let first = one.letters tuples.0 w letter tuples.1 in
+      let second = other.letters tuples.0 w letter tuples.1 in
+      (λ is. second.1 (first.0 is), λ is. first.1 (second.0 is))))
+
+  pub read_outcome : (limit : ℕ) (sizes : List ℕ) (listed : Listed) → HasOneOutcome LetterFunctionValue (IsLetterReadStep limit sizes listed) (IsTooLarge sizes) (LetterReadExceeds limit sizes listed)
+  read_outcome limit sizes listed =
+      let width = IsOneWidth-equivalence (ListedAlike sizes listed) (product sizes) (listed_alike sizes listed) in
+      record {
+        result = λ f g line next a b. one_read sizes listed f g a.reading b.reading;
+        line = λ f g line next a b. one_line (ListedAlike sizes listed) (product sizes) width limit (states_of f.automaton) (states_of g.automaton) kinds.Read line next a.line_is b.line_is
+            (same_states f g (one_read sizes listed f g a.reading b.reading));
+        no_letters = λ f line a. not_too_large sizes a.alphabet;
+        no_states = λ f line a above. not_beside (ListedAlike sizes listed) (product sizes) width limit (states_of f.automaton) kinds.Read line a.line_is above.exceeds;
+        one_limit = λ large above. not_too_large sizes above.alphabet large;
+      }
+
+  one_padding : (direction : Direction) (f g h : LetterFunctionValue) → IsLetterPadding direction f g → IsLetterPadding direction f h → g ≡ h
+  one_padding direction f g h one other =
+      equal g h one.function other.function (one.sizes ∙ sym other.sizes)
+      (λ w over.
+      let here : IsWord (letters_of f.automaton) w = subst (λ (sizes : List ℕ). IsWord (product sizes) w) one.sizes over in
+      one.letters w here ∙ sym (other.letters w here))
+
+  pub pad_outcome : (limit : ℕ) (direction : Direction) (f : LetterFunctionValue) → HasOneOutcome LetterFunctionValue (IsLetterPadStep limit direction f) ⊥ (LetterPadExceeds limit direction f)
+  pad_outcome limit direction f =
+      let letters : ℕ = letters_of f.automaton in
+      let width = IsOneWidth-equivalence (PaddedLettersAlike direction f) letters (padded_alike direction f) in
+      record {
+        result = λ g h line next a b. one_padding direction f g h a.padding b.padding;
+        line = λ g h line next a b. one_line (PaddedLettersAlike direction f) letters width limit (states_of g.automaton) (states_of h.automaton) kinds.Pad line next a.line_is b.line_is
+            (same_states g h (one_padding direction f g h a.padding b.padding));
+        no_letters = λ g line a none. none;
+        no_states = λ g line a. not_beside (PaddedLettersAlike direction f) letters width limit (states_of g.automaton) kinds.Pad line a.line_is;
+        one_limit = λ none. absurd none;
+      }
+
+  one_validity : (languages : List Automaton) (f g h : LetterFunctionValue) → AreValidLetters languages f g → AreValidLetters languages f h → g ≡ h
+  one_validity languages f g h one other =
+      equal g h one.function other.function (one.sizes ∙ sym other.sizes)
+      (λ w over.
+      let here : IsWord (letters_of f.automaton) w = subst (λ (sizes : List ℕ). IsWord (product sizes) w) one.sizes over in
+      one.letters w here ∙ sym (other.letters w here))
+
+  pub valid_outcome : (limit : ℕ) (languages : List Automaton) (f : LetterFunctionValue) → HasOneOutcome LetterFunctionValue (IsValidLettersStep limit languages f) ⊥ (ValidLettersExceed limit languages f)
+  valid_outcome limit languages f =
+      let letters : ℕ = letters_of f.automaton in
+      let width = IsOneWidth-equivalence (ValidLettersAlike f languages) letters (valid_alike f languages) in
+      record {
+        result = λ g h line next a b. one_validity languages f g h a.valid_letters b.valid_letters;
+        line = λ g h line next a b. one_line (ValidLettersAlike f languages) letters width limit (states_of g.automaton) (states_of h.automaton) kinds.Valid line next a.line_is b.line_is
+            (same_states g h (one_validity languages f g h a.valid_letters b.valid_letters));
+        no_letters = λ g line a none. none;
+        no_states = λ g line a. not_beside (ValidLettersAlike f languages) letters width limit (states_of g.automaton) kinds.Valid line a.line_is;
+        one_limit = λ none. absurd none;
+      }
+
+pub one_pair : (comparison : Comparison) (a b : PlacedLetters) (c e : NamedAutomaton) → IsPair comparison a b c → IsPair comparison a b e → c ≡ e
+one_pair comparison a b c e one other = λ i. record { names = (one.names ∙ sym other.names) i; automaton = automata i }
+  where
+    automata : c.automaton ≡ e.automaton
+    automata =
+        canonical_forms c.automaton e.automaton one.canonical other.canonical (one.sizes ∙ sym other.sizes)
+        (λ w over.
+        let here : IsWord (product (pair_sizes a b)) w = subst (λ (sizes : List ℕ). IsWord (product sizes) w) one.sizes over in
+        let first = one.language w here in
+        let second = other.language w here in
+        same_tests (accepts_of c.automaton w) (accepts_of e.automaton w) (λ is. second.1 (first.0 is), λ is. first.1 (second.0 is)))
+
+pub pair_outcome : PairsHaveOneOutcome
+pair_outcome limit comparison a b =
+    let letters : ℕ = product (pair_sizes a b) in
+    let width = IsOneWidth-equivalence (PairAlike a b) letters (pair_alike a b) in
+    record {
+      result = λ c e line next one two. one_pair comparison a b c e one.pair two.pair;
+      line = λ c e line next one two. one_line (PairAlike a b) letters width limit (states_of c.automaton) (states_of e.automaton) kinds.Product line next one.line_is two.line_is
+          (ap (λ (x : NamedAutomaton). states_of x.automaton) (one_pair comparison a b c e one.pair two.pair));
+      no_letters = λ c line one. not_too_large (pair_sizes a b) one.alphabet;
+      no_states = λ c line one above. not_beside (PairAlike a b) letters width limit (states_of c.automaton) kinds.Product line one.line_is above.exceeds;
+      one_limit = λ large above. not_too_large (pair_sizes a b) above.alphabet large;
+    }

@@ -1,0 +1,69 @@
+-- Laws of automatic words.
+use Rattle.std.specs.Prelude.{◌≡◌, ◌≢◌, ◌↔◌, ℕ, ℤ, List, ◌++◌, map, length}
+use Rattle.digit_tuple.specs.Deterministic.{Automaton}
+use Rattle.digit_tuple.specs.Letters.{IsTooLarge}
+use Rattle.digit_tuple.specs.Names.{joint_names}
+use Rattle.digit_tuple.specs.Steps.{StepLog}
+use Rattle.digit_tuple.specs.declared.step_fault.StepFault.TheVariants.{Memory}
+use Rattle.digit_tuple.specs.declared.steps.StepLine.{StepLine}
+use Rattle.dfa_reading.specs.Listed.{Listed}
+use Rattle.dfa_reading.specs.WordFiles.{IsWordListed}
+use Rattle.minimise.specs.Tracked.{NamedAutomaton}
+use Rattle.numeration.specs.Relations.{HoldsOf}
+use Rattle.num_system.specs.Sealed.{SystemValue}
+use Rattle.num_system.specs.Tracks.{AgreeUnder, HaveOneWay, number_under, systems_of, systems_under, way_of}
+use Rattle.num_system.specs.declared.comparison.Comparison.{Comparison}
+use Rattle.automaton_steps.specs.Laws.{HasOneOutcome}
+use Rattle.word_output.specs.LetterFunctions.{LetterFunctionValue}
+use Rattle.word_output.specs.LetterSets.{ComparesLetters, IsLetterSet}
+use Rattle.word_output.specs.WordPairs.{IsPair, IsPairStep, PairExceeds, PlacedLetters, pair_sizes}
+use Rattle.word_output.specs.WordReadings.{AreWordSteps, HasListedLetterAt, IsWordDone, IsWordRefused}
+use Rattle.word_output.specs.Words.{HasLetter, IsWordValue, WordValue}
+use Rattle.word_output.specs.declared.word_fault.WordFault.{WordFault}
+use Rattle.word_output.specs.declared.word_fault.WordFault.TheVariants.{Step}
+
+-- a word that is read has at each place the letter that is listed there
+abbrev pub WordsHaveListedLetters : Type 0
+WordsHaveListedLetters = (limit : ℕ) (listed : Listed) (v : WordValue) (lines : List StepLine) → IsWordListed listed → IsWordValue v → AreWordSteps limit v.systems listed v.function lines
+    → (ns : List ℕ) (letter : ℤ) → HasLetter v ns letter ↔ HasListedLetterAt (way_of v.systems) (systems_of v.systems) listed ns letter
+
+-- a place has one letter at most
+abbrev pub PlacesHaveOneLetter : Type 0
+PlacesHaveOneLetter = (v : WordValue) (ns : List ℕ) (b c : ℤ) → IsWordValue v → HasLetter v ns b → HasLetter v ns c → b ≡ c
+
+-- and each has one
+abbrev pub PlacesHaveLetters : Type 0
+PlacesHaveLetters = (v : WordValue) (ns : List ℕ) → IsWordValue v → length ns ≡ length v.systems → (letter : ℤ) × HasLetter v ns letter
+
+-- the automaton of a set of letters holds of the places that have such a letter
+abbrev pub LetterSetsHold : Type 0
+LetterSetsHold = (v : WordValue) (comparison : Comparison) (letter : ℤ) (d : Automaton) → IsWordValue v → IsLetterSet comparison letter v.function d
+    → HoldsOf (way_of v.systems) (systems_of v.systems) (λ ns. (b : ℤ) × HasLetter v ns b × ComparesLetters comparison b letter) d
+
+-- that of a pair holds of the numbers under the names for which both words have letters that compare so
+abbrev pub PairsHold : Type 0
+PairsHold = (v u : WordValue) (under others : List (List ℕ)) (comparison : Comparison) (paired : NamedAutomaton)
+    → IsWordValue v → IsWordValue u → length under ≡ length v.systems → length others ≡ length u.systems
+    → AgreeUnder (under ++ others) (v.systems ++ u.systems) → HaveOneWay (v.systems ++ u.systems)
+    → IsPair comparison (record { function = v.function; under = under }) (record { function = u.function; under = others }) paired
+    → HoldsOf (way_of v.systems) (systems_of (systems_under (under ++ others) (v.systems ++ u.systems) (joint_names under others)))
+    (λ ns. (b : ℤ) × (c : ℤ) × HasLetter v (map (number_under (joint_names under others) ns) under) b × HasLetter u (map (number_under (joint_names under others) ns) others) c × ComparesLetters comparison b c)
+    paired.automaton
+
+-- one automaton is that of the letters that compare so
+abbrev pub OneLetterSet : Type 0
+OneLetterSet = (comparison : Comparison) (letter : ℤ) (f : LetterFunctionValue) (d e : Automaton) → IsLetterSet comparison letter f d → IsLetterSet comparison letter f e → d ≡ e
+
+-- the step of a pair has one outcome
+abbrev pub PairsHaveOneOutcome : Type 0
+PairsHaveOneOutcome = (limit : ℕ) (comparison : Comparison) (a b : PlacedLetters)
+    → HasOneOutcome NamedAutomaton (IsPairStep limit comparison a b) (IsTooLarge (pair_sizes a b)) (PairExceeds limit a b)
+
+-- what a file lists is read as one word after the same steps; or it is refused by one fault, unless memory runs out; and not both
+pub record HasOneWord (old : StepLog) (systems : List SystemValue) (listed : Listed) : Type 0 where
+  pub words : (v u : WordValue) (new next : StepLog) → IsWordDone old systems listed v new → IsWordDone old systems listed u next → (v ≡ u) × (new ≡ next)
+  pub faults : (fault other : WordFault) → IsWordRefused old systems listed fault → IsWordRefused old systems listed other → fault ≢ Step Memory → other ≢ Step Memory → fault ≡ other
+  pub apart : (v : WordValue) (new : StepLog) (fault : WordFault) → IsWordDone old systems listed v new → IsWordRefused old systems listed fault → fault ≡ Step Memory
+
+abbrev pub WordReadingsHaveOneOutcome : Type 0
+WordReadingsHaveOneOutcome = (old : StepLog) (systems : List SystemValue) (listed : Listed) → HasOneWord old systems listed

@@ -1,0 +1,50 @@
+-- The step that makes the letter function of what a word's file lists.
+use Rattle.std.specs.Prelude.{◌≡◌, ◌↔◌, ℕ, ℤ, List, Some, Result, MatchResult}
+use Rattle.std.specs.List.{AllZip}
+use Rattle.digit_tuple.specs.Deterministic.{states_of}
+use Rattle.digit_tuple.specs.Letters.{product, IsAlphabet, IsTooLarge}
+use Rattle.digit_tuple.specs.StepResults.{IsDone}
+use Rattle.digit_tuple.specs.Steps.{StepLog}
+use Rattle.digit_tuple.specs.declared.kind.Kind.TheVariants as kinds
+use Rattle.digit_tuple.specs.declared.step_fault.StepFault.{StepFault}
+use Rattle.digit_tuple.specs.declared.steps.StepLine.{StepLine}
+use Rattle.dfa_reading.specs.Branching.{IsLetterOfDigits}
+use Rattle.dfa_reading.specs.Listed.{Listed, MovesAlong, output_of}
+use Rattle.automaton_steps.specs.StepLines.{IsStepLine, Exceeds, IsRefused}
+use Rattle.word_output.specs.LetterFunctions.{LetterFunctionValue, IsLetterFunction, letter_after}
+
+-- a path of listed transitions spells the tuples, and ends in a state with this letter
+abbrev pub HasListedLetter : List ℕ → Listed → List (List ℕ) → ℤ → Type 0
+HasListedLetter sizes listed tuples letter = (q : ℕ) × MovesAlong sizes listed 0 tuples q × (output_of listed q ≡ letter)
+
+-- the word, letter by letter that of a tuple, leads along listed transitions to the state
+pub record LeadsListed (sizes : List ℕ) (listed : Listed) (w : List ℕ) (q : ℕ) : Type 0 where
+  pub tuples : List (List ℕ)
+  pub letters : AllZip (IsLetterOfDigits sizes) tuples w
+  pub path : MovesAlong sizes listed 0 tuples q
+
+-- both words lead to the same listed states
+abbrev pub ListedAlike : List ℕ → Listed → List ℕ → List ℕ → Type 0
+ListedAlike sizes listed w v = (q : ℕ) → LeadsListed sizes listed w q ↔ LeadsListed sizes listed v q
+
+-- the letters of words are those that are listed
+pub record IsLetterReading (sizes : List ℕ) (listed : Listed) (f : LetterFunctionValue) : Type 0 where
+  pub sizes_are : f.automaton.sizes ≡ sizes
+  pub function : IsLetterFunction f
+  pub letters : (tuples : List (List ℕ)) (w : List ℕ) (letter : ℤ) → AllZip (IsLetterOfDigits sizes) tuples w → (letter_after f w ≡ Some letter) ↔ HasListedLetter sizes listed tuples letter
+
+-- the step is within the limits, and makes this function
+pub record IsLetterReadStep (limit : ℕ) (sizes : List ℕ) (listed : Listed) (f : LetterFunctionValue) (line : StepLine) : Type 0 where
+  pub alphabet : IsAlphabet sizes
+  pub reading : IsLetterReading sizes listed f
+  pub line_is : IsStepLine limit kinds.Read (ListedAlike sizes listed) (product sizes) (states_of f.automaton) line
+
+-- its width passes the limit
+pub record LetterReadExceeds (limit : ℕ) (sizes : List ℕ) (listed : Listed) : Type 0 where
+  pub alphabet : IsAlphabet sizes
+  pub exceeds : Exceeds limit (ListedAlike sizes listed) (product sizes)
+
+-- the step is done, or refused
+abbrev pub DoesLetterRead : StepLog → List ℕ → Listed → Result LetterFunctionValue StepFault → StepLog → Type 0
+DoesLetterRead old sizes listed result new =
+    MatchResult result (λ f. IsDone old (IsLetterReadStep old.limit sizes listed f) new) (IsRefused old (IsTooLarge sizes) (LetterReadExceeds old.limit sizes listed) new)

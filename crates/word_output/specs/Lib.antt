@@ -1,0 +1,15 @@
+pub mod LetterFunctions
+pub mod StateLetters
+pub mod LetterReadings
+pub mod ListedStates
+pub mod LetterPaddings
+pub mod PastZeros
+pub mod ValidLetters
+pub mod LeastWords
+pub mod Gaps
+pub mod LetterSets
+pub mod WordPairs
+pub mod KeyLetters
+pub mod Words
+pub mod WordReadings
+pub mod Laws
