@@ -1,0 +1,11 @@
+pub mod ListLemmas
+pub mod PowerLemmas
+pub mod RuleLemmas
+pub mod LeastLemmas
+pub mod ReachedLemmas
+pub mod OccurrenceLemmas
+pub mod KindLemmas
+pub mod BaseLemmas
+pub mod OneSystem
+pub mod WordLemmas
+pub mod OnePromotion

@@ -1,0 +1,52 @@
+-- Laws of fixed points.
+use Rattle.std.specs.Prelude.{◌≡◌, ◌≢◌, ◌+◌, ◌*◌, ◌<◌, ◌≤◌, ◌⊎◌, ℕ, ℤ, Some, slice_get}
+use Rattle.digit_tuple.specs.StepResults.{IsDone}
+use Rattle.digit_tuple.specs.Steps.{StepLog}
+use Rattle.digit_tuple.specs.declared.step_fault.StepFault.TheVariants.{Memory}
+use Rattle.morph_words.specs.Rules.{Rules, IsMorphism}
+use Rattle.word_output.specs.Words.{WordValue}
+use Rattle.fixed_points.specs.FixedPoint.{IsLetterAt, image}
+use Rattle.fixed_points.specs.MorphismKinds.{HasFixedPoint, IsRefusedAs}
+use Rattle.fixed_points.specs.Occurrences.{SomeOccur, SoManyOccur}
+use Rattle.fixed_points.specs.Promotion.{IsPromoteRefused, IsPromoteStep}
+use Rattle.fixed_points.specs.declared.morphism_kind.MorphismKind.{MorphismKind}
+use Rattle.fixed_points.specs.declared.promote_fault.PromoteFault.{PromoteFault}
+use Rattle.fixed_points.specs.declared.promote_fault.PromoteFault.TheVariants.{Step}
+
+-- a fixed point has a letter at each place
+abbrev pub FixedPointsHaveLetters : Type 0
+FixedPointsHaveLetters = (rules : Rules) (k place : ℕ) → HasFixedPoint rules k → (letter : ℤ) × IsLetterAt rules place letter
+
+-- and no other
+abbrev pub FixedPointsHaveOneLetter : Type 0
+FixedPointsHaveOneLetter = (rules : Rules) (place : ℕ) (letter other : ℤ) → IsLetterAt rules place letter → IsLetterAt rules place other → letter ≡ other
+
+-- and it is its own image: that of the letter at a place stands from k times the place on
+abbrev pub FixedPointsAreFixed : Type 0
+FixedPointsAreFixed = (rules : Rules) (k place digit : ℕ) (letter other : ℤ) → HasFixedPoint rules k → IsLetterAt rules place letter → digit < k → slice_get (image rules letter) digit ≡ Some other → IsLetterAt rules (place * k + digit) other
+
+-- a morphism has a fixed point, or is refused
+abbrev pub MorphismsArePromotedOrRefused : Type 0
+MorphismsArePromotedOrRefused = (rules : Rules) → IsMorphism rules → ((k : ℕ) × HasFixedPoint rules k) ⊎ ((kind : MorphismKind) × IsRefusedAs rules kind)
+
+-- and not both; and it has one base, or is refused as one kind
+pub record HasOneKind (rules : Rules) : Type 0 where
+  pub one_base : (j k : ℕ) → HasFixedPoint rules j → HasFixedPoint rules k → j ≡ k
+  pub one_kind : (kind other : MorphismKind) → IsRefusedAs rules kind → IsRefusedAs rules other → kind ≡ other
+  pub apart : (k : ℕ) (kind : MorphismKind) → HasFixedPoint rules k → ¬ IsRefusedAs rules kind
+
+abbrev pub MorphismsHaveOneKind : Type 0
+MorphismsHaveOneKind = (rules : Rules) → HasOneKind rules
+
+-- one number of letters occurs, and no more letters than that do
+abbrev pub OneNumberOccurs : Type 0
+OneNumberOccurs = (rules : Rules) (j k : ℕ) → SoManyOccur rules k → SomeOccur rules j → j ≤ k
+
+-- one word is made by the same step; or the morphism is refused by one fault, unless memory runs out; and not both
+pub record HasOnePromotion (old : StepLog) (rules : Rules) : Type 0 where
+  pub words : (v u : WordValue) (new next : StepLog) → IsDone old (IsPromoteStep old.limit rules v) new → IsDone old (IsPromoteStep old.limit rules u) next → (v ≡ u) × (new ≡ next)
+  pub faults : (fault other : PromoteFault) → IsPromoteRefused old rules fault → IsPromoteRefused old rules other → fault ≢ Step Memory → other ≢ Step Memory → fault ≡ other
+  pub apart : (v : WordValue) (new : StepLog) (fault : PromoteFault) → IsDone old (IsPromoteStep old.limit rules v) new → IsPromoteRefused old rules fault → fault ≡ Step Memory
+
+abbrev pub PromotionsHaveOneOutcome : Type 0
+PromotionsHaveOneOutcome = (old : StepLog) (rules : Rules) → HasOnePromotion old rules

@@ -1,0 +1,8 @@
+pub mod FixedPoint
+pub mod MorphismKinds
+pub mod LetterGraph
+pub mod Occurrences
+pub mod LeastLetters
+pub mod LetterGraphLaws
+pub mod Promotion
+pub mod Laws

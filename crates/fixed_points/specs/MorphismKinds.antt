@@ -1,0 +1,87 @@
+-- Why a morphism is refused, in the order in which the kinds are looked at.
+use Rattle.std.specs.Prelude.{◌≡◌, ◌≢◌, ℕ, ◌≤◌, ℤ, pos, ◌≤ℤ◌, List, ◌∷◌, length, Some, IsSome}
+use Rattle.std.specs.List.{Contains}
+use Rattle.morph_words.specs.Rules.{Rules, image_of}
+use Rattle.fixed_points.specs.FixedPoint.{image}
+use Rattle.fixed_points.specs.declared.morphism_kind.MorphismKind.{MorphismKind}
+use Rattle.fixed_points.specs.declared.morphism_kind.MorphismKind.TheVariants.{NotUniform, Length, NotClosed, NotFixed}
+
+-- the letter has a rule
+abbrev pub HasRule : Rules → ℤ → Type 0
+HasRule rules letter = IsSome (image_of rules letter)
+
+-- the least letter of which this holds
+pub record IsLeast (Holds : ℤ → Type 0) (letter : ℤ) : Type 0 where
+  pub holds : Holds letter
+  pub least : (other : ℤ) → Holds other → letter ≤ℤ other
+
+-- all images have this length
+abbrev pub AreUniform : Rules → ℕ → Type 0
+AreUniform rules k = (letter : ℤ) → HasRule rules letter → length (image rules letter) ≡ k
+
+-- the letter's image has another length than that of the least letter
+pub record IsOdd (rules : Rules) (letter : ℤ) : Type 0 where
+  pub has_rule : HasRule rules letter
+  pub first : ℤ
+  pub first_is : IsLeast (HasRule rules) first
+  pub other : length (image rules letter) ≢ length (image rules first)
+
+-- the letter stands in an image, and has no rule
+pub record IsLacking (rules : Rules) (letter : ℤ) : Type 0 where
+  pub from : ℤ
+  pub has_rule : HasRule rules from
+  pub within : Contains (image rules from) letter
+  pub lacks : ¬ HasRule rules letter
+
+-- each letter of an image has a rule
+abbrev pub AreClosed : Rules → Type 0
+AreClosed rules = (from letter : ℤ) → HasRule rules from → Contains (image rules from) letter → HasRule rules letter
+
+-- the letter 0 has an image, which begins with it
+abbrev pub BeginsItself : Rules → Type 0
+BeginsItself rules = (rest : List ℤ) × (image_of rules (pos 0) ≡ Some (pos 0 ∷ rest))
+
+-- the lengths that images may have are those that are bases
+abbrev pub IsBase : ℕ → Type 0
+IsBase k = (2 ≤ k) × (k ≤ 40)
+
+-- the morphism has a fixed point from the letter 0, in this base
+pub record HasFixedPoint (rules : Rules) (k : ℕ) : Type 0 where
+  pub base : IsBase k
+  pub uniform : AreUniform rules k
+  pub closed : AreClosed rules
+  pub begins : BeginsItself rules
+
+-- not all images have one length, and this is the least letter that tells
+abbrev pub IsNotUniform : Rules → ℤ → Type 0
+IsNotUniform rules letter = IsLeast (IsOdd rules) letter
+
+-- all have one length, which is no base; the least letter stands for all
+pub record HasOtherLength (rules : Rules) (letter : ℤ) : Type 0 where
+  pub first : IsLeast (HasRule rules) letter
+  pub k : ℕ
+  pub uniform : AreUniform rules k
+  pub outside : ¬ IsBase k
+
+-- that is a base, and this is the least letter of an image that has no rule
+pub record IsNotClosed (rules : Rules) (letter : ℤ) : Type 0 where
+  pub k : ℕ
+  pub base : IsBase k
+  pub uniform : AreUniform rules k
+  pub lacking : IsLeast (IsLacking rules) letter
+
+-- all have rules, and the image of 0 does not begin with 0, or 0 has none
+pub record IsNotFixed (rules : Rules) (letter : ℤ) : Type 0 where
+  pub zero_is : letter ≡ pos 0
+  pub k : ℕ
+  pub base : IsBase k
+  pub uniform : AreUniform rules k
+  pub closed : AreClosed rules
+  pub begins_not : ¬ BeginsItself rules
+
+-- the first kind of refusal that applies, with its letter
+abbrev pub IsRefusedAs : Rules → MorphismKind → Type 0
+IsRefusedAs rules (NotUniform letter) = IsNotUniform rules letter
+IsRefusedAs rules (Length letter) = HasOtherLength rules letter
+IsRefusedAs rules (NotClosed letter) = IsNotClosed rules letter
+IsRefusedAs rules (NotFixed letter) = IsNotFixed rules letter
