@@ -1,5 +1,5 @@
 -- The first part that is refused is where the grammar breaks.
-use Rattle.std.proofs.Common.{◌≡◌, ℕ, suc, ◌+◌, ◌^◌, ◌<◌, ◌≤◌, Bool, true, false, cond, List, [], ◌∷◌, ◌++◌, length, take, map, Result, Ok, Err, refl, sym, ◌∙◌, ap, subst, arith, codes, bytes_eq}
+use Rattle.std.proofs.Common.{◌≡◌, ℕ, suc, ◌+◌, ◌^◌, ◌<◌, ◌≤◌, Bool, true, false, cond, List, [], ◌∷◌, ◌++◌, length, take, drop, map, Result, Ok, Err, refl, sym, ◌∙◌, ap, subst, arith, codes, bytes_eq, ⊎_elim}
 use Rattle.std.specs.Prelude.{slice_index_or}
 use Rattle.text_grammar.specs.Faults.{Begins, BreaksAt}
 use Rattle.command_head.specs.declared.fault.HeadFault.TheVariants.{Syntax, Number}
@@ -7,29 +7,30 @@ use Rattle.command_head.specs.Readings.{Refusal, Form, Range, fault_at, placed, 
 use Rattle.text_grammar.specs.Numbers.{is_short}
 use Rattle.command_head.specs.Numbers.{is_number, number_of}
 use Rattle.command_head.specs.Members.{has, put, with_member}
-use Rattle.command_head.specs.Parts.{Part, texts_of, parts_of, is_name, is_system, is_quoted}
+use Rattle.command_head.specs.Parts.{Part, begins_with_blank, behind_blanks, behind_word, texts_of, parts_of, number_place, is_name, is_system, is_quoted}
 use Rattle.command_head.specs.Heads.{RegHead, Stage, AtWord, AtName, BehindName, AtNumber, BehindNumber, BehindSet, BehindSystem, AtEnd, body_step, step, ended, run, reg_at}
 use Rattle.command_head.specs.Grammar.{SpellsReg}
-use Rattle.command_head.specs.Breaks.{ExceedsAt, IsSyntaxAt, IsNumberAt}
-use Rattle.command_head.proofs.PartSteps.{length-parts}
+use Rattle.command_head.specs.Breaks.{part_at, ExceedsAt, IsSyntaxAt, IsNumberAt}
+use Rattle.command_head.proofs.PartSteps.{length-parts, length-behind_word}
 use Rattle.command_head.proofs.Walks.{goes_step, goes_first}
 use Rattle.command_head.proofs.ReadHeads.{reg_spelled}
 use Rattle.command_head.proofs.SpelledHeads.{reg_goes}
 use Rattle.command_head.proofs.Sane.{spent, Sane, step_keeps}
-use Rattle.command_head.proofs.HeadShape.{behind_word, length-behind_word}
 use Rattle.command_head.proofs.Completions.{GoesAs, completes, IsAtNumber, allowed, number_stage}
+use Rattle.command_head.proofs.ValuedParts.{number_split, valued_split, number_place-number}
+use Rattle.command_head.proofs.ValuedStages.{valued_stage}
 
--- a fault of form is where no number is out of range, the other where one is
-abbrev KindOf : Refusal → Type 0 → Type 0
-KindOf Form Exceeds = Exceeds → ⊥
-KindOf Range Exceeds = Exceeds
+-- a fault of form is where no number is out of range, the other where a part is one
+abbrev KindOf : Refusal → (List (List ℕ) → RegHead → Type 0) → List (List ℕ) → ℕ → Type 0
+KindOf Form grammar parts count = ExceedsAt grammar parts count → ⊥
+KindOf Range grammar parts count = ExceedsAt grammar parts count × (number_place (part_at parts count) ≡ 0)
 
 -- where parts break what may come behind a stage
 record IsBroken (whole : ℕ) (stage : Stage) (parts : List Part) (at : ℕ) (refusal : Refusal) : Type 0 where
   count : ℕ
   breaks : BreaksAt (GoesAs stage) (texts_of parts) count
   place : slice_index_or (map (λ (p : Part). p.at) parts) count whole ≡ at
-  kind : KindOf refusal (ExceedsAt (GoesAs stage) (texts_of parts) count)
+  kind : KindOf refusal (GoesAs stage) (texts_of parts) count
 
 record IsPlaced {A : Type 0} (at : ℕ) (r : Result A Refusal) (byte : ℕ) (refusal : Refusal) : Type 0 where
   refused : r ≡ Err refusal
@@ -152,15 +153,32 @@ broken_here limit whole stage part parts refusal low room sane h = record {
     no_more : Begins (GoesAs stage) (part.bytes ∷ []) → ⊥
     no_more b = let f = goes_first stage part.bytes b.0 b.1 b.2 in ok_err (step stage part.bytes) f.0 refusal f.1 h
 
-    by_kind : (refusal : Refusal) → step stage part.bytes ≡ Err refusal → KindOf refusal (ExceedsAt (GoesAs stage) (texts_of (part ∷ parts)) 0)
+    by_kind : (refusal : Refusal) → step stage part.bytes ≡ Err refusal → KindOf refusal (GoesAs stage) (texts_of (part ∷ parts)) 0
     by_kind Form e = λ exceeds.
         let allowed = exceeds.allowed in
-        let f = goes_first stage exceeds.other allowed.0 allowed.1 allowed.2 in
-        form_step stage part.bytes (number_stage stage exceeds.other f.0 exceeds.other_number f.1) e exceeds.number exceeds.long
+        let bytes = part.bytes in
+        let other = take (number_place bytes) bytes ++ exceeds.other in
+        let f = goes_first stage other allowed.0 allowed.1 allowed.2 in
+        ⊎_elim
+        (λ z. form_step stage bytes (number_stage stage other f.0 (subst (λ (n : ℕ). is_number (take n bytes ++ exceeds.other) ≡ true) (sym z) exceeds.other_number) f.1) e
+        (subst (λ (n : ℕ). is_number (drop n bytes) ≡ true) z exceeds.number) (subst (λ (n : ℕ). is_short (number_of (drop n bytes)) ≡ false) z exceeds.long))
+        (λ s. valued_stage stage other f.0 (valued_split bytes exceeds.other s) f.1)
+        (number_split bytes)
     by_kind Range e =
         let great = range_step stage part.bytes e in
         let other = allowed limit stage room low sane great.at_number in
-        record { within = omega arith; number = great.number; long = great.long; other = other.other; other_number = other.number; allowed = other.begins }
+        let bytes = part.bytes in
+        let begin = sym (number_place-number bytes great.number) in (
+          record {
+            within = omega arith;
+            number = subst (λ (n : ℕ). is_number (drop n bytes) ≡ true) begin great.number;
+            long = subst (λ (n : ℕ). is_short (number_of (drop n bytes)) ≡ false) begin great.long;
+            other = other.other;
+            other_number = other.number;
+            allowed = subst (λ (n : ℕ). Begins (GoesAs stage) ((take n bytes ++ other.other) ∷ [])) begin other.begins;
+          },
+          sym begin,
+        )
 
 suc_plus : (k : ℕ) → suc k + 1 ≡ suc (k + 1)
 suc_plus k = omega arith
@@ -188,7 +206,7 @@ module _ (stage next : Stage) (part : List ℕ) (parts : List (List ℕ)) (h : s
     long = e.long;
     other = e.other;
     other_number = e.other_number;
-    allowed = begins_more (take count parts ++ e.other ∷ []) e.allowed;
+    allowed = begins_more (take count parts ++ (take (number_place (part_at parts count)) (part_at parts count) ++ e.other) ∷ []) e.allowed;
   }
 
   exceeds_less : (count : ℕ) → ExceedsAt (GoesAs stage) (part ∷ parts) (suc count) → ExceedsAt (GoesAs next) parts count
@@ -198,7 +216,7 @@ module _ (stage next : Stage) (part : List ℕ) (parts : List (List ℕ)) (h : s
     long = e.long;
     other = e.other;
     other_number = e.other_number;
-    allowed = begins_less (take count parts ++ e.other ∷ []) e.allowed;
+    allowed = begins_less (take count parts ++ (take (number_place (part_at parts count)) (part_at parts count) ++ e.other) ∷ []) e.allowed;
   }
 
 broken_more : (whole : ℕ) (stage next : Stage) (part : Part) (parts : List Part) (at : ℕ) (refusal : Refusal) → step stage part.bytes ≡ Ok next → IsBroken whole next parts at refusal → IsBroken whole stage (part ∷ parts) at refusal
@@ -212,7 +230,7 @@ broken_more whole stage next part parts at Range h b = record {
   count = suc b.count;
   breaks = breaks_more stage next part.bytes (texts_of parts) h b.count b.breaks;
   place = b.place;
-  kind = exceeds_more stage next part.bytes (texts_of parts) h b.count b.kind;
+  kind = (exceeds_more stage next part.bytes (texts_of parts) h b.count b.kind.0, b.kind.1);
 }
 
 broken : (limit whole : ℕ) (stage : Stage) (parts : List Part) (at : ℕ) (refusal : Refusal) → limit ≤ 2 ^ 32 → spent stage + length parts ≤ limit → Sane limit stage → run whole stage parts ≡ Err (fault_at at refusal) →
@@ -247,15 +265,15 @@ reg_breaks parts count b = record {
 }
 
 reg_exceeds : (parts : List (List ℕ)) (count : ℕ) → ExceedsAt (GoesAs AtWord) parts count → ExceedsAt SpellsReg parts count
-reg_exceeds parts count e = record { within = e.within; number = e.number; long = e.long; other = e.other; other_number = e.other_number; allowed = reg_begins (take count parts ++ e.other ∷ []) e.allowed }
+reg_exceeds parts count e = record { within = e.within; number = e.number; long = e.long; other = e.other; other_number = e.other_number; allowed = reg_begins (take count parts ++ (take (number_place (part_at parts count)) (part_at parts count) ++ e.other) ∷ []) e.allowed }
 
 exceeds_reg : (parts : List (List ℕ)) (count : ℕ) → ExceedsAt SpellsReg parts count → ExceedsAt (GoesAs AtWord) parts count
-exceeds_reg parts count e = record { within = e.within; number = e.number; long = e.long; other = e.other; other_number = e.other_number; allowed = reg_goes_on (take count parts ++ e.other ∷ []) e.allowed }
+exceeds_reg parts count e = record { within = e.within; number = e.number; long = e.long; other = e.other; other_number = e.other_number; allowed = reg_goes_on (take count parts ++ (take (number_place (part_at parts count)) (part_at parts count) ++ e.other) ∷ []) e.allowed }
 
 few_parts : (text : List ℕ) → spent AtWord + length (parts_of text) ≤ length text + 1
 unfolding parts_of
 few_parts text =
-    let few = length-parts (length text) (length text) (behind_word text) in
+    let few = length-parts (length text) (length text) (begins_with_blank (behind_word text)) (behind_blanks (behind_word text)) in
     let less = length-behind_word text in
     omega arith
 
@@ -275,7 +293,10 @@ syntax_breaks text at short h =
 pub number_breaks : (text : List ℕ) (at : ℕ) → length text < 2 ^ 32 → reg_at text ≡ Err (Number at) → IsNumberAt SpellsReg text at
 number_breaks text at short h =
     let b = reg_broken text at Range short h in
+    let first_byte = b.kind.1 in
     record {
+      begin = at;
       first = record { count = b.count; breaks = reg_breaks (texts_of (parts_of text)) b.count b.breaks; place = b.place };
-      exceeds = reg_exceeds (texts_of (parts_of text)) b.count b.kind;
+      exceeds = reg_exceeds (texts_of (parts_of text)) b.count b.kind.0;
+      place = omega arith;
     }

@@ -1,43 +1,54 @@
 -- The parts of a head, divided by blanks, make a text that has just these parts.
-use Rattle.std.proofs.Common.{◌≡◌, ◌≢◌, ℕ, zero, suc, ◌+◌, ◌≤◌, Bool, true, false, not, cond, ◌==◌, ◌||◌, ◌&&◌, nat_le, List, [], ◌∷◌, ◌++◌, ℤ, length, take, drop, get_or, refl, sym, ◌∙◌, ap, subst, arith, tests, codes, ⊎_elim, length-append}
+use Rattle.std.proofs.Common.{◌≡◌, ◌≢◌, ℕ, zero, suc, ◌+◌, ◌≤◌, Bool, true, false, not, cond, ◌==◌, ◌&&◌, nat_le, List, [], ◌∷◌, ◌++◌, ℤ, length, take, drop, get_or, refl, sym, ◌∙◌, ap, subst, arith, tests, codes, ⊎_elim, length-append}
 use Rattle.std.specs.List.{AllByRecursion}
-use Rattle.std.proofs.lemmas.List.{take_at, drop_at, append_assoc, take-append-drop}
-use Rattle.std.proofs.lemmas.Bool.{ne_eqb, or_from, or_cases, and_parts, lt-leb, leb-true, eqb-true, false≢true}
+use Rattle.std.proofs.lemmas.List.{take_at, drop_at, append_assoc}
+use Rattle.std.proofs.lemmas.Bool.{ne_eqb, or_from, and_parts, lt-leb, leb-true, eqb-true, false≢true}
 use Rattle.text_grammar.specs.declared.class.Class.TheVariants.{Blank, Digit, NameByte, Word, Unquoted}
-use Rattle.text_grammar.specs.Bytes.{is_blank, is_letter, is_digit, is_name_byte}
+use Rattle.text_grammar.specs.Bytes.{is_blank, is_letter, is_digit}
 use Rattle.text_grammar.specs.Fronts.{is_in, front_len, behind_front}
 use Rattle.command_head.specs.Numbers.{unsigned, all_in, is_number}
-use Rattle.command_head.specs.Parts.{begins_with_letter, behind_blanks, ending_len, part_len, parts_of_rest, parts_of, texts_of, is_name, is_system, all_alphanumeric}
+use Rattle.command_head.specs.Parts.{begins_with_blank, begins_with_letter, behind_blanks, ending_len, part_len, behind_first, first_in, behind_word, parts_of_rest, parts_of, texts_of, is_name, is_system}
 use Rattle.command_head.specs.Heads.{Alphabets, Sets, Systems, RegHead, NamedHead}
 use Rattle.command_head.specs.Grammar.{SpellsMentions, SpellsSet, SpellSets, SpellAlphabets, AreUnquoted, quoted, SpellsReg, SpellsNamed}
 use Rattle.command_head.proofs.FrontSteps.{Stops, front_len-append, front_of-append, behind_front-append}
-use Rattle.command_head.proofs.PartShape.{AllByRecursion-weaker, all-append, all_in-all, letter-high, letter-name_byte, unquoted_in, system_read, direction_is}
+use Rattle.command_head.proofs.PartShape.{AllByRecursion-weaker, all_in-all, name_bytes, letter-high, unquoted_in, system_read, direction_is, system_bytes}
 
 -- parts, a blank behind each
-unfoldable join : List (List ℕ) → List ℕ
+unfoldable pub join : List (List ℕ) → List ℕ
 join [] = []
 join (part ∷ parts) = part ++ 32 ∷ join parts
 
 -- a part that is one also where a blank stands behind it
-record Stands (part : List ℕ) : Type 0 where
-  first : ℕ
-  others : List ℕ
-  is : part ≡ first ∷ others
-  solid : is_blank first ≡ false
-  len : (rest : List ℕ) → part_len (part ++ 32 ∷ rest) ≡ length part
+pub record Stands (part : List ℕ) : Type 0 where
+  pub first : ℕ
+  pub others : List ℕ
+  pub is : part ≡ first ∷ others
+  pub solid : is_blank first ≡ false
+  pub len : (rest : List ℕ) → part_len (part ++ 32 ∷ rest) ≡ length part
+
+behind_solid : (part rest : List ℕ) → part_len (part ++ rest) ≡ length part → behind_first (part ++ rest) ≡ rest
+behind_solid part rest len = ap (λ (n : ℕ). drop n (part ++ rest)) len ∙ drop_at part rest (length part) refl
+
+-- a part behind a blank
+first_spaced : (part rest : List ℕ) → part_len (part ++ rest) ≡ length part → first_in true (part ++ rest) ≡ part
+unfolding first_in
+first_spaced part rest len = either (begins_with_letter (part ++ rest)) _ _ ∙ ap (λ (n : ℕ). take n (part ++ rest)) len ∙ take_at part rest (length part) refl
+  where
+    either : (letter : Bool) (x y : List ℕ) → cond (letter && false) x y ≡ y
+    either true x y = refl
+    either false x y = refl
 
 first_part : (count whole b : ℕ) (bs rest : List ℕ) → part_len (b ∷ (bs ++ rest)) ≡ length (b ∷ bs) →
-    texts_of (parts_of_rest (suc count) whole (b ∷ (bs ++ rest))) ≡ (b ∷ bs) ∷ texts_of (parts_of_rest count whole (behind_blanks rest))
+    texts_of (parts_of_rest (suc count) whole true (b ∷ (bs ++ rest))) ≡ (b ∷ bs) ∷ texts_of (parts_of_rest count whole (begins_with_blank rest) (behind_blanks rest))
 unfolding parts_of_rest
 first_part count whole b bs rest len =
-    ap (λ (n : ℕ). take n (b ∷ (bs ++ rest)) ∷ texts_of (parts_of_rest count whole (behind_blanks (drop n (b ∷ (bs ++ rest)))))) len
-    ∙ ap (λ (l : List ℕ). l ∷ texts_of (parts_of_rest count whole (behind_blanks (drop (length (b ∷ bs)) (b ∷ (bs ++ rest)))))) (take_at (b ∷ bs) rest (length (b ∷ bs)) refl)
-    ∙ ap (λ (l : List ℕ). (b ∷ bs) ∷ texts_of (parts_of_rest count whole (behind_blanks l))) (drop_at (b ∷ bs) rest (length (b ∷ bs)) refl)
+    ap (λ (l : List ℕ). l ∷ texts_of (parts_of_rest count whole (begins_with_blank (behind_first (b ∷ (bs ++ rest)))) (behind_blanks (behind_first (b ∷ (bs ++ rest)))))) (first_spaced (b ∷ bs) rest len)
+    ∙ ap (λ (l : List ℕ). (b ∷ bs) ∷ texts_of (parts_of_rest count whole (begins_with_blank l) (behind_blanks l))) (behind_solid (b ∷ bs) rest len)
 
-no_part : (count whole : ℕ) → texts_of (parts_of_rest count whole []) ≡ []
+no_part : (count whole : ℕ) (blank : Bool) → texts_of (parts_of_rest count whole blank []) ≡ []
 unfolding parts_of_rest
-no_part zero whole = refl
-no_part (suc count) whole = refl
+no_part zero whole blank = refl
+no_part (suc count) whole blank = refl
 
 -- behind a blank the parts follow
 solid_join : (parts : List (List ℕ)) → AllByRecursion Stands parts → behind_blanks (32 ∷ join parts) ≡ join parts
@@ -48,9 +59,9 @@ solid_join (part ∷ parts) all =
     let stops : Stops Blank (part ++ 32 ∷ join parts) = subst (λ (l : List ℕ). Stops Blank (l ++ 32 ∷ join parts)) (sym s.is) s.solid in
     behind_front-append Blank (32 ∷ []) (part ++ 32 ∷ join parts) (refl, tt) stops
 
-parts_join : (parts : List (List ℕ)) (count whole : ℕ) → AllByRecursion Stands parts → length (join parts) ≤ count → texts_of (parts_of_rest count whole (join parts)) ≡ parts
+parts_join : (parts : List (List ℕ)) (count whole : ℕ) → AllByRecursion Stands parts → length (join parts) ≤ count → texts_of (parts_of_rest count whole true (join parts)) ≡ parts
 unfolding join
-parts_join [] count whole all room = no_part count whole
+parts_join [] count whole all room = no_part count whole true
 parts_join ([] ∷ parts) count whole all room = absurd (none (all.0))
   where
     none : Stands [] → ⊥
@@ -59,16 +70,19 @@ parts_join ((b ∷ bs) ∷ parts) zero whole all room = absurd (omega arith)
 parts_join ((b ∷ bs) ∷ parts) (suc count) whole all room =
     let s = all.0 in
     first_part count whole b bs (32 ∷ join parts) (s.len (join parts))
-    ∙ ap (λ (l : List ℕ). (b ∷ bs) ∷ texts_of (parts_of_rest count whole l)) (solid_join parts all.1)
+    ∙ ap (λ (l : List ℕ). (b ∷ bs) ∷ texts_of (parts_of_rest count whole true l)) (solid_join parts all.1)
     ∙ ap (λ (l : List (List ℕ)). (b ∷ bs) ∷ l) (parts_join parts count whole all.1 (omega (arith, length-append bs (32 ∷ join parts))))
 
 high-blank : (b : ℕ) → 33 ≤ b → is_blank b ≡ false
 high-blank b h = or_from _ _ (or_from _ _ (or_from _ _ (ne_eqb b 32 (λ e. omega arith)) (ne_eqb b 9 (λ e. omega arith))) (ne_eqb b 13 (λ e. omega arith))) (ne_eqb b 10 (λ e. omega arith))
 
+pub letter_solid : (b : ℕ) → is_letter b ≡ true → is_blank b ≡ false
+letter_solid b letter = let high = letter-high b letter in high-blank b (omega arith)
+
 low-letter : (b : ℕ) → b ≤ 64 → is_letter b ≡ false
 low-letter b h = rw (lt-leb 65 b (omega arith), lt-leb 97 b (omega arith)) refl
 
-letter_len : (b : ℕ) (bs : List ℕ) → is_letter b ≡ true → part_len (b ∷ bs) ≡ front_len NameByte (b ∷ bs) + ending_len (behind_front NameByte (b ∷ bs))
+pub letter_len : (b : ℕ) (bs : List ℕ) → is_letter b ≡ true → part_len (b ∷ bs) ≡ front_len NameByte (b ∷ bs) + ending_len (behind_front NameByte (b ∷ bs))
 unfolding part_len
 letter_len b bs h = taken (is_letter b) _ _ h
   where
@@ -81,42 +95,24 @@ stands_letter b bs letter all = record {
   first = b;
   others = bs;
   is = refl;
-  solid = let high = letter-high b letter in high-blank b (omega arith);
+  solid = letter_solid b letter;
   len = λ rest.
       letter_len b (bs ++ 32 ∷ rest) letter
       ∙ ap (λ (l : List ℕ). front_len NameByte (b ∷ (bs ++ 32 ∷ rest)) + ending_len l) (behind_front-append NameByte (b ∷ bs) (32 ∷ rest) all refl)
       ∙ (let n = front_len-append NameByte (b ∷ bs) (32 ∷ rest) all refl in omega arith);
 }
 
-stands_name : (part : List ℕ) → is_name part ≡ true → Stands part
+pub stands_name : (part : List ℕ) → is_name part ≡ true → Stands part
 stands_name [] h = absurd (false≢true h)
 stands_name (b ∷ bs) h =
-    let p = and_parts (is_letter b) (all_in NameByte (b ∷ bs) && nat_le (length (b ∷ bs)) 64) h in
-    let q = and_parts (all_in NameByte (b ∷ bs)) (nat_le (length (b ∷ bs)) 64) p.1 in
-    stands_letter b bs p.0 (all_in-all NameByte (b ∷ bs) q.0)
-
-digit-name_byte : (b : ℕ) → is_digit b ≡ true → is_name_byte b ≡ true
-digit-name_byte b h = by_letter (is_letter b) refl
-  where
-    by_letter : (t : Bool) → is_letter b ≡ t → is_name_byte b ≡ true
-    by_letter true e = letter-name_byte b e
-    by_letter false e = rw (e, h) refl
-
-alphanumeric_names : (bytes : List ℕ) → all_alphanumeric bytes ≡ true → AllByRecursion (λ c. is_in NameByte c ≡ true) bytes
-alphanumeric_names [] h = tt
-alphanumeric_names (b ∷ bs) h =
-    let p = and_parts (is_letter b || is_digit b) (all_alphanumeric bs) h in
-    (⊎_elim (λ e. letter-name_byte b e) (λ e. digit-name_byte b e) (or_cases (is_letter b) (is_digit b) p.0), alphanumeric_names bs p.1)
+    stands_letter b bs (and_parts (is_letter b) (all_in NameByte (b ∷ bs) && nat_le (length (b ∷ bs)) 64) h).0 (name_bytes (b ∷ bs) h)
 
 stands_system : (part : List ℕ) → is_system part ≡ true → Stands part
 stands_system [] h = absurd (false≢true h)
 stands_system (b ∷ bs) h =
-    let read = system_read (b ∷ bs) h in
-    let P : List ℕ → Type 0 = λ l. AllByRecursion (λ c. is_in NameByte c ≡ true) l in
-    let direction = direction_is (take 4 (b ∷ bs)) read.direction in
-    let front : P (take 4 (b ∷ bs)) = ⊎_elim (λ e. subst P (sym e) (refl, (refl, (refl, (refl, tt))))) (λ e. subst P (sym e) (refl, (refl, (refl, (refl, tt))))) direction in
+    let direction = direction_is (take 4 (b ∷ bs)) (system_read (b ∷ bs) h).direction in
     let letter : is_letter b ≡ true = ⊎_elim (λ e. first_letter 109 (ap (λ (l : List ℕ). get_or l 0 0) e) refl) (λ e. first_letter 108 (ap (λ (l : List ℕ). get_or l 0 0) e) refl) direction in
-    stands_letter b bs letter (subst P (take-append-drop 4 (b ∷ bs)) (all-append (λ c. is_in NameByte c ≡ true) (take 4 (b ∷ bs)) (drop 4 (b ∷ bs)) front (alphanumeric_names (drop 4 (b ∷ bs)) read.others)))
+    stands_letter b bs letter (system_bytes (b ∷ bs) h)
   where
     first_letter : (c : ℕ) → b ≡ c → is_letter c ≡ true → is_letter b ≡ true
     first_letter c e h = subst (λ (x : ℕ). is_letter x ≡ true) (sym e) h
@@ -190,7 +186,7 @@ stands_quoted : (body : List ℕ) → AreUnquoted body → Stands (quoted body)
 stands_quoted body all = record { first = 34; others = body ++ 34 ∷ []; is = refl; solid = refl; len = λ rest. quoted_length body rest all }
 
 -- the parts of a head
-all_of : (P : List ℕ → Type 0) (xs ys : List (List ℕ)) → AllByRecursion P xs → AllByRecursion P ys → AllByRecursion P (xs ++ ys)
+pub all_of : (P : List ℕ → Type 0) (xs ys : List (List ℕ)) → AllByRecursion P xs → AllByRecursion P ys → AllByRecursion P (xs ++ ys)
 all_of P [] ys a b = b
 all_of P (x ∷ xs) ys a b = (a.0, all_of P xs ys a.1 b)
 
@@ -216,18 +212,18 @@ stand_alphabets : (alphabets : Alphabets) (parts : List (List ℕ)) → SpellAlp
 stand_alphabets (Sets sets) parts spelled = stand_sets sets parts spelled.1
 stand_alphabets (Systems names) parts spelled = subst (AllByRecursion Stands) (sym spelled.1) (stand_systems names spelled.2)
 
-unfoldable text_of : List ℕ → List (List ℕ) → List ℕ
+unfoldable pub text_of : List ℕ → List (List ℕ) → List ℕ
 text_of word parts = word ++ 32 ∷ join parts
 
-word_first : (word : List ℕ) (parts : List (List ℕ)) → AllByRecursion (λ b. is_in Word b ≡ true) word → AllByRecursion Stands parts → texts_of (parts_of (text_of word parts)) ≡ word ∷ parts
+pub word_first : (word : List ℕ) (parts : List (List ℕ)) → AllByRecursion (λ b. is_in Word b ≡ true) word → AllByRecursion Stands parts → texts_of (parts_of (text_of word parts)) ≡ word ∷ parts
 unfolding parts_of text_of
 word_first word parts of_word all =
     let rest = 32 ∷ join parts in
     let text = word ++ rest in
     let few : length (join parts) ≤ length text = omega (arith, length-append word rest) in
-    ap (λ (l : List ℕ). l ∷ texts_of (parts_of_rest (length text) (length text) (behind_blanks (behind_front Word text)))) (front_of-append Word word rest of_word refl)
-    ∙ ap (λ (l : List ℕ). word ∷ texts_of (parts_of_rest (length text) (length text) (behind_blanks l))) (behind_front-append Word word rest of_word refl)
-    ∙ ap (λ (l : List ℕ). word ∷ texts_of (parts_of_rest (length text) (length text) l)) (solid_join parts all)
+    ap (λ (l : List ℕ). l ∷ texts_of (parts_of_rest (length text) (length text) (begins_with_blank (behind_word text)) (behind_blanks (behind_word text)))) (front_of-append Word word rest of_word refl)
+    ∙ ap (λ (l : List ℕ). word ∷ texts_of (parts_of_rest (length text) (length text) (begins_with_blank l) (behind_blanks l))) (behind_front-append Word word rest of_word refl)
+    ∙ ap (λ (l : List ℕ). word ∷ texts_of (parts_of_rest (length text) (length text) true l)) (solid_join parts all)
     ∙ ap (λ (l : List (List ℕ)). word ∷ l) (parts_join parts (length text) (length text) all few)
 
 -- parts that spell a `reg` are those of a text
@@ -241,11 +237,9 @@ name_byte-word : (b : ℕ) → is_in NameByte b ≡ true → is_in Word b ≡ tr
 name_byte-word b h = grind (arith, tests)
 
 -- a name has neither a blank nor a quote
-word_bytes : (word : List ℕ) → is_name word ≡ true → AllByRecursion (λ b. is_in Word b ≡ true) word
+pub word_bytes : (word : List ℕ) → is_name word ≡ true → AllByRecursion (λ b. is_in Word b ≡ true) word
 word_bytes word h =
-    let p = and_parts (begins_with_letter word) (all_in NameByte word && nat_le (length word) 64) h in
-    let q = and_parts (all_in NameByte word) (nat_le (length word) 64) p.1 in
-    AllByRecursion-weaker (λ b. is_in NameByte b ≡ true) (λ b. is_in Word b ≡ true) name_byte-word word (all_in-all NameByte word q.0)
+    AllByRecursion-weaker (λ b. is_in NameByte b ≡ true) (λ b. is_in Word b ≡ true) name_byte-word word (name_bytes word h)
 
 -- and parts that spell a word, a name and a quoted text
 pub named_text : (word : List ℕ) (parts : List (List ℕ)) (head : NamedHead) → is_name word ≡ true → SpellsNamed word parts head → (text : List ℕ) × (texts_of (parts_of text) ≡ parts)

@@ -12,7 +12,16 @@ pub mod Sane
 pub mod HeadShape
 pub mod Numerals
 pub mod Completions
+pub mod ValuedParts
+pub mod ValuedStages
+pub mod PartsRead
+pub mod Expecting
+pub mod Forms
 pub mod NamedHeads
+pub mod WordHeads
+pub mod CombineHeads
+pub mod Listing
 pub mod Breaking
 pub mod OneFault
 pub mod JoinedParts
+pub mod JoinedHeads

@@ -10,7 +10,7 @@ use Rattle.text_grammar.specs.Bytes.{is_letter, is_digit, is_name_byte}
 use Rattle.text_grammar.specs.Fronts.{is_in, front_len, front_of, behind_front}
 use Rattle.text_grammar.specs.Numbers.{begins_with}
 use Rattle.command_head.specs.Numbers.{all_in}
-use Rattle.command_head.specs.Parts.{begins_with_letter, is_name, all_alphanumeric, is_direction, is_system, is_quoted, unquoted}
+use Rattle.command_head.specs.Parts.{begins_with_letter, is_name, is_word, all_alphanumeric, is_direction, is_system, is_quoted, unquoted}
 use Rattle.command_head.specs.Grammar.{AreUnquoted, quoted}
 use Rattle.command_head.proofs.FrontSteps.{begins_with-split, front_split, front_of-all, front_of-append, behind_front-append}
 
@@ -49,12 +49,22 @@ all_in-all class bytes h =
     let same : front_of class bytes ≡ bytes = take_all (front_len class bytes) bytes (let whole = eqb-true (front_len class bytes) (length bytes) h in omega arith) in
     subst (λ (l : List ℕ). AllByRecursion (λ b. is_in class b ≡ true) l) same (front_of-all class bytes)
 
+-- names have bytes of names
+pub name_bytes : (part : List ℕ) → is_name part ≡ true → AllByRecursion (λ b. is_in NameByte b ≡ true) part
+name_bytes part h =
+    let tests = and_parts (begins_with_letter part) (all_in NameByte part && nat_le (length part) 64) h in
+    all_in-all NameByte part (and_parts (all_in NameByte part) (nat_le (length part) 64) tests.1).0
+
+-- the name of a word is a name
+pub word_name : (part : List ℕ) → is_word part ≡ true → is_name part ≡ true
+word_name part h = (and_parts (is_name part) _ h).0
+
 -- names are ASCII
 pub IsAscii-name : (part : List ℕ) → is_name part ≡ true → IsAscii part
-IsAscii-name part h =
-    let tests = and_parts (begins_with_letter part) (all_in NameByte part && nat_le (length part) 64) h in
-    let all = all_in-all NameByte part (and_parts (all_in NameByte part) (nat_le (length part) 64) tests.1).0 in
-    low part (AllByRecursion-weaker (λ b. is_in NameByte b ≡ true) (λ b. b < 128) name_byte-low part all)
+IsAscii-name part h = low part (AllByRecursion-weaker (λ b. is_in NameByte b ≡ true) (λ b. b < 128) name_byte-low part (name_bytes part h))
+
+pub IsAscii-word : (part : List ℕ) → is_word part ≡ true → IsAscii part
+IsAscii-word part h = IsAscii-name part (word_name part h)
 
 alphanumeric_all : (bytes : List ℕ) → all_alphanumeric bytes ≡ true → AllByRecursion (λ b. b < 128) bytes
 alphanumeric_all [] h = tt
@@ -87,6 +97,27 @@ IsAscii-system part h =
     let read = system_read part h in
     let all = all-append (λ b. b < 128) (take 4 part) (drop 4 part) (direction_low (take 4 part) read.direction) (alphanumeric_all (drop 4 part) read.others) in
     low part (subst (λ (l : List ℕ). AllByRecursion (λ b. b < 128) l) (take-append-drop 4 part) all)
+
+digit-name_byte : (b : ℕ) → is_digit b ≡ true → is_name_byte b ≡ true
+digit-name_byte b h = by_letter (is_letter b) refl
+  where
+    by_letter : (t : Bool) → is_letter b ≡ t → is_name_byte b ≡ true
+    by_letter true e = letter-name_byte b e
+    by_letter false e = rw (e, h) refl
+
+alphanumeric_names : (bytes : List ℕ) → all_alphanumeric bytes ≡ true → AllByRecursion (λ c. is_in NameByte c ≡ true) bytes
+alphanumeric_names [] h = tt
+alphanumeric_names (b ∷ bs) h =
+    let p = and_parts (is_letter b || is_digit b) (all_alphanumeric bs) h in
+    (⊎_elim (λ e. letter-name_byte b e) (λ e. digit-name_byte b e) (or_cases (is_letter b) (is_digit b) p.0), alphanumeric_names bs p.1)
+
+-- systems have bytes of names
+pub system_bytes : (part : List ℕ) → is_system part ≡ true → AllByRecursion (λ c. is_in NameByte c ≡ true) part
+system_bytes part h =
+    let read = system_read part h in
+    let P : List ℕ → Type 0 = λ l. AllByRecursion (λ c. is_in NameByte c ≡ true) l in
+    let front : P (take 4 part) = ⊎_elim (λ e. subst P (sym e) (refl, (refl, (refl, (refl, tt))))) (λ e. subst P (sym e) (refl, (refl, (refl, (refl, tt))))) (direction_is (take 4 part) read.direction) in
+    subst P (take-append-drop 4 part) (all-append (λ c. is_in NameByte c ≡ true) (take 4 part) (drop 4 part) front (alphanumeric_names (drop 4 part) read.others))
 
 pub unquoted_in : (b : ℕ) → b ≢ 34 → is_in Unquoted b ≡ true
 unquoted_in b h = rw (ne_eqb b 34 h) refl

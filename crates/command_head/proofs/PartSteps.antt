@@ -1,14 +1,14 @@
 -- The parts of a rest, one after another.
-use Rattle.std.proofs.Common.{◌≡◌, ℕ, zero, suc, ◌-◌, ◌<◌, ◌≤◌, Bool, true, false, cond, ◌==◌, List, [], ◌∷◌, length, take, drop, Result, Ok, Err, refl, sym, ◌∙◌, arith, length-drop}
+use Rattle.std.proofs.Common.{◌≡◌, ℕ, zero, suc, ◌-◌, ◌<◌, ◌≤◌, Bool, true, false, cond, ◌==◌, List, [], ◌∷◌, length, drop, Result, Ok, Err, refl, sym, ◌∙◌, arith, length-drop}
 use Rattle.std.proofs.lemmas.Bool.{eqb-true}
-use Rattle.text_grammar.specs.declared.class.Class.TheVariants.{Blank, Digit}
+use Rattle.text_grammar.specs.declared.class.Class.TheVariants.{Blank, Digit, Word}
 use Rattle.text_grammar.specs.Bytes.{is_letter}
 use Rattle.text_grammar.specs.Fronts.{front_len}
 use Rattle.command_head.specs.declared.fault.HeadFault.{HeadFault}
 use Rattle.command_head.specs.Readings.{placed}
 use Rattle.text_grammar.specs.Numbers.{begins_with}
 use Rattle.command_head.specs.Numbers.{unsigned}
-use Rattle.command_head.specs.Parts.{begins_with_digit, part_len, behind_blanks, parts_of_rest}
+use Rattle.command_head.specs.Parts.{begins_with_blank, begins_with_digit, part_len, behind_blanks, behind_first, first_in, behind_word, parts_of_rest}
 use Rattle.command_head.specs.Heads.{RegHead, Stage, step, ended, run}
 use Rattle.command_head.proofs.FrontSteps.{length-behind_front}
 use Rattle.command_head.proofs.PartShape.{letter-name_byte}
@@ -28,44 +28,48 @@ part_len-some b bs = above (is_letter b) _ _ (λ h. rw (letter-name_byte b h) (o
     (λ _. above (begins_with_digit (unsigned (b ∷ bs))) _ _ (λ h. let some = digits_some (unsigned (b ∷ bs)) h in omega arith)
     (λ _. above (begins_with 34 (b ∷ bs)) _ _ (λ _. omega arith) (λ _. omega arith)))
 
-pub length-behind_part : (b : ℕ) (bs : List ℕ) → length (behind_blanks (drop (part_len (b ∷ bs)) (b ∷ bs))) < length (b ∷ bs)
+pub length-behind_part : (b : ℕ) (bs : List ℕ) → length (behind_blanks (behind_first (b ∷ bs))) < length (b ∷ bs)
 length-behind_part b bs =
     let some = part_len-some b bs in
     let less = length-behind_front Blank (drop (part_len (b ∷ bs)) (b ∷ bs)) in
     omega (arith, length-drop (part_len (b ∷ bs)) (b ∷ bs))
 
 -- there are no more parts than bytes
-pub length-parts : (count whole : ℕ) (rest : List ℕ) → length (parts_of_rest count whole rest) ≤ length rest
+pub length-parts : (count whole : ℕ) (blank : Bool) (rest : List ℕ) → length (parts_of_rest count whole blank rest) ≤ length rest
 unfolding parts_of_rest
-length-parts zero whole rest = omega arith
-length-parts (suc count) whole [] = omega arith
-length-parts (suc count) whole (b ∷ bs) =
+length-parts zero whole blank rest = omega arith
+length-parts (suc count) whole blank [] = omega arith
+length-parts (suc count) whole blank (b ∷ bs) =
     let fewer = length-behind_part b bs in
-    let more = length-parts count whole (behind_blanks (drop (part_len (b ∷ bs)) (b ∷ bs))) in
+    let more = length-parts count whole (begins_with_blank (behind_first (b ∷ bs))) (behind_blanks (behind_first (b ∷ bs))) in
     omega arith
 
+-- there are no more bytes behind the first word and its blanks than in the text
+pub length-behind_word : (text : List ℕ) → length (behind_blanks (behind_word text)) ≤ length text
+length-behind_word text = omega (arith, length-behind_front Word text, length-behind_front Blank (behind_word text))
+
 -- one part more, and those behind it
-pub run_more : (count whole : ℕ) (stage next : Stage) (rest : List ℕ) (all : Result RegHead HeadFault) → 0 < length rest → length rest ≤ count →
-    placed (whole - length rest) (step stage (take (part_len rest) rest)) ≡ Ok next → run whole stage (parts_of_rest count whole rest) ≡ all →
-    (left : ℕ) × (length (behind_blanks (drop (part_len rest) rest)) ≤ left) × (run whole next (parts_of_rest left whole (behind_blanks (drop (part_len rest) rest))) ≡ all)
+pub run_more : (count whole : ℕ) (stage next : Stage) (blank : Bool) (rest : List ℕ) (all : Result RegHead HeadFault) → 0 < length rest → length rest ≤ count →
+    placed (whole - length rest) (step stage (first_in blank rest)) ≡ Ok next → run whole stage (parts_of_rest count whole blank rest) ≡ all →
+    (left : ℕ) × (length (behind_blanks (behind_first rest)) ≤ left) × (run whole next (parts_of_rest left whole (begins_with_blank (behind_first rest)) (behind_blanks (behind_first rest))) ≡ all)
 unfolding run parts_of_rest
-run_more count whole stage next [] all some room h goal = absurd (omega arith)
-run_more zero whole stage next (b ∷ bs) all some room h goal = absurd (omega arith)
-run_more (suc count) whole stage next (b ∷ bs) all some room h goal =
+run_more count whole stage next blank [] all some room h goal = absurd (omega arith)
+run_more zero whole stage next blank (b ∷ bs) all some room h goal = absurd (omega arith)
+run_more (suc count) whole stage next blank (b ∷ bs) all some room h goal =
     let fewer = length-behind_part b bs in
     (count, omega arith, sym (rw h refl) ∙ goal)
 
 -- a part that is refused
-pub run_refused : (count whole : ℕ) (stage : Stage) (rest : List ℕ) → 0 < length rest → length rest ≤ count → (e : HeadFault) →
-    placed (whole - length rest) (step stage (take (part_len rest) rest)) ≡ Err e → run whole stage (parts_of_rest count whole rest) ≡ Err e
+pub run_refused : (count whole : ℕ) (stage : Stage) (blank : Bool) (rest : List ℕ) → 0 < length rest → length rest ≤ count → (e : HeadFault) →
+    placed (whole - length rest) (step stage (first_in blank rest)) ≡ Err e → run whole stage (parts_of_rest count whole blank rest) ≡ Err e
 unfolding run parts_of_rest
-run_refused count whole stage [] some room e h = absurd (omega arith)
-run_refused zero whole stage (b ∷ bs) some room e h = absurd (omega arith)
-run_refused (suc count) whole stage (b ∷ bs) some room e h = rw h refl
+run_refused count whole stage blank [] some room e h = absurd (omega arith)
+run_refused zero whole stage blank (b ∷ bs) some room e h = absurd (omega arith)
+run_refused (suc count) whole stage blank (b ∷ bs) some room e h = rw h refl
 
 -- no part more
-pub run_ends : (count whole : ℕ) (stage : Stage) (rest : List ℕ) → (length rest == 0) ≡ true → run whole stage (parts_of_rest count whole rest) ≡ placed whole (ended stage)
+pub run_ends : (count whole : ℕ) (stage : Stage) (blank : Bool) (rest : List ℕ) → (length rest == 0) ≡ true → run whole stage (parts_of_rest count whole blank rest) ≡ placed whole (ended stage)
 unfolding run parts_of_rest
-run_ends zero whole stage [] h = refl
-run_ends (suc count) whole stage [] h = refl
-run_ends count whole stage (b ∷ bs) h = let none = eqb-true (length (b ∷ bs)) 0 h in absurd (omega arith)
+run_ends zero whole stage blank [] h = refl
+run_ends (suc count) whole stage blank [] h = refl
+run_ends count whole stage blank (b ∷ bs) h = let none = eqb-true (length (b ∷ bs)) 0 h in absurd (omega arith)

@@ -1,11 +1,11 @@
 -- Where a text first breaks a grammar of heads, by its parts.
-use Rattle.std.specs.Prelude.{◌≡◌, ◌≢◌, ℕ, ◌<◌, ◌^◌, true, false, List, [], ◌∷◌, ◌++◌, length, take, map, slice_index_or, ◌↔◌, Result, Ok, Err, ⊤}
+use Rattle.std.specs.Prelude.{◌≡◌, ◌≢◌, ℕ, ◌+◌, ◌<◌, ◌^◌, true, false, List, [], ◌∷◌, ◌++◌, length, take, drop, map, slice_index_or, ◌↔◌, Result, Ok, Err, ⊤}
 use Rattle.text_grammar.specs.Faults.{Begins, BreaksAt}
 use Rattle.command_head.specs.declared.fault.HeadFault.{HeadFault}
 use Rattle.command_head.specs.declared.fault.HeadFault.TheVariants.{Syntax, Number, Memory}
 use Rattle.text_grammar.specs.Numbers.{is_short}
 use Rattle.command_head.specs.Numbers.{is_number, number_of}
-use Rattle.command_head.specs.Parts.{Part, parts_of, texts_of}
+use Rattle.command_head.specs.Parts.{Part, parts_of, texts_of, number_place}
 use Rattle.command_head.specs.Heads.{reg_at}
 use Rattle.command_head.specs.Grammar.{SpellsReg}
 
@@ -13,14 +13,19 @@ use Rattle.command_head.specs.Grammar.{SpellsReg}
 abbrev pub place_of : List ℕ → ℕ → ℕ
 place_of text count = slice_index_or (map (λ (p : Part). p.at) (parts_of text)) count (length text)
 
--- At this part a number stands that does not fit 32 bits, signed, and behind the parts before it another number goes on.
+-- the part that stands at a place in a list of parts
+abbrev pub part_at : List (List ℕ) → ℕ → List ℕ
+part_at parts count = slice_index_or parts count []
+
+-- This part is a number, or ends with one behind a name and `=`, and the number does not fit 32 bits, signed; with another number
+-- in its place the part goes on behind those before it.
 pub record ExceedsAt {H : Type 0} (grammar : List (List ℕ) → H → Type 0) (parts : List (List ℕ)) (count : ℕ) : Type 0 where
   pub within : count < length parts
-  pub number : is_number (slice_index_or parts count []) ≡ true
-  pub long : is_short (number_of (slice_index_or parts count [])) ≡ false
+  pub number : is_number (drop (number_place (part_at parts count)) (part_at parts count)) ≡ true
+  pub long : is_short (number_of (drop (number_place (part_at parts count)) (part_at parts count))) ≡ false
   pub other : List ℕ
   pub other_number : is_number other ≡ true
-  pub allowed : Begins grammar (take count parts ++ other ∷ [])
+  pub allowed : Begins grammar (take count parts ++ (take (number_place (part_at parts count)) (part_at parts count) ++ other) ∷ [])
 
 -- The first part with which no head of the grammar goes on begins at this byte. Where all parts of the text begin a head and are
 -- none, the byte is the text's length.
@@ -34,10 +39,12 @@ pub record IsSyntaxAt {H : Type 0} (grammar : List (List ℕ) → H → Type 0) 
   pub first : BreaksIn grammar text at
   pub form : ExceedsAt grammar (texts_of (parts_of text)) first.count → ⊥
 
--- The text breaks the grammar at this byte by a number that does not fit.
+-- The text breaks the grammar at a part whose number does not fit, and the number begins at this byte.
 pub record IsNumberAt {H : Type 0} (grammar : List (List ℕ) → H → Type 0) (text : List ℕ) (at : ℕ) : Type 0 where
-  pub first : BreaksIn grammar text at
+  pub begin : ℕ
+  pub first : BreaksIn grammar text begin
   pub exceeds : ExceedsAt grammar (texts_of (parts_of text)) first.count
+  pub place : begin + number_place (part_at (texts_of (parts_of text)) first.count) ≡ at
 
 -- what a text has by a grammar of heads: a head, seen by view, that its parts spell, or where they first break the grammar
 abbrev pub HasHead : {X H : Type 0} → (List (List ℕ) → H → Type 0) → (X → H) → List ℕ → Result X HeadFault → Type 0

@@ -1,12 +1,12 @@
 -- The grammars of heads: which parts, one behind another, spell which head.
-use Rattle.std.specs.Prelude.{◌≡◌, ◌≢◌, ℕ, true, List, [], ◌∷◌, ◌++◌, ℤ, codes, ◌↔◌, Ok}
+use Rattle.std.specs.Prelude.{◌≡◌, ◌≢◌, ℕ, true, List, [], ◌∷◌, ◌++◌, ℤ, codes, ◌↔◌, Option, None, Some, Ok, ⊤}
 use Rattle.std.specs.List.{AllByRecursion, AllPairs}
 use Rattle.digit_tuple.specs.Sets.{IsAscending}
 use Rattle.text_grammar.specs.Numbers.{is_short}
 use Rattle.command_head.specs.Numbers.{is_number, number_of}
 use Rattle.command_head.specs.Members.{has}
-use Rattle.command_head.specs.Parts.{parts_of, texts_of, is_name, is_system}
-use Rattle.command_head.specs.Heads.{Alphabets, Sets, Systems, RegHead, NamedHead, reg_at}
+use Rattle.command_head.specs.Parts.{parts_of, texts_of, is_name, is_word, is_system}
+use Rattle.command_head.specs.Heads.{Alphabets, Sets, Systems, RegHead, NamedHead, PromoteHead, ImageHead, ValuedName, CombineHead, reg_at}
 
 -- a part spells a number of 32 bits, signed
 pub record SpellsNumber (part : List ℕ) (n : ℤ) : Type 0 where
@@ -65,6 +65,46 @@ pub record SpellsNamed (word : List ℕ) (parts : List (List ℕ)) (head : Named
   pub parts_are : parts ≡ word ∷ head.name ∷ quoted head.body ∷ []
   pub name : is_name head.name ≡ true
   pub body : AreUnquoted head.body
+
+-- the word `promote`, the new word, and the morphism
+pub record SpellsPromote (parts : List (List ℕ)) (head : PromoteHead) : Type 0 where
+  pub parts_are : parts ≡ codes "promote" ∷ head.word ∷ head.morphism ∷ []
+  pub word : is_word head.word ≡ true
+  pub morphism : is_name head.morphism ≡ true
+
+-- the word `image`, the new word, the morphism, and the old word
+pub record SpellsImage (parts : List (List ℕ)) (head : ImageHead) : Type 0 where
+  pub parts_are : parts ≡ codes "image" ∷ head.word ∷ head.morphism ∷ head.old ∷ []
+  pub word : is_word head.word ≡ true
+  pub morphism : is_name head.morphism ≡ true
+  pub old : is_word head.old ≡ true
+
+-- what stands behind a name in its part: nothing, or `=` and a number
+abbrev pub SpellsValue : List ℕ → Option ℤ → Type 0
+SpellsValue behind None = behind ≡ []
+SpellsValue behind (Some n) = (number : List ℕ) × (behind ≡ 61 ∷ number) × SpellsNumber number n
+
+-- a name, and directly behind it the value, if one is given
+pub record SpellsValued (part : List ℕ) (valued : ValuedName) : Type 0 where
+  pub behind : List ℕ
+  pub part_is : part ≡ valued.name ++ behind
+  pub name : is_name valued.name ≡ true
+  pub value : SpellsValue behind valued.value
+
+-- such parts, one behind another
+abbrev pub SpellEach : List (List ℕ) → List ValuedName → Type 0
+SpellEach [] [] = ⊤
+SpellEach [] (valued ∷ more) = ⊥
+SpellEach (part ∷ parts) [] = ⊥
+SpellEach (part ∷ parts) (valued ∷ more) = SpellsValued part valued × SpellEach parts more
+
+-- the word `combine`, the new word, and one or more automata
+pub record SpellsCombine (parts : List (List ℕ)) (head : CombineHead) : Type 0 where
+  pub automata : List (List ℕ)
+  pub parts_are : parts ≡ codes "combine" ∷ head.word ∷ automata
+  pub word : is_word head.word ≡ true
+  pub some : head.automata ≢ []
+  pub each : SpellEach automata head.automata
 
 -- what is read of a text is what its parts spell
 abbrev pub ReadsGrammar : Type 0

@@ -1,12 +1,21 @@
 -- What values stand for, without where they lie in memory.
+use Rattle.std.specs.Prelude.{ℕ, List, map}
 use Rattle.command_head.specs.declared.head.Alphabets.{Alphabets}
 use Rattle.command_head.specs.declared.head.Alphabets.TheVariants as alphabets
 use Rattle.command_head.specs.declared.head.RegParts.{RegParts}
 use Rattle.command_head.specs.declared.head.NamedParts.{NamedParts}
+use Rattle.command_head.specs.declared.head.PromoteParts.{PromoteParts}
+use Rattle.command_head.specs.declared.head.ImageParts.{ImageParts}
+use Rattle.command_head.specs.declared.head.ValuedName as valued
+use Rattle.command_head.specs.declared.head.CombineParts.{CombineParts}
+use Rattle.command_head.specs.declared.combining.ValueText.{ValueText}
+use Rattle.command_head.specs.declared.combining.ValueText.TheVariants as values
 use Rattle.command_head.specs.declared.stage.Stage.{Stage}
 use Rattle.command_head.specs.declared.stage.Stage.TheVariants as stages
+use Rattle.command_head.specs.Values.{IsValueText, IsLongValue}
+use Rattle.command_head.specs.Grammar.{SpellsValue}
 use Rattle.command_head.specs.Heads as heads
-use Rattle.command_head.specs.Heads.{RegHead, NamedHead, Sets, Systems}
+use Rattle.command_head.specs.Heads.{RegHead, NamedHead, PromoteHead, ImageHead, ValuedName, CombineHead, Sets, Systems}
 
 abbrev pub alphabets_of : Alphabets → heads.Alphabets
 alphabets_of (alphabets.Sets sets) = Sets sets
@@ -17,6 +26,24 @@ head_view parts = record { name = parts.name; alphabets = alphabets_of parts.alp
 
 abbrev pub named_view : NamedParts → NamedHead
 named_view parts = record { name = parts.name; body = parts.body.now }
+
+abbrev pub promote_view : PromoteParts → PromoteHead
+promote_view parts = record { word = parts.word; morphism = parts.morphism }
+
+abbrev pub image_view : ImageParts → ImageHead
+image_view parts = record { word = parts.word; morphism = parts.morphism; old = parts.old }
+
+abbrev pub valued_view : valued.ValuedName → ValuedName
+valued_view name = record { name = name.name; value = name.value }
+
+-- what stands behind a name is a value, or `=` and a number that does not fit, or neither
+abbrev pub IsReadAs : List ℕ → ValueText → Type 0
+IsReadAs behind (values.Given value) = SpellsValue behind value
+IsReadAs behind values.Long = IsLongValue behind
+IsReadAs behind values.Other = IsValueText behind → ⊥
+
+abbrev pub combine_view : CombineParts → CombineHead
+combine_view parts = record { word = parts.word; automata = map valued_view parts.automata.items }
 
 abbrev pub stage_view : Stage → heads.Stage
 stage_view stages.AtWord = heads.AtWord

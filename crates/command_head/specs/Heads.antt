@@ -1,5 +1,5 @@
 -- The heads of commands. This is what reading a `reg` gives, part by part.
-use Rattle.std.specs.Prelude.{ℕ, if◌then◌else◌, List, [], ◌∷◌, ◌++◌, length, ℤ, Result, Ok, Err, codes}
+use Rattle.std.specs.Prelude.{ℕ, if◌then◌else◌, List, [], ◌∷◌, ◌++◌, length, ℤ, Option, Result, Ok, Err, codes}
 use Rattle.std.specs.Str.{bytes_eq}
 use Rattle.command_head.specs.declared.fault.HeadFault.{HeadFault}
 use Rattle.command_head.specs.Readings.{Refusal, Form, placed, ◌>>=◌}
@@ -21,6 +21,27 @@ pub record RegHead : Type 0 where
 pub record NamedHead : Type 0 where
   pub name : List ℕ
   pub body : List ℕ
+
+-- the parts of a `promote`: the new word, and the morphism
+pub record PromoteHead : Type 0 where
+  pub word : List ℕ
+  pub morphism : List ℕ
+
+-- the parts of an `image`: the new word, the morphism, and the old word
+pub record ImageHead : Type 0 where
+  pub word : List ℕ
+  pub morphism : List ℕ
+  pub old : List ℕ
+
+-- a name of an automaton, and the value that stands behind it, if one does
+pub record ValuedName : Type 0 where
+  pub name : List ℕ
+  pub value : Option ℤ
+
+-- the parts of a `combine`: the word, and the automata in their order
+pub record CombineHead : Type 0 where
+  pub word : List ℕ
+  pub automata : List ValuedName
 
 -- What was read of a `reg`, by the place in it.
 pub data Stage : Type 0 where

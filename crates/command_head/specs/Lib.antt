@@ -4,6 +4,7 @@ pub mod Members
 pub mod Parts
 pub mod Heads
 pub mod HeadViews
+pub mod Values
 pub mod Grammar
 pub mod Formed
 pub mod Breaks

@@ -1,9 +1,9 @@
--- The parts of a command's text, from left to right. Blanks may stand between them. Each is the longest possible, so a
--- blank stands between a name and a part that begins with a letter.
-use Rattle.std.specs.Prelude.{ℕ, zero, suc, ◌+◌, ◌-◌, min, nat_le, Bool, true, false, ◌||◌, ◌&&◌, if◌then◌else◌, List, [], ◌∷◌, length, take, drop, map, codes}
+-- The parts of a command's text, from left to right. Blanks may stand between them. Each is the longest possible, and a
+-- blank stands before each that begins with a letter.
+use Rattle.std.specs.Prelude.{ℕ, zero, suc, ◌+◌, ◌-◌, min, nat_le, Bool, true, false, not, ◌||◌, ◌&&◌, if◌then◌else◌, List, [], ◌∷◌, length, take, drop, map, codes}
 use Rattle.std.specs.Str.{bytes_eq}
 use Rattle.text_grammar.specs.declared.class.Class.TheVariants.{Blank, Digit, NameByte, Word, Unquoted}
-use Rattle.text_grammar.specs.Bytes.{is_letter, is_digit}
+use Rattle.text_grammar.specs.Bytes.{is_blank, is_letter, is_digit}
 use Rattle.text_grammar.specs.Fronts.{front_len, front_of, behind_front}
 use Rattle.text_grammar.specs.Numbers.{begins_with}
 use Rattle.command_head.specs.Numbers.{unsigned, all_in}
@@ -15,6 +15,11 @@ first_word_of text = front_of Word text
 -- behind the blanks at the front
 abbrev pub behind_blanks : List ℕ → List ℕ
 behind_blanks bytes = behind_front Blank bytes
+
+-- whether a blank stands first
+abbrev pub begins_with_blank : List ℕ → Bool
+begins_with_blank [] = false
+begins_with_blank (b ∷ bs) = is_blank b
 
 -- whether a letter stands first
 abbrev pub begins_with_letter : List ℕ → Bool
@@ -53,22 +58,38 @@ part_len bytes =
     then front_len NameByte bytes + ending_len (behind_front NameByte bytes)
     else if begins_with_digit (unsigned bytes) then number_len bytes else if begins_with 34 bytes then quoted_len bytes else 1
 
+-- what stands behind the part that stands first
+abbrev pub behind_first : List ℕ → List ℕ
+behind_first rest = drop (part_len rest) rest
+
+-- The part that stands first, where a blank stands before it or none does. A part that begins with a letter and lacks the blank
+-- before it is empty, and no form takes it.
+unfoldable pub first_in : Bool → List ℕ → List ℕ
+first_in blank rest = if begins_with_letter rest && not blank then [] else take (part_len rest) rest
+
 -- a part, and the byte of the text where it begins
 pub record Part : Type 0 where
   pub at : ℕ
   pub bytes : List ℕ
 
--- the parts of the rest of a text that has `whole` bytes, where the rest begins with no blank; they are at most so many
-unfoldable pub parts_of_rest : ℕ → ℕ → List ℕ → List Part
-parts_of_rest zero whole rest = []
-parts_of_rest (suc count) whole [] = []
-parts_of_rest (suc count) whole (b ∷ bs) =
-    record { at = whole - length (b ∷ bs); bytes = take (part_len (b ∷ bs)) (b ∷ bs) }
-    ∷ parts_of_rest count whole (behind_blanks (drop (part_len (b ∷ bs)) (b ∷ bs)))
+-- The parts of the rest of a text that has `whole` bytes, where the rest begins with no blank, and a blank stands before it or none
+-- does; they are at most so many.
+unfoldable pub parts_of_rest : ℕ → ℕ → Bool → List ℕ → List Part
+parts_of_rest zero whole blank rest = []
+parts_of_rest (suc count) whole blank [] = []
+parts_of_rest (suc count) whole blank (b ∷ bs) =
+    record { at = whole - length (b ∷ bs); bytes = first_in blank (b ∷ bs) }
+    ∷ parts_of_rest count whole (begins_with_blank (behind_first (b ∷ bs))) (behind_blanks (behind_first (b ∷ bs)))
+
+-- what stands behind the first word
+abbrev pub behind_word : List ℕ → List ℕ
+behind_word text = behind_front Word text
 
 -- the parts of a text: its first word, and those behind it
 unfoldable pub parts_of : List ℕ → List Part
-parts_of text = record { at = 0; bytes = first_word_of text } ∷ parts_of_rest (length text) (length text) (behind_blanks (behind_front Word text))
+parts_of text =
+    record { at = 0; bytes = first_word_of text }
+    ∷ parts_of_rest (length text) (length text) (begins_with_blank (behind_word text)) (behind_blanks (behind_word text))
 
 -- the parts, without their places
 abbrev pub texts_of : List Part → List (List ℕ)
@@ -77,6 +98,14 @@ texts_of parts = map (λ (p : Part). p.bytes) parts
 -- a letter, and then letters, digits and `_`, at most 64 bytes in all
 abbrev pub is_name : List ℕ → Bool
 is_name part = begins_with_letter part && (all_in NameByte part && nat_le (length part) 64)
+
+-- a name that begins with none of `A`, `E` and `I`
+abbrev pub is_word : List ℕ → Bool
+is_word part = is_name part && not (begins_with 65 part || (begins_with 69 part || begins_with 73 part))
+
+-- where the number of a part begins: behind a name and `=`, or at the part's first byte
+unfoldable pub number_place : List ℕ → ℕ
+number_place part = if begins_with_letter part && begins_with 61 (behind_front NameByte part) then front_len NameByte part + 1 else 0
 
 -- whether all bytes are letters and digits
 abbrev pub all_alphanumeric : List ℕ → Bool

@@ -1,3 +1,6 @@
+ghost use Rattle.std.specs.Prelude.{◌≡◌, ◌<◌, ◌+◌, ◌^◌};
+ghost use Rattle.command_head.specs.Values.{value_at as value_of};
+
 use digit_tuple::name::Name;
 use digit_tuple::sets::Sets;
 
@@ -28,4 +31,56 @@ pub struct RegParts<'a> {
     pub alphabets: Alphabets,
     /// The expression: what stands in the quotes.
     pub body: &'a [u8],
+}
+
+/// The parts of a `promote`.
+#[derive(Drop)]
+pub struct PromoteParts {
+    /// The name of the new word.
+    pub word: Name,
+    /// The name of the morphism.
+    pub morphism: Name,
+}
+
+/// The parts of an `image`.
+#[derive(Drop)]
+pub struct ImageParts {
+    /// The name of the new word.
+    pub word: Name,
+    /// The name of the morphism.
+    pub morphism: Name,
+    /// The name of the old word.
+    pub old: Name,
+}
+
+/// The name of an automaton, and the value that is given with it.
+#[derive(Drop)]
+pub struct ValuedName {
+    /// The name.
+    pub name: Name,
+    /// The value behind `=`, where one is given.
+    pub value: Option<i32>,
+}
+
+impl ValuedName {
+    /// The value of the automaton, which stands at this place of its list, counted from 0: the one that is given, or the
+    /// place counted from 1.
+    pub fn value_at(&self, place: usize) -> i32
+        requires { place + 1 < 2 ^ 31 }
+        ensures { result ≡ value_of place self.now.value }
+    {
+        match self.value {
+            Some(value) => value,
+            None => (place + 1) as i32,
+        }
+    }
+}
+
+/// The parts of a `combine`.
+#[derive(Drop)]
+pub struct CombineParts {
+    /// The name of the new word.
+    pub word: Name,
+    /// The automata in the order in which they are listed, one at least.
+    pub automata: Vec<ValuedName>,
 }

@@ -5,10 +5,9 @@ ghost use Rattle.command_head.specs.Heads.{reg_at};
 ghost use Rattle.command_head.specs.HeadViews.{alphabets_of, head_view};
 ghost use Rattle.command_head.specs.Formed.{AreFormed};
 
-use crate::bytes::{behind_blanks, place};
 use crate::fault::HeadFault;
 use crate::head::RegParts;
-use crate::parts::part_len;
+use crate::rest::rest_of;
 use crate::stage::Stage;
 use std::alloc::Global;
 use text_grammar::{Class, front_len};
@@ -36,12 +35,11 @@ pub fn reg_parts(alloc: Global, text: &[u8]) -> Result<RegParts<'_>, HeadFault>
     let whole = text.len();
     let (word, behind) = text.split_at(front_len(Class::Word, text));
     let mut stage = Stage::AtWord.step(alloc, 0, word)?;
-    let mut rest = behind_blanks(behind);
-    'parts: while !rest.is_empty() {
-        let at = place(whole, rest);
-        let (part, behind) = rest.split_at(part_len(rest));
-        stage = stage.step(alloc, at, part)?;
-        rest = behind_blanks(behind);
+    let mut rest = rest_of(whole, behind);
+    'parts: while !rest.bytes.is_empty() {
+        let part = rest.first_part();
+        stage = stage.step(alloc, part.at, part.bytes)?;
+        rest = part.rest;
     }
     stage.end(whole)
 }

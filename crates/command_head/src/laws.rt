@@ -1,7 +1,7 @@
 //! Laws of the grammars.
 ghost use Rattle.std.specs.Prelude.{◌≡◌, ℕ, List, true};
 ghost use Rattle.command_head.specs.Parts.{is_name};
-ghost use Rattle.command_head.specs.Grammar.{ReadsGrammar, SpellsReg, SpellsNamed, ArePartsOfTexts};
+ghost use Rattle.command_head.specs.Grammar.{ReadsGrammar, SpellsReg, SpellsNamed, SpellsPromote, SpellsImage, SpellsCombine, ArePartsOfTexts};
 ghost use Rattle.command_head.specs.Breaks.{BreaksGrammar, HasOneHead};
 
 /// Reading a text gives the parts of a `reg` exactly where the grammar spells these parts so.
@@ -20,10 +20,16 @@ pub fn breaks_the_grammar()
 pub fn one_head()
     ensures reg { HasOneHead SpellsReg }
     ensures named { (word : List ℕ) → HasOneHead (SpellsNamed word) }
+    ensures promote { HasOneHead SpellsPromote }
+    ensures image { HasOneHead SpellsImage }
+    ensures combine { HasOneHead SpellsCombine }
 {}
 
 /// Parts that a grammar takes are the parts of some text, so that what is said of parts is said of texts.
 pub fn parts_are_of_texts()
     ensures reg { ArePartsOfTexts SpellsReg }
     ensures named { (word : List ℕ) → is_name word ≡ true → ArePartsOfTexts (SpellsNamed word) }
+    ensures promote { ArePartsOfTexts SpellsPromote }
+    ensures image { ArePartsOfTexts SpellsImage }
+    ensures combine { ArePartsOfTexts SpellsCombine }
 {}

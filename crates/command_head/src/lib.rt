@@ -1,6 +1,7 @@
-//! The heads of commands: the first word, and the parts of what follows by one of two grammars: that of a `reg` over
-//! sets, `reg NAME {a,b,..} .. "R"`, or over systems, `reg NAME SYSTEM .. "R"`; and that of a word, a name and a text,
-//! `WORD NAME "TEXT"`. A head is read part by part, with the first fault and the byte where it is.
+//! The heads of commands: the first word, and the parts of what follows by a grammar for each form of command: `reg`
+//! over sets, `reg NAME {a,b,..} .. "R"`, or over systems, `reg NAME SYSTEM .. "R"`; a word, a name and a text,
+//! `WORD NAME "TEXT"`; `promote WORD NAME`; `image WORD NAME WORD`; and `combine WORD NAME[=V] ..`. A head is read part
+//! by part, with the first fault and the byte where it is.
 #![tactic(auto)]
 
 // the faults of a head
@@ -11,18 +12,30 @@ mod bytes;
 mod numbers;
 // how long the parts of a text are, and of which kind they are
 mod parts;
+// the parts of a text, one after another
+mod rest;
 // what a head has
 mod head;
 // reading a `reg` part by part
 mod stage;
 // the heads of `reg` commands
 mod heading;
+// parts that have to be of one kind
+mod kinds;
 // the heads of a word, a name and a text
 mod named;
+// the heads of commands that make a word of a morphism
+mod word_heads;
+// the heads of commands that combine automata
+mod combining;
 // laws of the grammar
 pub mod laws;
 
+pub use combining::combine_parts;
 pub use fault::HeadFault;
-pub use head::{Alphabets, NamedParts, RegParts};
+pub use head::{
+    Alphabets, CombineParts, ImageParts, NamedParts, PromoteParts, RegParts, ValuedName,
+};
 pub use heading::{first_word, reg_parts};
 pub use named::named_parts;
+pub use word_heads::{image_parts, promote_parts};

@@ -1,5 +1,5 @@
 ghost use Rattle.std.specs.Prelude.{◌≡◌, ◌<◌, ◌≤◌, length, true};
-ghost use Rattle.command_head.specs.Parts.{begins_with_letter as letter_first, begins_with_digit as digit_first, number_len as len_of_number, begins_with_value as value_first, begins_with_ending as ending_first, ending_len as len_of_ending, quoted_len as len_of_quoted, part_len as len_of_part, is_name as is_name_part, all_alphanumeric as all_alphanumeric_bytes, is_direction as is_direction_text, is_system as is_system_part, is_quoted as is_quoted_part, unquoted as inside_quotes};
+ghost use Rattle.command_head.specs.Parts.{begins_with_letter as letter_first, begins_with_digit as digit_first, number_len as len_of_number, begins_with_value as value_first, begins_with_ending as ending_first, ending_len as len_of_ending, quoted_len as len_of_quoted, part_len as len_of_part, is_name as is_name_part, is_word as is_word_part, all_alphanumeric as all_alphanumeric_bytes, is_direction as is_direction_text, is_system as is_system_part, is_quoted as is_quoted_part, unquoted as inside_quotes};
 
 use crate::bytes::all_in;
 use crate::numbers::unsigned;
@@ -12,7 +12,7 @@ const LONGEST_NAME: usize = 64;
 const LONGEST_SYSTEM: usize = 62;
 
 /// Whether a letter stands first.
-fn begins_with_letter(bytes: &[u8]) -> bool
+pub(crate) fn begins_with_letter(bytes: &[u8]) -> bool
     ensures { result ≡ letter_first bytes.now }
 {
     match bytes {
@@ -103,6 +103,14 @@ pub(crate) fn is_name(part: &[u8]) -> bool
     ensures { result ≡ is_name_part part.now }
 {
     begins_with_letter(part) && all_in(Class::NameByte, part) && part.len() <= LONGEST_NAME
+}
+
+/// Whether a part is a name that may name a word: it begins with none of `A`, `E` and `I`.
+pub(crate) fn is_word(part: &[u8]) -> bool
+    ensures { result ≡ is_word_part part.now }
+{
+    is_name(part)
+        && !(begins_with(b'A', part) || begins_with(b'E', part) || begins_with(b'I', part))
 }
 
 /// Whether all bytes are letters and digits.

@@ -1,0 +1,163 @@
+-- Where a text breaks a grammar, from what the grammar expects behind the parts that were read.
+use Rattle.std.proofs.Common.{◌≡◌, ◌≢◌, ℕ, suc, ◌+◌, ◌-◌, ◌<◌, Bool, true, false, List, [], ◌∷◌, ◌++◌, length, take, drop, get_or, refl, sym, ◌∙◌, ap, subst, arith, length-append}
+use Rattle.std.proofs.lemmas.List.{append-nil, take_at}
+use Rattle.text_grammar.specs.Faults.{Begins, BreaksAt}
+use Rattle.text_grammar.specs.Numbers.{is_short}
+use Rattle.command_head.specs.Numbers.{is_number, number_of}
+use Rattle.command_head.specs.Parts.{first_word_of, first_in, parts_of, texts_of, number_place}
+use Rattle.command_head.specs.Breaks.{place_of, part_at, ExceedsAt, IsSyntaxAt, IsNumberAt}
+use Rattle.command_head.proofs.PartsRead.{IsRead, next_of}
+
+-- behind these parts some head goes on, and only with a part of this kind
+pub record Expects {H : Type 0} (grammar : List (List ℕ) → H → Type 0) (front : List (List ℕ)) (kind : List ℕ → Type 0) : Type 0 where
+  pub goes_on : Begins grammar front
+  pub only : (part : List ℕ) → Begins grammar (front ++ part ∷ []) → kind part
+
+-- a part that is of a kind with another number in the place of its own, which does not fit
+pub record IsLong (kind : List ℕ → Type 0) (part : List ℕ) : Type 0 where
+  pub number : is_number (drop (number_place part) part) ≡ true
+  pub long : is_short (number_of (drop (number_place part) part)) ≡ false
+  pub other : List ℕ
+  pub other_number : is_number other ≡ true
+  pub taken : kind (take (number_place part) part ++ other)
+
+take_more : (front tail : List (List ℕ)) (part : List ℕ) → take (length front + 1) (front ++ part ∷ tail) ≡ front ++ part ∷ []
+take_more [] tail part = refl
+take_more (first ∷ front) tail part = ap (λ (n : ℕ). take n ((first ∷ front) ++ part ∷ tail)) (let e : length (first ∷ front) + 1 ≡ suc (length front + 1) = omega arith in e) ∙ ap (λ (l : List (List ℕ)). first ∷ l) (take_more front tail part)
+
+part_behind : (front tail : List (List ℕ)) → part_at (front ++ tail) (length front) ≡ get_or tail 0 []
+part_behind [] tail = refl
+part_behind (first ∷ front) tail = part_behind front tail
+
+module _ {H : Type 0} (grammar : List (List ℕ) → H → Type 0) (front : List (List ℕ)) (kind : List ℕ → Type 0) (expects : Expects grammar front kind) where
+  no_more : (tail : List (List ℕ)) → (kind (get_or tail 0 []) → ⊥) → length front < length (front ++ tail) → Begins grammar (take (length front + 1) (front ++ tail)) → ⊥
+  no_more [] refused inside begins = let none = ap length (append-nil front) in absurd (omega arith)
+  no_more (part ∷ tail) refused inside begins = refused (expects.only part (subst (Begins grammar) (take_more front tail part) begins))
+
+  no_head : (tail : List (List ℕ)) → (tail ≡ [] → (head : H) → grammar front head → ⊥) → length front ≡ length (front ++ tail) → (head : H) → grammar (front ++ tail) head → ⊥
+  no_head [] unended at_end head spells = unended refl head (subst (λ (l : List (List ℕ)). grammar l head) (append-nil front) spells)
+  no_head (part ∷ tail) unended at_end head spells = let more = length-append front (part ∷ tail) in absurd (omega arith)
+
+  -- a part of another kind, or none, breaks the grammar
+  breaks_behind : (tail : List (List ℕ)) → (kind (get_or tail 0 []) → ⊥) → (tail ≡ [] → (head : H) → grammar front head → ⊥) → BreaksAt grammar (front ++ tail) (length front)
+  breaks_behind tail refused unended = record {
+    within = omega (arith, length-append front tail);
+    before = subst (Begins grammar) (sym (take_at front tail (length front) refl)) expects.goes_on;
+    there = no_more tail refused;
+    end = no_head tail unended;
+  }
+
+  no_number : (tail : List (List ℕ)) → (IsLong kind (get_or tail 0 []) → ⊥) → ExceedsAt grammar (front ++ tail) (length front) → ⊥
+  no_number tail form exceeds =
+      let part = part_at (front ++ tail) (length front) in
+      let other = take (number_place part) part ++ exceeds.other in
+      form (subst (IsLong kind) (part_behind front tail) record {
+        number = exceeds.number;
+        long = exceeds.long;
+        other = exceeds.other;
+        other_number = exceeds.other_number;
+        taken = expects.only other (subst (λ (l : List (List ℕ)). Begins grammar (l ++ other ∷ [])) (take_at front tail (length front) refl) exceeds.allowed);
+      })
+
+-- what a text has at the first of the parts that are left
+pub record IsLeftAt (text : List ℕ) (front : List (List ℕ)) (part : List ℕ) (at : ℕ) : Type 0 where
+  pub tail : List (List ℕ)
+  pub texts : texts_of (parts_of text) ≡ front ++ tail
+  pub first : get_or tail 0 [] ≡ part
+  pub place : place_of text (length front) ≡ at
+
+syntax_at : {H : Type 0} (grammar : List (List ℕ) → H → Type 0) (front : List (List ℕ)) (kind : List ℕ → Type 0) (text part : List ℕ) (at : ℕ) → Expects grammar front kind → (left : IsLeftAt text front part at) →
+    (left.tail ≡ [] → (head : H) → grammar front head → ⊥) → (kind part → ⊥) → (IsLong kind part → ⊥) → IsSyntaxAt grammar text at
+syntax_at grammar front kind text part at expects left unended refused form =
+    let refused' : kind (get_or left.tail 0 []) → ⊥ = λ k. refused (subst kind left.first k) in
+    let form' : IsLong kind (get_or left.tail 0 []) → ⊥ = λ l. form (subst (IsLong kind) left.first l) in
+    record {
+      first = record {
+        count = length front;
+        breaks = subst (λ (l : List (List ℕ)). BreaksAt grammar l (length front)) (sym left.texts) (breaks_behind grammar front kind expects left.tail refused' unended);
+        place = left.place;
+      };
+      form = λ exceeds. no_number grammar front kind expects left.tail form' (subst (λ (l : List (List ℕ)). ExceedsAt grammar l (length front)) left.texts exceeds);
+    }
+
+abbrev left_at : (text : List ℕ) (front : List (List ℕ)) (whole : ℕ) (blank : Bool) (rest part : List ℕ) (at : ℕ) → IsRead text front whole blank rest → at ≡ whole - length rest → part ≡ first_in blank rest → IsLeftAt text front part at
+left_at text front whole blank rest part at read at_is part_is =
+    let next = next_of text front whole blank rest read in
+    record { tail = next.tail; texts = next.texts; first = next.first ∙ sym part_is; place = next.place ∙ sym at_is }
+
+-- where no part is left, no byte is
+ended_there : {Y : Type 0} {tail : List (List ℕ)} (rest : List ℕ) → (rest ≢ [] → tail ≢ []) → tail ≡ [] → (rest ≡ [] → Y) → Y
+ended_there [] some none f = f refl
+ended_there (b ∷ bs) some none f = absurd (some (λ e. cc) none)
+
+-- a part of another kind, or none, where a part has to stand
+pub refused_syntax : {H : Type 0} (grammar : List (List ℕ) → H → Type 0) (front : List (List ℕ)) (kind : List ℕ → Type 0) (text : List ℕ) (whole : ℕ) (blank : Bool) (rest part : List ℕ) (at : ℕ) → Expects grammar front kind →
+    (rest ≡ [] → (head : H) → grammar front head → ⊥) → IsRead text front whole blank rest → at ≡ whole - length rest → part ≡ first_in blank rest → (kind part → ⊥) → (IsLong kind part → ⊥) → IsSyntaxAt grammar text at
+refused_syntax grammar front kind text whole blank rest part at expects unended read at_is part_is refused form =
+    syntax_at grammar front kind text part at expects (left_at text front whole blank rest part at read at_is part_is)
+    (λ e. ended_there rest (next_of text front whole blank rest read).some e unended) refused form
+
+-- a further part behind a head that cannot go on
+pub left_syntax : {H : Type 0} (grammar : List (List ℕ) → H → Type 0) (front : List (List ℕ)) (text : List ℕ) (whole : ℕ) (blank : Bool) (rest : List ℕ) → Expects grammar front (λ part. ⊥) →
+    IsRead text front whole blank rest → rest ≢ [] → IsSyntaxAt grammar text (whole - length rest)
+left_syntax grammar front text whole blank rest expects read some =
+    let next = next_of text front whole blank rest read in
+    syntax_at grammar front (λ part. ⊥) text (first_in blank rest) (whole - length rest) expects record { tail = next.tail; texts = next.texts; first = next.first; place = next.place }
+    (λ e. absurd (next.some some e)) (λ none. none) (λ long. long.taken)
+
+word_place : (text : List ℕ) → place_of text 0 ≡ 0
+unfolding parts_of
+word_place text = refl
+
+word_text : (text : List ℕ) → get_or (texts_of (parts_of text)) 0 [] ≡ first_word_of text
+unfolding parts_of
+word_text text = refl
+
+some_texts : (text : List ℕ) → texts_of (parts_of text) ≢ []
+unfolding parts_of
+some_texts text e = cc
+
+-- another first word
+pub word_syntax : {H : Type 0} (grammar : List (List ℕ) → H → Type 0) (kind : List ℕ → Type 0) (text : List ℕ) → Expects grammar [] kind → (kind (first_word_of text) → ⊥) → (IsLong kind (first_word_of text) → ⊥) → IsSyntaxAt grammar text 0
+word_syntax grammar kind text expects refused form =
+    syntax_at grammar [] kind text (first_word_of text) 0 expects record { tail = texts_of (parts_of text); texts = refl; first = word_text text; place = word_place text }
+    (λ e. absurd (some_texts text e)) refused form
+
+-- the empty part has no number
+no_bytes : (part : List ℕ) → part ≡ [] → is_number (drop (number_place part) part) ≡ true → ⊥
+unfolding number_place
+no_bytes [] e number = cc
+no_bytes (b ∷ bs) e number = cc
+
+-- a number that does not fit
+pub refused_number : {H : Type 0} (grammar : List (List ℕ) → H → Type 0) (front : List (List ℕ)) (kind : List ℕ → Type 0) (text : List ℕ) (whole : ℕ) (blank : Bool) (rest part : List ℕ) (begin at : ℕ) → Expects grammar front kind →
+    (rest ≡ [] → (head : H) → grammar front head → ⊥) → IsRead text front whole blank rest → begin ≡ whole - length rest → part ≡ first_in blank rest → (kind part → ⊥) →
+    (long : IsLong kind part) → Begins grammar (front ++ (take (number_place part) part ++ long.other) ∷ []) → begin + number_place part ≡ at → IsNumberAt grammar text at
+refused_number grammar front kind text whole blank rest part begin at expects unended read begin_is part_is refused long allowed place =
+    let next = next_of text front whole blank rest read in
+    let first : get_or next.tail 0 [] ≡ part = next.first ∙ sym part_is in
+    let there : part ≡ part_at (texts_of (parts_of text)) (length front) = sym (ap (λ (l : List (List ℕ)). part_at l (length front)) next.texts ∙ part_behind front next.tail ∙ first) in
+    let refused' : kind (get_or next.tail 0 []) → ⊥ = λ k. refused (subst kind first k) in
+    record {
+      begin = begin;
+      first = record {
+        count = length front;
+        breaks = subst (λ (l : List (List ℕ)). BreaksAt grammar l (length front)) (sym next.texts) (breaks_behind grammar front kind expects next.tail refused' (λ e. ended_there rest next.some e unended));
+        place = next.place ∙ sym begin_is;
+      };
+      exceeds = record {
+        within = inside next.tail (texts_of (parts_of text)) next.texts (λ e. no_bytes part (sym first ∙ ap (λ (l : List (List ℕ)). get_or l 0 []) e) long.number);
+        number = subst (λ (l : List ℕ). is_number (drop (number_place l) l) ≡ true) there long.number;
+        long = subst (λ (l : List ℕ). is_short (number_of (drop (number_place l) l)) ≡ false) there long.long;
+        other = long.other;
+        other_number = long.other_number;
+        allowed =
+            subst (λ (l : List ℕ). Begins grammar (take (length front) (texts_of (parts_of text)) ++ (take (number_place l) l ++ long.other) ∷ [])) there
+            (subst (λ (l : List (List ℕ)). Begins grammar (l ++ (take (number_place part) part ++ long.other) ∷ [])) (sym (ap (take (length front)) next.texts ∙ take_at front next.tail (length front) refl)) allowed);
+      };
+      place = ap (λ (l : List ℕ). begin + number_place l) (sym there) ∙ place;
+    }
+  where
+    inside : (tail texts : List (List ℕ)) → texts ≡ front ++ tail → tail ≢ [] → length front < length texts
+    inside [] texts e some = absurd (some refl)
+    inside (t ∷ ts) texts e some = let lengths = ap length e in omega (arith, length-append front (t ∷ ts))

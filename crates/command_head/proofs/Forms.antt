@@ -1,0 +1,131 @@
+-- Heads with a fixed number of parts, each of a kind.
+use Rattle.std.proofs.Common.{◌≡◌, ◌≢◌, ℕ, ◌-◌, Bool, true, false, List, [], ◌∷◌, ◌++◌, length, take, map, refl, sym, ◌∙◌, ap, codes, subst}
+use Rattle.std.proofs.lemmas.List.{append-nil}
+use Rattle.std.proofs.lemmas.Bool.{false≢true}
+use Rattle.command_head.specs.Parts.{first_word_of, first_in, number_place, is_name, is_word, is_quoted}
+use Rattle.command_head.specs.Grammar.{quoted}
+use Rattle.command_head.specs.Breaks.{IsSyntaxAt}
+use Rattle.command_head.proofs.PartShape.{word_name}
+use Rattle.command_head.proofs.ValuedParts.{numbered_name, numbered_quoted}
+use Rattle.command_head.proofs.PartsRead.{IsRead}
+use Rattle.command_head.proofs.Expecting.{Expects, IsLong, refused_syntax, left_syntax, word_syntax}
+
+pub data Kind : Type 0 where
+  -- this word
+  This : List ℕ → Kind
+  AName : Kind
+  AWord : Kind
+  -- a text in quotes
+  AText : Kind
+
+abbrev pub Takes : Kind → List ℕ → Type 0
+Takes (This bytes) part = part ≡ bytes
+Takes AName part = is_name part ≡ true
+Takes AWord part = is_word part ≡ true
+Takes AText part = is_quoted part ≡ true
+
+-- parts of these kinds
+abbrev pub Fit : List Kind → List (List ℕ) → Type 0
+Fit [] [] = Unit {0}
+Fit [] (part ∷ parts) = ⊥
+Fit (kind ∷ kinds) [] = ⊥
+Fit (kind ∷ kinds) (part ∷ parts) = Takes kind part × Fit kinds parts
+
+-- the heads of a grammar are just the parts of these kinds
+pub record IsForm {H : Type 0} (grammar : List (List ℕ) → H → Type 0) (kinds : List Kind) : Type 0 where
+  pub reads : (parts : List (List ℕ)) (head : H) → grammar parts head → Fit kinds parts
+  pub makes : (parts : List (List ℕ)) → Fit kinds parts → (head : H) × grammar parts head
+
+abbrev example : Kind → List ℕ
+example (This bytes) = bytes
+example AName = codes "a"
+example AWord = codes "a"
+example AText = quoted []
+
+example_fits : (kind : Kind) → Takes kind (example kind)
+example_fits (This bytes) = refl
+example_fits AName = refl
+example_fits AWord = refl
+example_fits AText = refl
+
+examples_fit : (kinds : List Kind) → Fit kinds (map example kinds)
+examples_fit [] = tt
+examples_fit (kind ∷ kinds) = (example_fits kind, examples_fit kinds)
+
+fit_append : (kinds more : List Kind) (front parts : List (List ℕ)) → Fit kinds front → Fit more parts → Fit (kinds ++ more) (front ++ parts)
+fit_append [] more [] parts fits others = others
+fit_append [] more (part ∷ front) parts fits others = absurd fits
+fit_append (kind ∷ kinds) more [] parts fits others = absurd fits
+fit_append (kind ∷ kinds) more (part ∷ front) parts fits others = (fits.0, fit_append kinds more front parts fits.1 others)
+
+fit_part : (kinds : List Kind) (kind : Kind) (more : List Kind) (front : List (List ℕ)) (part : List ℕ) (parts : List (List ℕ)) → Fit kinds front → Fit (kinds ++ kind ∷ more) ((front ++ part ∷ []) ++ parts) → Takes kind part
+fit_part [] kind more [] part parts fits all = all.0
+fit_part [] kind more (first ∷ front) part parts fits all = absurd fits
+fit_part (first_kind ∷ kinds) kind more [] part parts fits all = absurd fits
+fit_part (first_kind ∷ kinds) kind more (first ∷ front) part parts fits all = fit_part kinds kind more front part parts fits.1 all.1
+
+fit_end : (kinds : List Kind) (front : List (List ℕ)) (part : List ℕ) (parts : List (List ℕ)) → Fit kinds front → Fit kinds ((front ++ part ∷ []) ++ parts) → ⊥
+fit_end [] [] part parts fits all = all
+fit_end [] (first ∷ front) part parts fits all = fits
+fit_end (kind ∷ kinds) [] part parts fits all = fits
+fit_end (kind ∷ kinds) (first ∷ front) part parts fits all = fit_end kinds front part parts fits.1 all.1
+
+fit_unended : (kinds : List Kind) (kind : Kind) (more : List Kind) (front : List (List ℕ)) → Fit kinds front → Fit (kinds ++ kind ∷ more) front → ⊥
+fit_unended [] kind more [] fits all = all
+fit_unended [] kind more (first ∷ front) fits all = fits
+fit_unended (first_kind ∷ kinds) kind more [] fits all = fits
+fit_unended (first_kind ∷ kinds) kind more (first ∷ front) fits all = fit_unended kinds kind more front fits.1 all.1
+
+-- a kind that no part with a number is of
+abbrev pub Plain : Kind → Type 0
+Plain (This bytes) = is_name bytes ≡ true
+Plain AName = Unit {0}
+Plain AWord = Unit {0}
+Plain AText = Unit {0}
+
+plain_long : (kind : Kind) (part : List ℕ) → Plain kind → IsLong (Takes kind) part → ⊥
+plain_long (This bytes) part named long = numbered_name part long.other long.other_number (subst (λ (l : List ℕ). is_name l ≡ true) (sym long.taken) named)
+plain_long AName part plain long = numbered_name part long.other long.other_number long.taken
+plain_long AWord part plain long = numbered_name part long.other long.other_number (word_name (take (number_place part) part ++ long.other) long.taken)
+plain_long AText part plain long = numbered_quoted part long.other long.other_number long.taken
+
+module _ {H : Type 0} (grammar : List (List ℕ) → H → Type 0) (kinds : List Kind) (kind : Kind) (more : List Kind) (form : IsForm grammar (kinds ++ kind ∷ more)) (front : List (List ℕ)) (fits : Fit kinds front) where
+  form_expects : Expects grammar front (Takes kind)
+  form_expects =
+      let others = map example (kind ∷ more) in
+      let made = form.makes (front ++ others) (fit_append kinds (kind ∷ more) front others fits (examples_fit (kind ∷ more))) in
+      record {
+        goes_on = (others, made.0, made.1);
+        only = λ part begins. fit_part kinds kind more front part begins.0 fits (form.reads ((front ++ part ∷ []) ++ begins.0) begins.1 begins.2);
+      }
+
+  form_unended : (head : H) → grammar front head → ⊥
+  form_unended head spells = fit_unended kinds kind more front fits (form.reads front head spells)
+
+-- a test that fails, and one that the empty part fails
+pub refuted : (t : Bool) → t ≡ false → t ≡ true → ⊥
+refuted t fails holds = false≢true (sym fails ∙ holds)
+
+pub not_empty : (test : List ℕ → Bool) (part : List ℕ) → test [] ≡ false → test part ≡ true → part ≢ []
+not_empty test part fails holds e = false≢true (sym fails ∙ ap test (sym e) ∙ holds)
+
+-- the first word is another one
+pub form_word : {H : Type 0} (grammar : List (List ℕ) → H → Type 0) (word : List ℕ) (more : List Kind) (text : List ℕ) → IsForm grammar (This word ∷ more) → is_name word ≡ true → first_word_of text ≢ word → IsSyntaxAt grammar text 0
+form_word grammar word more text form named other =
+    word_syntax grammar (Takes (This word)) text (form_expects grammar [] (This word) more form [] tt) other (plain_long (This word) (first_word_of text) named)
+
+-- a part of another kind, or none
+pub form_part : {H : Type 0} (grammar : List (List ℕ) → H → Type 0) (kinds : List Kind) (kind : Kind) (more : List Kind) (text : List ℕ) (front : List (List ℕ)) (whole : ℕ) (blank : Bool) (rest part : List ℕ) (at : ℕ) →
+    IsForm grammar (kinds ++ kind ∷ more) → Plain kind → Fit kinds front → IsRead text front whole blank rest → at ≡ whole - length rest → part ≡ first_in blank rest → (Takes kind part → ⊥) → IsSyntaxAt grammar text at
+form_part grammar kinds kind more text front whole blank rest part at form plain fits read at_is part_is refused =
+    refused_syntax grammar front (Takes kind) text whole blank rest part at (form_expects grammar kinds kind more form front fits) (λ none. form_unended grammar kinds kind more form front fits) read at_is part_is refused (plain_long kind part plain)
+
+-- a part too many
+pub form_end : {H : Type 0} (grammar : List (List ℕ) → H → Type 0) (kinds : List Kind) (text : List ℕ) (front : List (List ℕ)) (whole : ℕ) (blank : Bool) (rest : List ℕ) → IsForm grammar kinds → Fit kinds front →
+    IsRead text front whole blank rest → rest ≢ [] → IsSyntaxAt grammar text (whole - length rest)
+form_end grammar kinds text front whole blank rest form fits read some =
+    let made = form.makes front fits in
+    left_syntax grammar front text whole blank rest record {
+      goes_on = ([], made.0, subst (λ (l : List (List ℕ)). grammar l made.0) (sym (append-nil front)) made.1);
+      only = λ part begins. fit_end kinds front part begins.0 fits (form.reads ((front ++ part ∷ []) ++ begins.0) begins.1 begins.2);
+    } read some

@@ -1,0 +1,88 @@
+-- The parts of a `promote`, an `image` and a `combine` are those of some text.
+use Rattle.std.proofs.Common.{◌≡◌, ℕ, suc, ◌+◌, Bool, true, false, not, cond, ◌==◌, ◌&&◌, List, [], ◌∷◌, ◌++◌, ℤ, length, Option, None, Some, refl, sym, ◌∙◌, ap, subst, arith, codes, length-append}
+use Rattle.std.specs.List.{AllByRecursion}
+use Rattle.std.proofs.lemmas.List.{append-nil, append_assoc}
+use Rattle.std.proofs.lemmas.Bool.{and_parts, false≢true}
+use Rattle.text_grammar.specs.declared.class.Class.TheVariants.{Digit, NameByte}
+use Rattle.text_grammar.specs.Bytes.{is_letter}
+use Rattle.text_grammar.specs.Fronts.{front_len}
+use Rattle.command_head.specs.Numbers.{unsigned, all_in, is_number}
+use Rattle.command_head.specs.Parts.{begins_with_digit, number_len, ending_len, part_len, parts_of, texts_of, is_name}
+use Rattle.command_head.specs.Heads.{ValuedName, PromoteHead, ImageHead, CombineHead}
+use Rattle.command_head.specs.Grammar.{SpellsValue, SpellsValued, SpellEach, SpellsPromote, SpellsImage, SpellsCombine}
+use Rattle.command_head.proofs.FrontSteps.{front_len-append, behind_front-append}
+use Rattle.command_head.proofs.PartShape.{all_in-all, name_bytes, word_name}
+use Rattle.command_head.proofs.JoinedParts.{Stands, stands_name, letter_solid, letter_len, text_of, word_bytes, word_first}
+
+-- digits before a blank
+digits_front : (digits rest : List ℕ) → (not (length digits == 0) && all_in Digit digits) ≡ true → (begins_with_digit (digits ++ 32 ∷ rest) ≡ true) × (front_len Digit (digits ++ 32 ∷ rest) ≡ length digits)
+digits_front [] rest h = absurd (false≢true h)
+digits_front (d ∷ ds) rest h =
+    let all = all_in-all Digit (d ∷ ds) (and_parts (not (length (d ∷ ds) == 0)) (all_in Digit (d ∷ ds)) h).1 in
+    (all.0, front_len-append Digit (d ∷ ds) (32 ∷ rest) all refl)
+
+-- and a sign before them
+signed_front : (sign : Bool) (b : ℕ) (bs rest : List ℕ) → (not (length (cond sign bs (b ∷ bs)) == 0) && all_in Digit (cond sign bs (b ∷ bs))) ≡ true →
+    (begins_with_digit (cond sign (bs ++ 32 ∷ rest) (b ∷ (bs ++ 32 ∷ rest))) ≡ true) × ((cond sign 1 0) + front_len Digit (cond sign (bs ++ 32 ∷ rest) (b ∷ (bs ++ 32 ∷ rest))) ≡ length (b ∷ bs))
+signed_front true b bs rest h = let d = digits_front bs rest h in let len = d.1 in (d.0, omega arith)
+signed_front false b bs rest h = let d = digits_front (b ∷ bs) rest h in let len = d.1 in (d.0, omega arith)
+
+number_front : (number rest : List ℕ) → is_number number ≡ true → (begins_with_digit (unsigned (number ++ 32 ∷ rest)) ≡ true) × (number_len (number ++ 32 ∷ rest) ≡ length number)
+number_front [] rest h = absurd (false≢true h)
+number_front (b ∷ bs) rest h = signed_front (b == 45) b bs rest h
+
+value_len : (number rest : List ℕ) → is_number number ≡ true → ending_len (61 ∷ (number ++ 32 ∷ rest)) ≡ suc (length number)
+value_len number rest h = let front = number_front number rest h in rw (front.0, front.1) (omega arith)
+
+valued_len : (b : ℕ) (bs number rest : List ℕ) → is_name (b ∷ bs) ≡ true → is_number number ≡ true → part_len (((b ∷ bs) ++ 61 ∷ number) ++ 32 ∷ rest) ≡ length ((b ∷ bs) ++ 61 ∷ number)
+valued_len b bs number rest named digits =
+    let bytes = name_bytes (b ∷ bs) named in
+    let letter = (and_parts (is_letter b) _ named).0 in
+    let behind = 61 ∷ (number ++ 32 ∷ rest) in
+    let front = front_len-append NameByte (b ∷ bs) behind bytes refl in
+    let value = value_len number rest digits in
+    let all = length-append (b ∷ bs) (61 ∷ number) in
+    ap part_len (append_assoc (b ∷ bs) (61 ∷ number) (32 ∷ rest))
+    ∙ letter_len b (bs ++ behind) letter
+    ∙ ap (λ (l : List ℕ). front_len NameByte ((b ∷ bs) ++ behind) + ending_len l) (behind_front-append NameByte (b ∷ bs) behind bytes refl)
+    ∙ (let sum : front_len NameByte ((b ∷ bs) ++ behind) + ending_len behind ≡ length ((b ∷ bs) ++ 61 ∷ number) = omega arith in sum)
+
+-- a name with a number
+stands_number_behind : (name number : List ℕ) → is_name name ≡ true → is_number number ≡ true → Stands (name ++ 61 ∷ number)
+stands_number_behind [] number named digits = absurd (false≢true named)
+stands_number_behind (b ∷ bs) number named digits = record {
+  first = b;
+  others = bs ++ 61 ∷ number;
+  is = refl;
+  solid = letter_solid b (and_parts (is_letter b) _ named).0;
+  len = λ rest. valued_len b bs number rest named digits;
+}
+
+-- a name, alone or with a value
+stands_valued : (part : List ℕ) (valued : ValuedName) → SpellsValued part valued → Stands part
+stands_valued part valued s = by_value valued.value s.value
+  where
+    by_value : (value : Option ℤ) → SpellsValue s.behind value → Stands part
+    by_value None e = subst Stands (sym (s.part_is ∙ ap (λ (l : List ℕ). valued.name ++ l) e ∙ append-nil valued.name)) (stands_name valued.name s.name)
+    by_value (Some n) v = subst Stands (sym (s.part_is ∙ ap (λ (l : List ℕ). valued.name ++ l) v.1)) (stands_number_behind valued.name v.0 s.name v.2.number)
+
+stand_each : (parts : List (List ℕ)) (automata : List ValuedName) → SpellEach parts automata → AllByRecursion Stands parts
+stand_each [] automata each = tt
+stand_each (part ∷ parts) [] each = absurd each
+stand_each (part ∷ parts) (valued ∷ automata) each = (stands_valued part valued each.0, stand_each parts automata each.1)
+
+pub promote_text : (parts : List (List ℕ)) (head : PromoteHead) → SpellsPromote parts head → (text : List ℕ) × (texts_of (parts_of text) ≡ parts)
+promote_text parts head s =
+    let others = head.word ∷ head.morphism ∷ [] in
+    (text_of (codes "promote") others, word_first (codes "promote") others (word_bytes (codes "promote") refl) (stands_name head.word (word_name head.word s.word), (stands_name head.morphism s.morphism, tt)) ∙ sym s.parts_are)
+
+pub image_text : (parts : List (List ℕ)) (head : ImageHead) → SpellsImage parts head → (text : List ℕ) × (texts_of (parts_of text) ≡ parts)
+image_text parts head s =
+    let others = head.word ∷ head.morphism ∷ head.old ∷ [] in
+    let all : AllByRecursion Stands others = (stands_name head.word (word_name head.word s.word), (stands_name head.morphism s.morphism, (stands_name head.old (word_name head.old s.old), tt))) in
+    (text_of (codes "image") others, word_first (codes "image") others (word_bytes (codes "image") refl) all ∙ sym s.parts_are)
+
+pub combine_text : (parts : List (List ℕ)) (head : CombineHead) → SpellsCombine parts head → (text : List ℕ) × (texts_of (parts_of text) ≡ parts)
+combine_text parts head s =
+    let others = head.word ∷ s.automata in
+    (text_of (codes "combine") others, word_first (codes "combine") others (word_bytes (codes "combine") refl) (stands_name head.word (word_name head.word s.word), stand_each s.automata head.automata s.each) ∙ sym s.parts_are)

@@ -1,0 +1,135 @@
+-- Parts that end with a number: a number alone, or one behind a name and `=`.
+use Rattle.std.proofs.Common.{◌≡◌, ℕ, ◌+◌, Bool, true, false, cond, ◌&&◌, List, [], ◌∷◌, ◌++◌, length, take, drop, refl, sym, ◌∙◌, ap, subst, arith, ◌⊎◌, inl, inr, ⊎_elim, length-append}
+use Rattle.std.specs.List.{AllByRecursion}
+use Rattle.std.proofs.lemmas.List.{take_at, drop_at, append_assoc}
+use Rattle.std.proofs.lemmas.Bool.{and_parts, eqb-true, false≢true}
+use Rattle.text_grammar.specs.declared.class.Class.TheVariants.{NameByte}
+use Rattle.text_grammar.specs.Fronts.{is_in, front_len, front_of, behind_front}
+use Rattle.text_grammar.specs.Numbers.{begins_with}
+use Rattle.command_head.specs.Numbers.{is_number}
+use Rattle.command_head.specs.Parts.{begins_with_letter, is_name, is_system, is_quoted, number_place}
+use Rattle.command_head.proofs.FrontSteps.{front_split, front_of-all, begins_with-split, front_len-append, behind_front-append}
+use Rattle.command_head.proofs.PartShape.{letter-high, name_bytes, system_bytes}
+use Rattle.command_head.proofs.Completions.{number_first, name_first, quoted_first}
+
+-- bytes of names that begin with a letter, `=`, and more
+pub record IsBehindName (part : List ℕ) : Type 0 where
+  pub name : List ℕ
+  pub behind : List ℕ
+  pub part_is : part ≡ name ++ 61 ∷ behind
+  pub letter : begins_with_letter name ≡ true
+  pub bytes : AllByRecursion (λ b. is_in NameByte b ≡ true) name
+  pub place : number_place part ≡ length name + 1
+
+letter_front : (bytes : List ℕ) → begins_with_letter bytes ≡ true → begins_with_letter (front_of NameByte bytes) ≡ true
+letter_front [] h = absurd (false≢true h)
+letter_front (b ∷ bs) h = rw h h
+
+length-front_of : (part : List ℕ) (behind : List ℕ) → part ≡ front_of NameByte part ++ 61 ∷ behind → front_len NameByte part ≡ length (front_of NameByte part)
+length-front_of part behind e =
+    ap (front_len NameByte) e ∙ front_len-append NameByte (front_of NameByte part) (61 ∷ behind) (front_of-all NameByte part) refl
+
+place_is : (t : Bool) (n : ℕ) → t ≡ true → cond t (n + 1) 0 ≡ n + 1
+place_is t n e = rw e refl
+
+-- a number begins a part, or stands behind a name
+pub number_split : (part : List ℕ) → (number_place part ≡ 0) ⊎ IsBehindName part
+unfolding number_place
+number_split part = by_test (begins_with_letter part && begins_with 61 (behind_front NameByte part)) refl
+  where
+    by_test : (t : Bool) → (begins_with_letter part && begins_with 61 (behind_front NameByte part)) ≡ t → (number_place part ≡ 0) ⊎ IsBehindName part
+    by_test false e = inl (rw e refl)
+    by_test true e =
+        let p = and_parts (begins_with_letter part) (begins_with 61 (behind_front NameByte part)) e in
+        let part_is : part ≡ front_of NameByte part ++ 61 ∷ drop 1 (behind_front NameByte part) = sym (front_split NameByte part) ∙ ap (λ (l : List ℕ). front_of NameByte part ++ l) (begins_with-split 61 (behind_front NameByte part) p.1) in
+        inr record {
+          name = front_of NameByte part;
+          behind = drop 1 (behind_front NameByte part);
+          part_is = part_is;
+          letter = letter_front part p.0;
+          bytes = front_of-all NameByte part;
+          place = place_is (begins_with_letter part && begins_with 61 (behind_front NameByte part)) (front_len NameByte part) e ∙ ap (λ (n : ℕ). n + 1) (length-front_of part (drop 1 (behind_front NameByte part)) part_is);
+        }
+
+-- what stands before the number, and behind
+pub front_is : (part : List ℕ) (split : IsBehindName part) → take (number_place part) part ≡ split.name ++ 61 ∷ []
+front_is part split =
+    ap (λ (n : ℕ). take n part) split.place
+    ∙ ap (take (length split.name + 1)) (split.part_is ∙ sym (append_assoc split.name (61 ∷ []) split.behind))
+    ∙ take_at (split.name ++ 61 ∷ []) split.behind (length split.name + 1) (length-append split.name (61 ∷ []))
+
+pub back_is : (part : List ℕ) (split : IsBehindName part) → drop (number_place part) part ≡ split.behind
+back_is part split =
+    ap (λ (n : ℕ). drop n part) split.place
+    ∙ ap (drop (length split.name + 1)) (split.part_is ∙ sym (append_assoc split.name (61 ∷ []) split.behind))
+    ∙ drop_at (split.name ++ 61 ∷ []) split.behind (length split.name + 1) (length-append split.name (61 ∷ []))
+
+-- Such a part with another number in the place of its own: a number, or one behind a name.
+pub record IsValued (part : List ℕ) : Type 0 where
+  pub letter : begins_with_letter part ≡ true
+  pub other_byte : AllByRecursion (λ b. is_in NameByte b ≡ true) part → ⊥
+
+all_middle : (xs ys : List ℕ) → AllByRecursion (λ b. is_in NameByte b ≡ true) (xs ++ 61 ∷ ys) → ⊥
+all_middle [] ys all = false≢true all.0
+all_middle (x ∷ xs) ys all = all_middle xs ys all.1
+
+pub letter_append : (xs ys : List ℕ) → begins_with_letter xs ≡ true → begins_with_letter (xs ++ ys) ≡ true
+letter_append [] ys h = absurd (false≢true h)
+letter_append (x ∷ xs) ys h = h
+
+pub valued_split : (part other : List ℕ) → IsBehindName part → IsValued (take (number_place part) part ++ other)
+valued_split part other s =
+    let whole : take (number_place part) part ++ other ≡ s.name ++ 61 ∷ other = ap (λ (l : List ℕ). l ++ other) (front_is part s) ∙ append_assoc s.name (61 ∷ []) other in
+    subst IsValued (sym whole) record { letter = letter_append s.name (61 ∷ other) s.letter; other_byte = all_middle s.name other }
+
+pub numbered : (part other : List ℕ) → is_number other ≡ true → (is_number (take (number_place part) part ++ other) ≡ true) ⊎ IsValued (take (number_place part) part ++ other)
+numbered part other number = ⊎_elim (λ e. inl (subst (λ (n : ℕ). is_number (take n part ++ other) ≡ true) (sym e) number)) (λ s. inr (valued_split part other s)) (number_split part)
+
+-- a part with a value is no name, no system, no number and no text in quotes
+pub valued_name : (part : List ℕ) → IsValued part → is_name part ≡ true → ⊥
+valued_name part v h = v.other_byte (name_bytes part h)
+
+pub valued_system : (part : List ℕ) → IsValued part → is_system part ≡ true → ⊥
+valued_system part v h = v.other_byte (system_bytes part h)
+
+pub letter_number : (part : List ℕ) → begins_with_letter part ≡ true → is_number part ≡ true → ⊥
+letter_number [] h number = false≢true h
+letter_number (b ∷ bs) h number = let high = letter-high b h in let low = (number_first (b ∷ bs) number).1 in omega arith
+
+pub letter_quoted : (part : List ℕ) → begins_with_letter part ≡ true → is_quoted part ≡ true → ⊥
+letter_quoted [] h q = false≢true h
+letter_quoted (b ∷ bs) h q =
+    let high = letter-high b h in
+    let quote = eqb-true b 34 (and_parts _ _ q).0 in omega arith
+
+-- a number is no name and no text in quotes
+pub number_name : (part : List ℕ) → is_number part ≡ true → is_name part ≡ true → ⊥
+number_name part number named = name_first part named (number_first part number)
+
+pub number_quoted : (part : List ℕ) → is_number part ≡ true → is_quoted part ≡ true → ⊥
+number_quoted part number q = quoted_first part q (number_first part number)
+
+-- a part with another number in the place of its own is no name and no text in quotes
+pub numbered_name : (part other : List ℕ) → is_number other ≡ true → is_name (take (number_place part) part ++ other) ≡ true → ⊥
+numbered_name part other number named = ⊎_elim (λ n. number_name (take (number_place part) part ++ other) n named) (λ v. valued_name (take (number_place part) part ++ other) v named) (numbered part other number)
+
+pub numbered_quoted : (part other : List ℕ) → is_number other ≡ true → is_quoted (take (number_place part) part ++ other) ≡ true → ⊥
+numbered_quoted part other number q = ⊎_elim (λ n. number_quoted (take (number_place part) part ++ other) n q) (λ v. letter_quoted (take (number_place part) part ++ other) v.letter q) (numbered part other number)
+
+-- the number of a part that is one begins at its first byte
+pub number_place-number : (part : List ℕ) → is_number part ≡ true → number_place part ≡ 0
+number_place-number part number =
+    ⊎_elim (λ e. e) (λ s. absurd (letter_number part (subst (λ (l : List ℕ). begins_with_letter l ≡ true) (sym s.part_is) (letter_append s.name (61 ∷ s.behind) s.letter)) number)) (number_split part)
+
+-- and that of a name with a value, behind the `=`
+pub number_place-valued : (name behind : List ℕ) → is_name name ≡ true → number_place (name ++ 61 ∷ behind) ≡ length name + 1
+unfolding number_place
+number_place-valued name behind named =
+    let bytes = name_bytes name named in
+    let letter = letter_append name (61 ∷ behind) (and_parts _ _ named).0 in
+    let len = front_len-append NameByte name (61 ∷ behind) bytes refl in
+    let back = behind_front-append NameByte name (61 ∷ behind) bytes refl in
+    taken (begins_with_letter (name ++ 61 ∷ behind)) (begins_with 61 (behind_front NameByte (name ++ 61 ∷ behind))) (front_len NameByte (name ++ 61 ∷ behind)) letter (ap (begins_with 61) back) len
+  where
+    taken : (a b : Bool) (n : ℕ) → a ≡ true → b ≡ true → n ≡ length name → cond (a && b) (n + 1) 0 ≡ length name + 1
+    taken a b n e g h = rw (e, g, h) refl

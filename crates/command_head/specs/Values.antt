@@ -1,0 +1,44 @@
+-- The values of automata in a list.
+use Rattle.std.specs.Prelude.{◌≡◌, ℕ, suc, ◌+◌, true, false, List, [], ◌∷◌, ◌++◌, length, ℤ, pos, Option, None, Some, ◌⊎◌, ⊤}
+use Rattle.text_grammar.specs.Numbers.{is_short}
+use Rattle.command_head.specs.declared.fault.HeadFault.{HeadFault}
+use Rattle.command_head.specs.declared.fault.HeadFault.TheVariants.{Syntax, Number, Memory}
+use Rattle.command_head.specs.Numbers.{is_number, number_of}
+use Rattle.command_head.specs.Parts.{is_name}
+use Rattle.command_head.specs.Heads.{ValuedName}
+
+-- the value of an automaton at a place, counted from 0: the one that is given, or its place counted from 1
+abbrev pub value_at : ℕ → Option ℤ → ℤ
+value_at place (Some n) = n
+value_at place None = pos (suc place)
+
+-- the values of automata in their order, the first at this place
+abbrev pub values_from : ℕ → List ValuedName → List ℤ
+values_from place [] = []
+values_from place (valued ∷ more) = value_at place valued.value ∷ values_from (suc place) more
+
+-- what may stand behind a name in its part, whether the number fits or not
+abbrev pub IsValueText : List ℕ → Type 0
+IsValueText behind = (behind ≡ []) ⊎ ((number : List ℕ) × (behind ≡ 61 ∷ number) × (is_number number ≡ true))
+
+-- `=` and a number that does not fit 32 bits, signed
+pub record IsLongValue (behind : List ℕ) : Type 0 where
+  pub number : List ℕ
+  pub behind_is : behind ≡ 61 ∷ number
+  pub digits : is_number number ≡ true
+  pub long : is_short (number_of number) ≡ false
+
+-- a name, and directly behind it a number that does not fit, which begins at this byte of the part
+pub record IsLongValued (part : List ℕ) (at : ℕ) : Type 0 where
+  pub name : List ℕ
+  pub behind : List ℕ
+  pub part_is : part ≡ name ++ behind
+  pub is_named : is_name name ≡ true
+  pub value : IsLongValue behind
+  pub place : length name + 1 ≡ at
+
+-- Why a part at this byte is no name with or without a value: it has another form, or its number does not fit.
+abbrev pub RefusesValued : List ℕ → ℕ → HeadFault → Type 0
+RefusesValued part at (Syntax byte) = (byte ≡ at) × ((name : List ℕ) (behind : List ℕ) → part ≡ name ++ behind → is_name name ≡ true → IsValueText behind → ⊥)
+RefusesValued part at (Number byte) = (place : ℕ) × IsLongValued part place × (byte ≡ at + place)
+RefusesValued part at Memory = ⊤
