@@ -3,12 +3,12 @@ use Rattle.std.proofs.Common.{◌↔◌, ℕ, ℤ, Bool, true, false, List, [], 
 use Rattle.std.specs.List.{fold}
 use Rattle.std.specs.Option.{option_map}
 use Rattle.wal_outside.specs.declared.folder.Folder.{Folder}
-use Rattle.wal_outside.specs.declared.folder.Folder.TheVariants.{Automata, Words, Bases}
+use Rattle.wal_outside.specs.declared.folder.Folder.TheVariants.{Automata, Words}
 use Rattle.wal_outside.specs.Files.{Files, same_file}
 use Rattle.formula_resolve.specs.declared.file.File as formula_file
 use Rattle.formula_resolve.specs.declared.file.File.TheVariants.{Automaton, Word}
-use Rattle.definitions.specs.Trees.{Tree, File, Bindings, unbound, bound, Entry, Bytes, Defined, Ledger, ledger_of, tree_of, with_entry, with_file}
-use Rattle.definitions.specs.Named.{Custom}
+use Rattle.definitions.specs.Trees.{Tree, File, Bindings, unbound, bound, Entry, Bytes, Defined, Ledger, ledger_of, tree_of, custom_of, with_entry, with_file}
+use Rattle.system_files.specs.SystemFiles.{Custom}
 use Rattle.definitions.specs.Files.{FileHolds}
 use Rattle.definitions.specs.WordFiles.{FileLetter}
 use Rattle.definitions.specs.TreeMeanings.{tree_holds, bound_holds, tree_letter, bound_letter, chosen}
@@ -69,11 +69,11 @@ module _ (custom : Custom) (bindings others : Bindings) (same : BindTheSame cust
 
 module _ (ledger : Ledger) (files : Files) (stores : Stores ledger files) where
   -- the file of a formula
-  file_same : (file : formula_file.File) (bindings others : Bindings) → BindTheSame (ledger Bases) bindings others → BindTheSame (ledger Bases) (with_file ledger bindings file) (with_file (ledger_of files) others file)
-  file_same (Automaton name) bindings others same = automaton_same (ledger Bases) bindings others same name (ledger Automata name) (files Automata name) (stores Automata name)
-  file_same (Word name) bindings others same = word_same (ledger Bases) bindings others same name (ledger Words name) (files Words name) (stores Words name)
+  file_same : (file : formula_file.File) (bindings others : Bindings) → BindTheSame (custom_of ledger) bindings others → BindTheSame (custom_of ledger) (with_file ledger bindings file) (with_file (ledger_of files) others file)
+  file_same (Automaton name) bindings others same = automaton_same (custom_of ledger) bindings others same name (ledger Automata name) (files Automata name) (stores Automata name)
+  file_same (Word name) bindings others same = word_same (custom_of ledger) bindings others same name (ledger Words name) (files Words name) (stores Words name)
 
-  files_same : (named : List formula_file.File) (bindings others : Bindings) → BindTheSame (ledger Bases) bindings others → BindTheSame (ledger Bases) (fold (with_file ledger) bindings named) (fold (with_file (ledger_of files)) others named)
+  files_same : (named : List formula_file.File) (bindings others : Bindings) → BindTheSame (custom_of ledger) bindings others → BindTheSame (custom_of ledger) (fold (with_file ledger) bindings named) (fold (with_file (ledger_of files)) others named)
   files_same [] bindings others same = same
   files_same (file ∷ named) bindings others same = files_same named (with_file ledger bindings file) (with_file (ledger_of files) others file) (file_same file bindings others same)
 
@@ -81,4 +81,4 @@ nothing_bound : (custom : Custom) → BindTheSame custom unbound unbound
 nothing_bound custom = record { holds = λ folder name ns. (λ h. h, λ h. h); letters = λ name ns letter. (λ h. h, λ h. h) }
 
 pub files_bind : FilesBindAsTheirLedger
-files_bind ledger files stores named = files_same ledger files stores named unbound unbound (nothing_bound (ledger Bases))
+files_bind ledger files stores named = files_same ledger files stores named unbound unbound (nothing_bound (custom_of ledger))

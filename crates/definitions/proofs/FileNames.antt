@@ -1,5 +1,5 @@
 -- Systems that names mean are tracks that a file may have.
-use Rattle.std.proofs.Common.{◌≡◌, ℕ, ◌+◌, ◌<◌, ◌≤◌, ◌^◌, ◌%◌, Bool, true, ◌&&◌, List, [], ◌∷◌, ◌++◌, length, refl, sym, ap, ◌∙◌, subst, arith, tests, decimal}
+use Rattle.std.proofs.Common.{◌≡◌, ℕ, ◌+◌, ◌<◌, ◌≤◌, ◌^◌, ◌%◌, Bool, true, ◌&&◌, List, [], ◌∷◌, ◌++◌, length, slice_index, eqb, inl, inr, refl, sym, ap, ◌∙◌, subst, arith, tests, decimal}
 use Rattle.std.specs.List.{AllByRecursion, list_all}
 use Rattle.std.proofs.lemmas.Bool.{and_parts, le-leb}
 use Rattle.std.proofs.lemmas.Nat.{mod_below}
@@ -11,13 +11,17 @@ use Rattle.digit_tuple.specs.declared.direction.Direction.TheVariants.{Msd, Lsd}
 use Rattle.system_names.specs.declared.system_kind.SystemKind.{SystemKind}
 use Rattle.system_names.specs.declared.system_kind.SystemKind.TheVariants.{Base, Fibonacci}
 use Rattle.system_names.specs.Names.{IsSystemKind, digit_count, kind_part, system_name}
+use Rattle.system_names.specs.UserNames.{is_alphanumeric, user_name}
 use Rattle.numeration.specs.Systems.{System}
-use Rattle.dfa_reading.specs.Systems.{is_alphanumeric, is_system, directs_as}
+use Rattle.dfa_reading.specs.Systems.{is_system, directs_as}
 use Rattle.dfa_reading.proofs.SystemNames.{digit_limit-built}
+use Rattle.dfa_reading.proofs.UserSystems.{users_name_passes, users_digit_limit}
 use Rattle.dfa_text.specs.Lists as lists
 use Rattle.dfa_text.specs.Lists.{IsSystemTrack, AreTrackSystems}
 use Rattle.definitions.specs.Tracks.{NamedSystem, names_of, track_of, header_tracks}
-use Rattle.definitions.specs.Named.{Custom, built_in_system, IsSystemNamed, AreNamed}
+use Rattle.system_files.specs.SystemFiles.{Custom}
+use Rattle.definitions.specs.Named.{built_in_system, IsSystemNamed, AreNamed}
+use Rattle.definitions.proofs.UserDigits.{user_digits}
 
 -- a test of all bytes of a text that is put together
 all-append : (test : ℕ → Bool) (xs ys : List ℕ) → list_all test xs ≡ true → list_all test ys ≡ true → list_all test (xs ++ ys) ≡ true
@@ -68,27 +72,57 @@ kind_digits : (kind : SystemKind) → IsSystemKind kind → IsDigitCount (digit_
 kind_digits (Base k) is = record { some = omega (arith, is.least); small = omega (arith, is.most) }
 kind_digits Fibonacci is = record { some = omega arith; small = omega arith }
 
--- a system that a name means is a track of a file
+-- a system that a name means has as many digits as a file's track may have
+pub named_digits : (custom : Custom) (name : List ℕ) (way : Direction) (s : System) → IsSystemNamed custom name way s → IsDigitCount s.digits
+named_digits custom name way s (inl (kind, built, is)) =
+    let digits : s.digits ≡ digit_count kind = ap (λ (r : System). r.digits) is ∙ digits_by_kind kind in
+    subst IsDigitCount (sym digits) (kind_digits kind built.0)
+named_digits custom name way s (inr user) = user_digits custom name way s user
+
+-- and is such a track
 named_track : (custom : Custom) (way : Direction) (s : NamedSystem) → IsSystemNamed custom s.name way s.system → IsSystemTrack (track_of s)
-named_track custom way s (kind, built, is) =
+named_track custom way s (inl (kind, built, is)) =
     let digits : s.system.digits ≡ digit_count kind = ap (λ (r : System). r.digits) is ∙ digits_by_kind kind in
     record {
       name = ap is_system built.1 ∙ name_stands way kind built.0;
-      count = subst IsDigitCount (sym digits) (kind_digits kind built.0);
+      count = named_digits custom s.name way s.system (inl (kind, built, is));
       within = omega (arith, digits, digit_limit-built way kind s.name built);
+    }
+named_track custom way s (inr user) =
+    let count : IsDigitCount s.system.digits = named_digits custom s.name way s.system (inr user) in
+    record {
+      name = users_name_passes s.name (way, user.part, user.is_name);
+      count = count;
+      within = omega (arith, count.small, users_digit_limit s.name (way, user.part, user.is_name));
     }
 
 named_tracks : (custom : Custom) (way : Direction) (named : List NamedSystem) → AreNamed custom way named → AllByRecursion IsSystemTrack (header_tracks named)
 named_tracks custom way [] are = tt
 named_tracks custom way (s ∷ named) are = (named_track custom way s are.0, named_tracks custom way named are.1)
 
--- names of one direction begin with one byte
-one_front : (way : Direction) (kind another : SystemKind) → directs_as (system_name way kind) (system_name way another) ≡ true
-one_front Msd kind another = refl
-one_front Lsd kind another = refl
+-- the first byte of a name tells the direction
+abbrev pub first_byte : Direction → ℕ
+first_byte Msd = 109
+first_byte Lsd = 108
+
+built_in_front : (way : Direction) (kind : SystemKind) → slice_index (system_name way kind) 0 ≡ first_byte way
+built_in_front Msd kind = refl
+built_in_front Lsd kind = refl
+
+user_front : (way : Direction) (part : List ℕ) → slice_index (user_name way part) 0 ≡ first_byte way
+user_front Msd part = refl
+user_front Lsd part = refl
+
+pub named_front : (custom : Custom) (name : List ℕ) (way : Direction) (s : System) → IsSystemNamed custom name way s → slice_index name 0 ≡ first_byte way
+named_front custom name way s (inl (kind, built, is)) = ap (λ (n : List ℕ). slice_index n 0) built.1 ∙ built_in_front way kind
+named_front custom name way s (inr user) = ap (λ (n : List ℕ). slice_index n 0) user.is_name.1 ∙ user_front way user.part
+
+one_front : (way : Direction) → eqb (first_byte way) (first_byte way) ≡ true
+one_front Msd = refl
+one_front Lsd = refl
 
 names_direct : (custom : Custom) (way : Direction) (s r : NamedSystem) → IsSystemNamed custom s.name way s.system → IsSystemNamed custom r.name way r.system → directs_as s.name r.name ≡ true
-names_direct custom way s r (kind, built, is) (another, built', is') = (λ i. directs_as (built.1 i) (built'.1 i)) ∙ one_front way kind another
+names_direct custom way s r one two = (λ i. eqb (named_front custom r.name way r.system two i) (named_front custom s.name way s.system one i)) ∙ one_front way
 
 all_direct : (custom : Custom) (way : Direction) (s : NamedSystem) (named : List NamedSystem) → IsSystemNamed custom s.name way s.system → AreNamed custom way named → list_all (directs_as s.name) (lists.names_of (header_tracks named)) ≡ true
 all_direct custom way s [] is are = refl

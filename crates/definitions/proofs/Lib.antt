@@ -1,3 +1,4 @@
+pub mod UserDigits
 pub mod NameLemmas
 pub mod FileNames
 pub mod RegexTexts
@@ -7,6 +8,7 @@ pub mod AssignedLemmas
 pub mod SameMeanings
 pub mod WordTexts
 pub mod FileBindings
+pub mod CustomTexts
 pub mod TableSystems
 pub mod TableDone
 pub mod BranchTables

@@ -1,5 +1,5 @@
 -- Names tell their systems.
-use Rattle.std.proofs.Common.{◌≡◌, ℕ, zero, suc, ◌<◌, List, [], ◌∷◌, length, take, drop, get_or, inl, inr, refl, sym, ap, ◌∙◌, subst, arith}
+use Rattle.std.proofs.Common.{◌≡◌, ℕ, zero, suc, ◌<◌, List, [], ◌∷◌, length, take, drop, get_or, ◌⊎◌, inl, inr, refl, sym, ap, ◌∙◌, subst, arith}
 use Rattle.std.specs.List.{AllByRecursion}
 use Rattle.digit_tuple.specs.declared.direction.Direction.{Direction}
 use Rattle.numeration.specs.Systems.{System, IsSystem, AreSystems}
@@ -8,25 +8,33 @@ use Rattle.fib_system.specs.FibonacciLaws.{fibonacci_is_system}
 use Rattle.system_names.specs.declared.system_kind.SystemKind.{SystemKind}
 use Rattle.system_names.specs.declared.system_kind.SystemKind.TheVariants.{Base, Fibonacci}
 use Rattle.system_names.specs.Names.{IsSystemKind, IsBuiltInName}
+use Rattle.system_names.specs.UserNames.{IsUsersName}
 use Rattle.system_names.proofs.OneSystem.{one_system}
+use Rattle.system_names.proofs.UserSystems.{none_is_built_in}
+use Rattle.system_files.proofs.OneSystem.{names_mean_one_system}
 use Rattle.definitions.specs.Tracks.{NamedSystem, names_of, systems_of}
-use Rattle.definitions.specs.Named.{Custom, built_in_system, IsSystemNamed, IsOf, IsKnown, AreKnown, IsFirstWithout, AreNamed}
+use Rattle.system_files.specs.SystemFiles.{Custom}
+use Rattle.definitions.specs.Named.{built_in_system, IsSystemNamed, IsOf, IsKnown, AreKnown, IsFirstWithout, AreNamed}
 
 -- what a name means: one direction and one system
 pub one_meaning : (custom : Custom) (name : List ℕ) (way other : Direction) (s r : System) → IsSystemNamed custom name way s → IsSystemNamed custom name other r → (way ≡ other) × (s ≡ r)
-one_meaning custom name way other s r (kind, named, is) (another, named', is') =
+one_meaning custom name way other s r (inl (kind, named, is)) (inl (another, named', is')) =
     let same = one_system way other kind another name named named' in
     (same.0, is ∙ (ap built_in_system same.1 ∙ sym is'))
+one_meaning custom name way other s r (inl (kind, named, is)) (inr user) = absurd (none_is_built_in name (other, user.part, user.is_name) (way, kind, named))
+one_meaning custom name way other s r (inr user) (inl (kind, named, is)) = absurd (none_is_built_in name (way, user.part, user.is_name) (other, kind, named))
+one_meaning custom name way other s r (inr user) (inr another) = names_mean_one_system custom name way other s r user another
 
 pub one_direction : (custom : Custom) (way other : Direction) (name : List ℕ) → IsOf custom way name → IsOf custom other name → way ≡ other
 one_direction custom way other name (s, named) (r, named') = (one_meaning custom name way other s r named named').0
 
--- the names that are known are those of built-in systems
+-- the names that are known are those of built-in systems, and some of users' systems
 pub known_of : (custom : Custom) (name : List ℕ) → IsBuiltInName name → IsKnown custom name
-known_of custom name (way, kind, named) = (way, (built_in_system kind, (kind, named, refl)))
+known_of custom name (way, kind, named) = (way, (built_in_system kind, inl (kind, named, refl)))
 
-pub of_known : (custom : Custom) (name : List ℕ) → IsKnown custom name → IsBuiltInName name
-of_known custom name (way, (s, (kind, named, is))) = (way, kind, named)
+pub of_known : (custom : Custom) (name : List ℕ) → IsKnown custom name → IsBuiltInName name ⊎ IsUsersName name
+of_known custom name (way, (s, inl (kind, named, is))) = inl (way, kind, named)
+of_known custom name (way, (s, inr user)) = inr (way, user.part, user.is_name)
 
 -- what a name means is a system
 pub kind_is_system : (kind : SystemKind) → IsSystemKind kind → IsSystem (built_in_system kind)
@@ -34,7 +42,8 @@ kind_is_system (Base k) base = base_is_system k base.least
 kind_is_system Fibonacci fib = fibonacci_is_system
 
 pub named_is_system : (custom : Custom) (name : List ℕ) (way : Direction) (s : System) → IsSystemNamed custom name way s → IsSystem s
-named_is_system custom name way s (kind, named, is) = subst IsSystem (sym is) (kind_is_system kind named.0)
+named_is_system custom name way s (inl (kind, named, is)) = subst IsSystem (sym is) (kind_is_system kind named.0)
+named_is_system custom name way s (inr user) = user.defined.system
 
 pub named_are_systems : (custom : Custom) (way : Direction) (named : List NamedSystem) → AreNamed custom way named → AreSystems (systems_of named)
 named_are_systems custom way [] are = tt

@@ -16,7 +16,7 @@ use Rattle.reg_steps.proofs.OneRegex.{same_truth}
 use Rattle.reg_steps.proofs.RelationLemmas.{relation_is_one}
 use Rattle.definitions.specs.Tracks.{Tracks, OverSets, OverSystems, systems_of, letter_sets, header_of}
 use Rattle.definitions.specs.Trees.{Variable, Tree, File, Regex, Formula, Bindings, Bytes, Defined}
-use Rattle.definitions.specs.Named.{Custom}
+use Rattle.system_files.specs.SystemFiles.{Custom}
 use Rattle.definitions.specs.FormulaTexts.{IsSolvedBy, named_systems, IsSolutionText, HasTruth, truth_text, IsFormulaText, HasVerdict}
 use Rattle.definitions.specs.Texts.{IsTrackText, HasTreeText}
 use Rattle.definitions.specs.Laws.{OneText}

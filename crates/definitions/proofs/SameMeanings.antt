@@ -2,7 +2,7 @@
 use Rattle.wal_outside.specs.declared.folder.Folder.TheVariants.{Automata}
 use Rattle.formula_truth.proofs.MeaningLemmas.{MeanTheSame, meanings_matter}
 use Rattle.definitions.specs.Trees.{Bindings}
-use Rattle.definitions.specs.Named.{Custom}
+use Rattle.system_files.specs.SystemFiles.{Custom}
 use Rattle.definitions.specs.TreeMeanings.{assigned, meanings_in}
 use Rattle.definitions.specs.Laws.{BindTheSame, BindingsMatterByMeaning}
 

@@ -30,7 +30,8 @@ use Rattle.dfa_text.proofs.ListedPaths.{accepts_listed}
 use Rattle.dfa_text.proofs.PrintedRelations.{text_lists}
 use Rattle.definitions.specs.Tracks.{NamedSystem, Tracks, OverSets, OverSystems, names_of, systems_of, letter_sets, header_of}
 use Rattle.definitions.specs.Trees.{Variable, File, Regex, Formula, Bindings}
-use Rattle.definitions.specs.Named.{Custom, AreNamed}
+use Rattle.system_files.specs.SystemFiles.{Custom}
+use Rattle.definitions.specs.Named.{AreNamed}
 use Rattle.definitions.specs.Files.{HasListedWord, HoldsUnder, ListedHolds, FileHolds}
 use Rattle.definitions.specs.TreeMeanings.{RegexHolds, tree_holds}
 use Rattle.definitions.specs.FormulaTexts.{IsSolvedBy, named_systems, IsSolutionText, IsSentenceText, truth_text, IsFormulaText}

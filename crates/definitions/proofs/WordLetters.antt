@@ -13,7 +13,7 @@ use Rattle.num_system.specs.Tracks.{way_of}
 use Rattle.word_output.specs.Laws.{WordsHaveListedLetters}
 use Rattle.word_output.specs.WordReadings.{HasListedLetterAt}
 use Rattle.word_output.specs.Words.{HasLetter}
-use Rattle.definitions.specs.Named.{Custom}
+use Rattle.system_files.specs.SystemFiles.{Custom}
 use Rattle.definitions.specs.Tracks.{NamedSystem, systems_of}
 use Rattle.definitions.specs.WordFiles.{HasLetterUnder, HasLetterBelow, ListedLetter, FileLetter}
 use Rattle.definitions.specs.WordLaws.{FilesAreWords, NamesMean, WordsHaveFileLetters}

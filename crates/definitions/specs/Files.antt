@@ -10,7 +10,8 @@ use Rattle.dfa_reading.specs.Reading.{relation_of}
 use Rattle.numeration.specs.Spelling.{Spells, sizes_of}
 use Rattle.numeration.specs.Systems.{System}
 use Rattle.definitions.specs.Tracks.{NamedSystem, names_of, systems_of}
-use Rattle.definitions.specs.Named.{Custom, AreNamed}
+use Rattle.system_files.specs.SystemFiles.{Custom}
+use Rattle.definitions.specs.Named.{AreNamed}
 
 -- some word of tuples of digits that spells the numbers is accepted by what is listed
 pub record HasListedWord (way : Direction) (ss : List System) (listed : Listed) (ns : List ℕ) : Type 0 where

@@ -10,7 +10,8 @@ use Rattle.formula_truth.specs.Truth.{Holds}
 use Rattle.dfa_text.specs.RelationText.{relation_text}
 use Rattle.definitions.specs.Tracks.{NamedSystem, OverSystems, systems_of, header_of}
 use Rattle.definitions.specs.Trees.{Variable, Bindings}
-use Rattle.definitions.specs.Named.{Custom, AreNamed}
+use Rattle.system_files.specs.SystemFiles.{Custom}
+use Rattle.definitions.specs.Named.{AreNamed}
 use Rattle.definitions.specs.TreeMeanings.{assigned, meanings_in}
 
 -- the formula is true for these numbers of its variables

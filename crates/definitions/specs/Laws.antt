@@ -1,12 +1,12 @@
 -- What holds of all definitions.
-use Rattle.std.specs.Prelude.{◌≡◌, ◌↔◌, ℕ, ℤ, List}
+use Rattle.std.specs.Prelude.{◌≡◌, ◌≢◌, ◌↔◌, ℕ, ℤ, List}
 use Rattle.wal_outside.specs.declared.folder.Folder.{Folder}
 use Rattle.wal_outside.specs.declared.folder.Folder.TheVariants.{Bases, Words}
 use Rattle.wal_outside.specs.Files.{Files}
 use Rattle.formula_parse.specs.Trees as trees
 use Rattle.formula_resolve.specs.declared.file.File as formula_file
-use Rattle.definitions.specs.Trees.{Variable, Tree, Formula, Bindings, MayStandIn, Entry, Ledger, ledger_of, bindings_of}
-use Rattle.definitions.specs.Named.{Custom}
+use Rattle.definitions.specs.Trees.{Variable, Tree, Formula, Bindings, MayStandIn, Entry, Ledger, ledger_of, entered, custom_of, bindings_of}
+use Rattle.system_files.specs.SystemFiles.{Custom}
 use Rattle.definitions.specs.Files.{FileHolds}
 use Rattle.definitions.specs.WordFiles.{FileLetter}
 use Rattle.definitions.specs.TreeMeanings.{tree_holds, bound_holds, tree_letter, bound_letter}
@@ -37,4 +37,10 @@ BindingsMatterByMeaning = (custom : Custom) (variables : List Variable) (formula
 -- names stand for the same in the ledger and in the files that are its texts
 abbrev pub FilesBindAsTheirLedger : Type 0
 FilesBindAsTheirLedger = (ledger : Ledger) (files : Files) → Stores ledger files → (named : List formula_file.File)
-    → BindTheSame (ledger Bases) (bindings_of ledger named) (bindings_of (ledger_of files) named)
+    → BindTheSame (custom_of ledger) (bindings_of ledger named) (bindings_of (ledger_of files) named)
+
+-- The texts of users' systems are those of the files that are the texts of the ledger; and what is entered elsewhere leaves them as they are.
+pub record CustomTextsAreFiles : Type 0 where
+  pub stored : (ledger : Ledger) (files : Files) → Stores ledger files → custom_of ledger ≡ files Bases
+  pub found : (files : Files) → custom_of (ledger_of files) ≡ files Bases
+  pub elsewhere : (ledger : Ledger) (folder : Folder) (name : List ℕ) (entry : Entry) → folder ≢ Bases → custom_of (entered ledger folder name entry) ≡ custom_of ledger

@@ -1,5 +1,5 @@
 -- Which numeration system a name means.
-use Rattle.std.specs.Prelude.{◌≡◌, ◌⊎◌, ℕ, List, [], ◌∷◌, Option}
+use Rattle.std.specs.Prelude.{◌≡◌, ◌⊎◌, ℕ, List, [], ◌∷◌}
 use Rattle.std.specs.List.{AllByRecursion}
 use Rattle.digit_tuple.specs.declared.direction.Direction.{Direction}
 use Rattle.numeration.specs.Systems.{System}
@@ -8,21 +8,22 @@ use Rattle.fib_system.specs.Fibonacci.{fibonacci}
 use Rattle.system_names.specs.declared.system_kind.SystemKind.{SystemKind}
 use Rattle.system_names.specs.declared.system_kind.SystemKind.TheVariants.{Base, Fibonacci}
 use Rattle.system_names.specs.Names.{IsBuiltIn}
+use Rattle.system_files.specs.SystemFiles.{Custom}
+use Rattle.system_files.specs.UserSystems.{IsUserSystem}
 use Rattle.definitions.specs.Tracks.{NamedSystem}
-use Rattle.definitions.specs.Trees.{Entry}
-
--- what stands under each name in the folder of systems that users defined
-abbrev pub Custom : Type 0
-Custom = List ℕ → Option Entry
 
 -- the systems that are built in: base k, and the Fibonacci system
 abbrev pub built_in_system : SystemKind → System
 built_in_system (Base k) = base k
 built_in_system Fibonacci = fibonacci
 
--- the name means this system, read in this direction
+-- the name is that of a system that is built in
+abbrev pub IsBuiltInSystem : List ℕ → Direction → System → Type 0
+IsBuiltInSystem name way s = (kind : SystemKind) × IsBuiltIn way kind name × (s ≡ built_in_system kind)
+
+-- The name means this system, read in this direction: one that is built in, or the one that the files of a user define.
 abbrev pub IsSystemNamed : Custom → List ℕ → Direction → System → Type 0
-IsSystemNamed custom name way s = (kind : SystemKind) × IsBuiltIn way kind name × (s ≡ built_in_system kind)
+IsSystemNamed custom name way s = IsBuiltInSystem name way s ⊎ IsUserSystem custom name way s
 
 -- the name means a system that is read in this direction
 abbrev pub IsOf : Custom → Direction → List ℕ → Type 0

@@ -10,13 +10,13 @@ use Rattle.regex_build.specs.Patterns.{AreMembers}
 use Rattle.dfa_text.specs.Meaning.{FileAccepts, AreTrackSets}
 use Rattle.dfa_text.specs.RelationText.{relation_text}
 use Rattle.wal_outside.specs.declared.folder.Folder.{Folder}
-use Rattle.wal_outside.specs.declared.folder.Folder.TheVariants.{Bases}
 use Rattle.wal_outside.specs.Files.{Files}
 use Rattle.reg_steps.specs.RegexSteps.{IsRegexAutomaton}
 use Rattle.reg_steps.specs.Relations.{IsRelation}
 use Rattle.definitions.specs.Tracks.{NamedSystem, systems_of, Tracks, OverSets, OverSystems, letter_sets, header_of}
-use Rattle.definitions.specs.Trees.{Tree, File, Regex, Formula, MayStandIn, Entry, Bytes, Defined, Ledger, tree_of}
-use Rattle.definitions.specs.Named.{Custom, AreNamed}
+use Rattle.definitions.specs.Trees.{Tree, File, Regex, Formula, MayStandIn, Entry, Bytes, Defined, Ledger, tree_of, custom_of}
+use Rattle.system_files.specs.SystemFiles.{Custom}
+use Rattle.definitions.specs.Named.{AreNamed}
 use Rattle.definitions.specs.FormulaTexts.{IsFormulaText}
 
 -- The text of an expression over sets. As a file it accepts exactly the words over the sets that the expression matches; it is the text of
@@ -66,4 +66,4 @@ HasTextAt custom folder (Some entry) (Some text) = HasTextIn custom folder entry
 
 -- the files are the texts of the ledger, name by name
 abbrev pub Stores : Ledger → Files → Type 0
-Stores ledger files = (folder : _) (name : List ℕ) → HasTextAt (ledger Bases) folder (ledger folder name) (files folder name)
+Stores ledger files = (folder : _) (name : List ℕ) → HasTextAt (custom_of ledger) folder (ledger folder name) (files folder name)

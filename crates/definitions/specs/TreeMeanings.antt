@@ -9,7 +9,7 @@ use Rattle.regex_build.specs.Expression.{Expression}
 use Rattle.reg_steps.specs.Relations.{HasMatch}
 use Rattle.definitions.specs.Tracks.{Tracks, OverSets, OverSystems, systems_of, letter_sets}
 use Rattle.definitions.specs.Trees.{Variable, Tree, File, Regex, Formula, Bindings, unbound, bound}
-use Rattle.definitions.specs.Named.{Custom}
+use Rattle.system_files.specs.SystemFiles.{Custom}
 use Rattle.definitions.specs.Files.{FileHolds}
 use Rattle.definitions.specs.WordFiles.{FileLetter}
 

@@ -1,15 +1,16 @@
 -- Definitions that commands make, and the ledger of what stands under each name.
-use Rattle.std.specs.Prelude.{◌≢◌, ℕ, ℤ, List, Option, None, Some, ⊤, if◌then◌else◌}
+use Rattle.std.specs.Prelude.{◌≢◌, ℕ, ℤ, List, Option, None, Some, option_and_then, ⊤, if◌then◌else◌}
 use Rattle.std.specs.List.{fold}
 use Rattle.std.specs.Option.{option_map}
 use Rattle.wal_outside.specs.declared.folder.Folder.{Folder}
-use Rattle.wal_outside.specs.declared.folder.Folder.TheVariants.{Automata, Words}
+use Rattle.wal_outside.specs.declared.folder.Folder.TheVariants.{Automata, Words, Bases}
 use Rattle.wal_outside.specs.Files.{Files, same_file}
 use Rattle.digit_tuple.specs.declared.direction.Direction.{Direction}
 use Rattle.formula_parse.specs.Trees as trees
 use Rattle.formula_resolve.specs.declared.file.File as formula_file
 use Rattle.formula_resolve.specs.declared.file.File.TheVariants.{Automaton, Word}
 use Rattle.regex_build.specs.Expression.{Expression}
+use Rattle.system_files.specs.SystemFiles.{Custom}
 use Rattle.definitions.specs.Tracks.{NamedSystem, Tracks}
 
 -- a free variable of a formula, and the system of its numbers, read in a direction
@@ -31,11 +32,11 @@ mutual
     unbound : Bindings
     bound : Bindings → Folder → List ℕ → Tree → Bindings
 
--- A definition may stand in the folder. An expression and a formula are no words, and stand elsewhere.
+-- A definition may stand in the folder. An expression and a formula are neither words nor files of a user's system, and stand elsewhere.
 abbrev pub MayStandIn : Folder → Tree → Type 0
 MayStandIn folder (File bytes) = ⊤
-MayStandIn folder (Regex tracks expression) = folder ≢ Words
-MayStandIn folder (Formula variables formula bindings) = folder ≢ Words
+MayStandIn folder (Regex tracks expression) = (folder ≢ Words) × (folder ≢ Bases)
+MayStandIn folder (Formula variables formula bindings) = (folder ≢ Words) × (folder ≢ Bases)
 
 -- what stands under a name: bytes, or a definition
 pub data Entry : Type 0 where
@@ -54,10 +55,20 @@ ledger_of files = λ folder name. option_map (λ bytes. Bytes bytes) (files fold
 abbrev pub entered : Ledger → Folder → List ℕ → Entry → Ledger
 entered ledger folder name entry = λ f n. if same_file folder name f n then Some entry else ledger f n
 
+-- the bytes of a file
+abbrev pub bytes_of : Tree → Option (List ℕ)
+bytes_of (File bytes) = Some bytes
+bytes_of (Regex tracks expression) = None
+bytes_of (Formula variables formula bindings) = None
+
 -- the definition of an entry
 abbrev pub tree_of : Entry → Tree
 tree_of (Bytes bytes) = File bytes
 tree_of (Defined tree) = tree
+
+-- the texts of users' systems
+abbrev pub custom_of : Ledger → Custom
+custom_of ledger = λ name. option_and_then (λ entry. bytes_of (tree_of entry)) (ledger Bases name)
 
 -- a name bound to the definition of its entry, where there is one
 abbrev pub with_entry : Bindings → Folder → List ℕ → Option Entry → Bindings

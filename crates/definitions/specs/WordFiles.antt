@@ -6,7 +6,8 @@ use Rattle.dfa_reading.specs.Listed.{Listed}
 use Rattle.dfa_reading.specs.WordFiles.{word_of}
 use Rattle.word_output.specs.WordReadings.{HasListedLetterAt}
 use Rattle.definitions.specs.Tracks.{NamedSystem, names_of, systems_of}
-use Rattle.definitions.specs.Named.{Custom, AreNamed}
+use Rattle.system_files.specs.SystemFiles.{Custom}
+use Rattle.definitions.specs.Named.{AreNamed}
 
 -- over the systems of these names, which have one direction, this letter is listed at the place
 pub record HasLetterUnder (custom : Custom) (names : List (List ℕ)) (listed : Listed) (ns : List ℕ) (letter : ℤ) : Type 0 where

@@ -10,7 +10,8 @@ use Rattle.num_system.specs.Tracks.{way_of}
 use Rattle.word_output.specs.Words.{WordValue, IsWordValue, HasLetter}
 use Rattle.word_output.specs.WordReadings.{AreWordSteps}
 use Rattle.definitions.specs.Tracks.{NamedSystem, names_of, systems_of}
-use Rattle.definitions.specs.Named.{Custom, AreNamed}
+use Rattle.system_files.specs.SystemFiles.{Custom}
+use Rattle.definitions.specs.Named.{AreNamed}
 use Rattle.definitions.specs.WordFiles.{FileLetter}
 
 -- what a word's file lists: a word, of which there is a state

@@ -1,6 +1,6 @@
 //! Laws of definitions, each a call that does nothing.
 
-ghost use Rattle.definitions.specs.Laws.{OneText, TextsMeanTheirTrees, WordTextsMeanTheirTrees, BindingsMatterByMeaning, FilesBindAsTheirLedger};
+ghost use Rattle.definitions.specs.Laws.{OneText, TextsMeanTheirTrees, WordTextsMeanTheirTrees, BindingsMatterByMeaning, FilesBindAsTheirLedger, CustomTextsAreFiles};
 
 /// An entry has at most one text.
 pub fn one_text()
@@ -26,4 +26,9 @@ pub fn bindings_matter_by_meaning()
 /// Names stand for the same in a ledger and in the files that are its texts.
 pub fn files_bind_as_their_ledger()
     ensures { FilesBindAsTheirLedger }
+{}
+
+/// The texts of users' systems are those of the files, and what is entered elsewhere leaves them as they are.
+pub fn custom_texts_are_files()
+    ensures { CustomTextsAreFiles }
 {}

@@ -3,8 +3,9 @@
 //! A definition (`Tree` in `specs/Trees.antt`) is the bytes of a file, an expression over tracks, or a formula with the
 //! definitions that its names stand for. `tree_holds` (`specs/TreeMeanings.antt`) says of which numbers it holds, `HasText`
 //! (`specs/Texts.antt`) which text stores it. The text of a definition, read as a file, holds of what the definition holds of,
-//! so that a command means the same under the definitions of names and under the files that stand for them. Among words stand
-//! files alone; `tree_letter` says which letter a file has at a place.
+//! so that a command means the same under the definitions of names and under the files that stand for them. Among words and
+//! among users' systems stand files alone; `tree_letter` says which letter a file has at a place, and `IsSystemNamed`
+//! (`specs/Named.antt`) which system a name means: one that is built in, or the one that the files of a user define.
 #![tactic(auto)]
 
 /// Laws of definitions.
@@ -17,8 +18,8 @@ mod table;
 mod words;
 
 pub use laws::{
-    bindings_matter_by_meaning, files_bind_as_their_ledger, one_text, texts_mean_their_trees,
-    word_texts_mean_their_trees,
+    bindings_matter_by_meaning, custom_texts_are_files, files_bind_as_their_ledger, one_text,
+    texts_mean_their_trees, word_texts_mean_their_trees,
 };
 pub use table::{files_are_tables, table_relation, tables_have_one_outcome, tables_hold};
 pub use words::{files_are_words, words_have_file_letters};

@@ -37,7 +37,7 @@ pub some_files : (told : Option Files) → (found : Files) × IfSome told (λ fi
 some_files told = (files_by told None, told_by told None)
 
 -- a text that is too long
-text_past : (n : ℕ) → (text : List ℕ) × (n < length text)
+pub text_past : (n : ℕ) → (text : List ℕ) × (n < length text)
 text_past n = (replicate {A = ℕ} (n + 1) 0, omega (arith, length-replicate {A = ℕ} (n + 1) 0))
 
 at_place : (old new : StoreView) (file : File) (there : Option (List ℕ)) (result : Result Loaded LoadFault) → IfSome old.files (λ files. files (place_of file).0 (place_of file).1 ≡ there)

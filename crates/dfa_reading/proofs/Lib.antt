@@ -18,3 +18,5 @@ pub mod StarTableLemmas
 pub mod TransitionLemmas
 pub mod WordLines
 pub mod WordSteps
+pub mod SystemHeaders
+pub mod UserSystems

@@ -57,7 +57,7 @@ line_headed at draft next line h is = by (is_passed line) h
     by false e = to_headed at draft next line draft.header e is
 
 -- a header of systems is a line of them, at least one
-or_else_some : {A : Type 0} (o other : Option A) (x : A) (P : Type 0) → (o ≡ Some x → P) → (other ≡ Some x → P) → or_else o other ≡ Some x → P
+pub or_else_some : {A : Type 0} (o other : Option A) (x : A) (P : Type 0) → (o ≡ Some x → P) → (other ≡ Some x → P) → or_else o other ≡ Some x → P
 or_else_some None other x P first second h = second h
 or_else_some (Some y) other x P first second h = first h
 

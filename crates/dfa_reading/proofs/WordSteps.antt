@@ -42,7 +42,7 @@ to_cases P at draft next line (Some header) there h one two three =
     let read = bind_some (entry_of (digits_in header) line) (add_entry at draft) next below.1 in
     entry_cases P at draft next read.0 read.2 two three
 
-line_cases : (P : Draft → Type 0) (at : ℕ) (draft next : Draft) (line : List ℕ) → add_line at draft line ≡ Some next
+pub line_cases : (P : Draft → Type 0) (at : ℕ) (draft next : Draft) (line : List ℕ) → add_line at draft line ≡ Some next
     → P draft → ((h : Header) → draft.header ≡ None → P (with_header draft h)) → ((n : ℕ) (output : ℤ) → P (with_state draft n output)) → ((digits : List (Option ℕ)) (targets : List ℕ) → P (with_line at draft digits targets)) → P next
 unfolding add_line
 line_cases P at draft next line h none one two three = by (is_passed line) h

@@ -19,3 +19,5 @@ pub mod ListedTable
 pub mod StarTables
 pub mod Transitions
 pub mod WordDrafts
+pub mod SystemFiles
+pub mod HeadedDrafts

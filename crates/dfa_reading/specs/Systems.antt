@@ -2,14 +2,11 @@
 use Rattle.std.specs.Prelude.{ℕ, zero, suc, ◌^◌, ◌==◌, nat_le, Bool, ◌||◌, ◌&&◌, if◌then◌else◌, List, [], ◌∷◌, length, take, drop, slice_index, codes, Option, None, Some}
 use Rattle.std.specs.List.{list_all}
 use Rattle.std.specs.Str.{bytes_eq}
-use Rattle.text_grammar.specs.Bytes.{is_letter, is_digit}
 use Rattle.digit_tuple.specs.declared.direction.Direction.TheVariants.{Msd, Lsd}
 use Rattle.system_names.specs.declared.system_kind.SystemKind.TheVariants.{Base, Fibonacci}
 use Rattle.system_names.specs.Names.{system_name}
+use Rattle.system_names.specs.UserNames.{is_alphanumeric}
 use Rattle.dfa_reading.specs.Lines.{◌>>=◌, parts_of, each_of}
-
-abbrev pub is_alphanumeric : ℕ → Bool
-is_alphanumeric b = is_letter b || is_digit b
 
 abbrev pub is_direction : List ℕ → Bool
 is_direction bytes = bytes_eq bytes (codes "msd_") || bytes_eq bytes (codes "lsd_")

@@ -10,6 +10,7 @@ ghost use Rattle.dfa_reading.specs.DraftViews.{Gives, draft_line_view, draft_lin
 
 use crate::fault::FileFault;
 use crate::header::FileHeader;
+use crate::line_reader::LineReader;
 use crate::listed::{Listed, ListedLine};
 use crate::read_entries::{Entry, read_entry};
 use crate::read_header::header;
@@ -129,6 +130,25 @@ impl Draft {
         }
         let lines = placed_lines(alloc, &numbers, lines)?;
         Ok(Listed::new(header, outputs, lines))
+    }
+}
+
+impl LineReader for Draft {
+    ghost use Rattle.dfa_reading.specs.Reading.{add_line, IsDraft};
+    ghost use Rattle.dfa_reading.specs.DraftViews.{draft_view};
+
+    ghost was_read = { draft_view };
+
+    ghost adds = { λ _. add_line };
+
+    ghost is_front = { λ d. IsDraft (draft_view d) };
+
+    fn add_line(&mut self, alloc: Global, at: u64, line: &[u8]) -> Result<bool, OutOfMemory> {
+        Draft::add_line(self, alloc, at, line)
+    }
+
+    fn finish(self, alloc: Global, after: u64) -> Result<Listed, FileFault> {
+        Draft::finish(self, alloc, after)
     }
 }
 

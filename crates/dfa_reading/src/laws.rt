@@ -4,6 +4,7 @@ ghost use Rattle.dfa_reading.specs.Branching.{BranchingAcceptsListed};
 ghost use Rattle.dfa_reading.specs.Conflicts.{SharedTuplesAreTaken};
 ghost use Rattle.dfa_reading.specs.WordFiles.{WordFilesListWords};
 ghost use Rattle.dfa_reading.specs.ListedTable.{TableMovesAlong};
+ghost use Rattle.dfa_reading.specs.SystemFiles.{LanguageFilesListLanguages, AdderFilesListAdders};
 
 /// The branching automaton of what a file lists accepts the word of the letters of some tuples exactly where the file accepts the
 /// word of tuples.
@@ -25,4 +26,14 @@ pub fn word_files_list_words()
 /// tuples.
 pub fn table_moves_along()
     ensures { TableMovesAlong }
+{}
+
+/// What the file of a user's language lists has one track, of some digits from 0 on, and a state.
+pub fn language_files_list_languages()
+    ensures { LanguageFilesListLanguages }
+{}
+
+/// What the file of an adder lists has three tracks, of so many digits from 0 on, and a state.
+pub fn adder_files_list_adders()
+    ensures { AdderFilesListAdders }
 {}

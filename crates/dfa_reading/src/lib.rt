@@ -21,10 +21,16 @@ mod listed;
 mod star_table;
 // the transitions of one state
 mod transitions;
+// readers of a file's lines
+mod line_reader;
 // what was read of a file so far
 mod draft;
 // what was read of a word's file so far
 mod word_draft;
+// the files of a user's system
+mod system_part;
+// what was read of such a file so far
+mod headed_draft;
 // a file, read
 mod reading;
 // the letters by which a line leads
@@ -39,8 +45,10 @@ mod laws;
 pub use fault::FileFault;
 pub use header::FileHeader;
 pub use laws::{
-    branching_accepts_listed, shared_tuples_are_taken, table_moves_along, word_files_list_words,
+    adder_files_list_adders, branching_accepts_listed, language_files_list_languages,
+    shared_tuples_are_taken, table_moves_along, word_files_list_words,
 };
 pub use listed::{Listed, ListedLine};
-pub use reading::{read_relation, read_word};
+pub use reading::{read_relation, read_system, read_word};
 pub use system_name::SystemName;
+pub use system_part::SystemPart;

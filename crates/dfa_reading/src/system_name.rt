@@ -1,15 +1,14 @@
 //! Names of systems in a header.
 
 ghost use Rattle.std.specs.Prelude.{◌≡◌, ◌≤◌, ◌^◌, true, IsAscii, IfOk};
-ghost use Rattle.std.specs.List.{list_all};
-ghost use Rattle.dfa_reading.specs.Systems.{is_alphanumeric, is_direction as direction_stands, is_system as system_stands, digit_limit as limit_of};
+ghost use Rattle.dfa_reading.specs.Systems.{is_direction as direction_stands, is_system as system_stands, digit_limit as limit_of};
 
 use digit_tuple::faults::OutOfMemory;
 use digit_tuple::name::Name;
 use std::alloc::Global;
 use std::marker::Model;
 use std::str;
-use system_names::built_in;
+use system_names::{all_alphanumeric, built_in};
 
 // The greatest length of the name of a system.
 const LONGEST_SYSTEM: usize = 62;
@@ -86,13 +85,6 @@ pub fn is_system(part: &[u8]) -> bool
 {
     let len = part.len();
     5 <= len && len <= LONGEST_SYSTEM && is_direction(&part[..4]) && all_alphanumeric(&part[4..])
-}
-
-// Whether all bytes are letters and digits.
-fn all_alphanumeric(bytes: &[u8]) -> bool
-    ensures { result ≡ list_all is_alphanumeric bytes.now }
-{
-    bytes.iter().all(|byte| byte.is_ascii_alphanumeric())
 }
 
 /// The system that a part names.

@@ -1,16 +1,17 @@
 //! What was read of a word's file so far.
 
-ghost use Rattle.std.specs.Prelude.{◌≡◌, None, Some, length, nat_lt, slice_get, if◌then◌else◌, IfOk, OnOk, IsTrue, option_map};
-ghost use Rattle.dfa_reading.specs.Reading.{no_draft, finish as finished};
-ghost use Rattle.dfa_reading.specs.WordFiles.{are_of_systems, add_word_line};
+ghost use Rattle.std.specs.Prelude.{◌≡◌, length, nat_lt, slice_get, IfOk, OnOk, IsTrue, option_map};
+ghost use Rattle.dfa_reading.specs.Reading.{no_draft};
+ghost use Rattle.dfa_reading.specs.WordFiles.{are_of_systems};
 ghost use Rattle.dfa_reading.specs.HeaderViews.{header_view};
-ghost use Rattle.dfa_reading.specs.DraftViews.{Gives, draft_lines_in, draft_view};
+ghost use Rattle.dfa_reading.specs.DraftViews.{draft_lines_in, draft_view};
 ghost use Rattle.dfa_reading.specs.Transitions.{transitions_in, AreIndexed};
 ghost use Rattle.dfa_reading.specs.WordDrafts.{IsReader, after_line, agrees_line};
 
 use crate::draft::Draft;
 use crate::fault::FileFault;
 use crate::header::FileHeader;
+use crate::line_reader::LineReader;
 use crate::listed::Listed;
 use crate::transitions::Transitions;
 use digit_tuple::faults::OutOfMemory;
@@ -35,33 +36,6 @@ impl WordDraft {
         }
     }
 
-    /// Adds a line, and says whether it has the format's form there and leads by no tuple elsewhere than the lines before it.
-    #[tactic(auto, unfolding(crate::specs::WordFiles::add_word_line))]
-    pub fn add_line(&mut self, alloc: Global, at: u64, line: &[u8]) -> Result<bool, OutOfMemory>
-        requires { IsReader self.old }
-        ensures added { IfOk result (λ added. (if added then Some (draft_view self.new.draft) else None) ≡ add_word_line at (draft_view self.old.draft) line.now) }
-        ensures reader { IfOk result (λ added. IsTrue added → IsReader self.new) }
-    {
-        let states = self.draft.outputs.len();
-        let lines = self.draft.lines.len();
-        if !self.draft.add_line(alloc, at, line)? {
-            return Ok(false);
-        }
-        if !are_systems(&self.draft.header) {
-            return Ok(false);
-        }
-        Ok(self.note_line(alloc, states, lines)?)
-    }
-
-    /// What the file lists, if it has a header, a state and no target that is no state; `after` is the number of the line after the
-    /// last.
-    pub fn finish(self, alloc: Global, after: u64) -> Result<Listed, FileFault>
-        requires { IsReader self }
-        ensures { Gives (λ listed. listed) result (finished after (draft_view self.draft)) }
-    {
-        self.draft.finish(alloc, after)
-    }
-
     // Brings the transitions of the last state up to what was read, where before the line there were so many states and lines of
     // transitions, and says whether those of the line agree with the others.
     fn note_line(&mut self, alloc: Global, states: usize, lines: usize) -> Result<bool, OutOfMemory>
@@ -79,6 +53,36 @@ impl WordDraft {
             None => Ok(true),
             Some(line) => self.last.add_all(alloc, &line.digits, &line.targets),
         }
+    }
+}
+
+impl LineReader for WordDraft {
+    ghost use Rattle.dfa_reading.specs.DraftViews.{draft_view};
+    ghost use Rattle.dfa_reading.specs.WordFiles.{add_word_line};
+    ghost use Rattle.dfa_reading.specs.WordDrafts.{IsReader};
+
+    ghost was_read = { λ d. draft_view d.draft };
+
+    ghost adds = { λ _. add_word_line };
+
+    ghost is_front = { IsReader };
+
+    /// Adds a line, and says whether it has the format's form there and leads by no tuple elsewhere than the lines before it.
+    #[tactic(auto, unfolding(crate::specs::WordFiles::add_word_line))]
+    fn add_line(&mut self, alloc: Global, at: u64, line: &[u8]) -> Result<bool, OutOfMemory> {
+        let states = self.draft.outputs.len();
+        let lines = self.draft.lines.len();
+        if !self.draft.add_line(alloc, at, line)? {
+            return Ok(false);
+        }
+        if !are_systems(&self.draft.header) {
+            return Ok(false);
+        }
+        Ok(self.note_line(alloc, states, lines)?)
+    }
+
+    fn finish(self, alloc: Global, after: u64) -> Result<Listed, FileFault> {
+        self.draft.finish(alloc, after)
     }
 }
 

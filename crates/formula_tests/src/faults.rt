@@ -1,10 +1,9 @@
 //! Texts and their first faults.
 
-use crate::long_texts::nested;
+use crate::answers::expect;
+use crate::long_texts::repeated;
 use formula_parse::{ParseFault, parse};
 use std::alloc::Global;
-use std::process::Abort;
-use std::test::Fail;
 
 /// The fault of a text, or none where it has a tree.
 fn fault(alloc: Global, text: &[u8]) -> Option<ParseFault> {
@@ -79,26 +78,24 @@ static FAULTS: [(&[u8], ParseFault); 62] = [
     (b"x*(y*z)=1", ParseFault::NotLinear(1)),
 ];
 
-// Asserts that each text has its fault.
-fn expect_faults(rt: &impl Abort, alloc: Global, rows: &[(&[u8], ParseFault)]) {
-    for (text, expected) in rows {
-        assert_eq!(rt; fault(alloc, text), Some(*expected));
+#[test]
+fn texts_have_these_faults(rt: HostRuntime) {
+    for (text, wanted) in &FAULTS {
+        expect(&rt, text, &fault(rt.alloc(), text), &Some(*wanted));
+    }
+}
+
+// The fault of an equation in so many parentheses, if it has one.
+fn fault_of_nesting(alloc: Global, depth: usize) -> Option<ParseFault> {
+    match repeated(alloc, "(", depth, "x=1", ")") {
+        Ok(text) => fault(alloc, text.as_bytes()),
+        Err(_) => Some(ParseFault::Memory),
     }
 }
 
 #[test]
-fn texts_have_these_faults(rt: HostRuntime) {
-    expect_faults(&rt, rt.alloc(), &FAULTS);
-}
-
-#[test]
-fn parentheses_nest_128_deep(rt: HostRuntime) -> Result<(), Fail> {
-    let most = nested(rt.alloc(), 128, "")?;
-    assert_eq!(rt; fault(rt.alloc(), most.as_bytes()), None);
-    let more = nested(rt.alloc(), 129, "")?;
-    assert_eq!(rt;
-        fault(rt.alloc(), more.as_bytes()),
-        Some(ParseFault::Depth(128))
-    );
-    Ok(())
+fn parentheses_nest_128_deep(rt: HostRuntime) {
+    let deepest = Some(ParseFault::Depth(128));
+    expect(&rt, b"128", &fault_of_nesting(rt.alloc(), 128), &None);
+    expect(&rt, b"129", &fault_of_nesting(rt.alloc(), 129), &deepest);
 }

@@ -3,6 +3,14 @@
 //! variables, texts as long as a command's, and the limits of expansions.
 #![tactic(auto)]
 
+// texts without an answer
+#[cfg(test)]
+mod no_answer;
+
+// what texts give, and rows of what they are to give
+#[cfg(test)]
+mod answers;
+
 // texts with the trees that they must have
 #[cfg(test)]
 mod trees_written_out;

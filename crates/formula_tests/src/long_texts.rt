@@ -1,50 +1,37 @@
 //! Texts as long as a command's are read.
 
-use crate::parsed::formula_of;
+use crate::answers::{Asked, Repeated, expect_answer, expect_repeated, long_answer};
+use crate::no_answer::NoAnswer;
 use formula_parse::tree::{Fact, Formula, Term};
 use std::alloc::{AllocError, Global};
-use std::test::Fail;
 
-// A part so many times, and what follows.
+// A part so many times, what follows once, and what then follows as often.
 pub(crate) fn repeated(
     alloc: Global,
     part: &str,
     times: usize,
-    end: &str,
+    middle: &str,
+    closing: &str,
 ) -> Result<String, AllocError> {
     let mut text = part.repeat(alloc, times)?;
-    text.push_str(end)?;
+    text.push_str(middle)?;
+    text.push_str(&closing.repeat(alloc, times)?)?;
     Ok(text)
 }
 
-// An equation in so many parentheses, and what follows.
-pub(crate) fn nested(alloc: Global, depth: usize, end: &str) -> Result<String, AllocError> {
-    let mut text = repeated(alloc, "(", depth, "x=1")?;
-    text.push_str(&repeated(alloc, ")", depth, end)?)?;
+// Bytes as a text.
+pub(crate) fn string_of(alloc: Global, bytes: &[u8]) -> Result<String, AllocError> {
+    let mut text = String::new(alloc);
+    for byte in bytes {
+        text.push(char::from(*byte))?;
+    }
     Ok(text)
 }
 
-// How many operands stand before the last of the chain that a text is.
-fn operands_before_the_last(alloc: Global, text: &str) -> Result<usize, Fail> {
-    Ok(operands_in(&formula_of(alloc, text.as_bytes())?))
-}
-
-// How many operands stand before a chain's last.
-fn operands_in(formula: &Formula) -> usize {
+// How many operands stand before a chain's last, or addends before the last of an atom's left side.
+pub(crate) fn parts_in(formula: &Formula) -> usize {
     match formula {
         Formula::Chain(operands, _) => operands.len(),
-        _ => 0,
-    }
-}
-
-// How many addends stand before the last of the left side of the atom that a text is.
-fn addends_before_the_last(alloc: Global, text: &str) -> Result<usize, Fail> {
-    Ok(addends_in(&formula_of(alloc, text.as_bytes())?))
-}
-
-// How many addends stand before the last of an atom's left side.
-fn addends_in(formula: &Formula) -> usize {
-    match formula {
         Formula::Atom(atom) => addends_of(&atom.fact),
         _ => 0,
     }
@@ -58,27 +45,31 @@ fn addends_of(fact: &Fact) -> usize {
     }
 }
 
+// A chain and a sum, each with how many parts stand before its last.
+static LONG: [Repeated; 2] = [
+    ("x=1&", 16383, "x=12", "", "65536 bytes: 16383"),
+    ("x+", 32766, "x=12", "", "65536 bytes: 32766"),
+];
+
 #[test]
-fn a_chain_of_65536_bytes(rt: HostRuntime) -> Result<(), Fail> {
-    let text = repeated(rt.alloc(), "x=1&", 16383, "x=12")?;
-    assert_eq!(rt; text.len(), 65536);
-    assert_eq!(rt; operands_before_the_last(rt.alloc(), &text)?, 16383);
-    Ok(())
+fn chains_and_sums_of_65536_bytes(rt: HostRuntime) {
+    expect_repeated(&rt, rt.alloc(), Asked::Parts, &LONG);
+}
+
+// Equations in parentheses 128 deep, again and again.
+fn deep_text(alloc: Global) -> Result<String, AllocError> {
+    let mut part = repeated(alloc, "(", 128, "x=1", ")")?;
+    part.push('&')?;
+    repeated(alloc, &part, 252, "x=1234567 & y=12", "")
+}
+
+// How many operands stand before the last of theirs.
+fn deep_parts(alloc: Global) -> Result<String, NoAnswer> {
+    long_answer(alloc, Asked::Parts, &deep_text(alloc)?)
 }
 
 #[test]
-fn a_sum_of_65536_bytes(rt: HostRuntime) -> Result<(), Fail> {
-    let text = repeated(rt.alloc(), "x+", 32766, "x=12")?;
-    assert_eq!(rt; text.len(), 65536);
-    assert_eq!(rt; addends_before_the_last(rt.alloc(), &text)?, 32766);
-    Ok(())
-}
-
-#[test]
-fn parentheses_128_deep_again_and_again(rt: HostRuntime) -> Result<(), Fail> {
-    let part = nested(rt.alloc(), 128, "&")?;
-    let text = repeated(rt.alloc(), &part, 252, "x=1234567 & y=12")?;
-    assert_eq!(rt; text.len(), 65536);
-    assert_eq!(rt; operands_before_the_last(rt.alloc(), &text)?, 253);
-    Ok(())
+fn parentheses_128_deep_again_and_again(rt: HostRuntime) {
+    let found = deep_parts(rt.alloc());
+    expect_answer(&rt, "parentheses", &found, "65536 bytes: 253");
 }

@@ -1,11 +1,10 @@
 //! Texts with calls of macros, and their expansions or first faults.
 
-use crate::long_texts::repeated;
-use crate::parsed::expect;
+use crate::answers::{Asked, Repeated, expect_answer, expect_answers, expect_repeated};
+use crate::long_texts::string_of;
+use crate::no_answer::NoAnswer;
 use macro_expand::{MacroFault, Macros, expand};
 use std::alloc::{AllocError, Global};
-use std::process::Abort;
-use std::test::Fail;
 
 // The macros of the rows, each with its text.
 static MACROS: [(&str, &str); 20] = [
@@ -113,15 +112,15 @@ static FAULTS: [(&str, &str); 35] = [
 ];
 
 // Adds a macro.
-fn add(macros: &mut Macros, name: &str, text: &str) -> Result<(), Fail> {
+fn add(macros: &mut Macros, name: &str, text: &str) -> Result<(), NoAnswer> {
     match macros.add(name.as_bytes(), text.as_bytes()) {
         Ok(()) => Ok(()),
-        Err(_) => Err(Fail::from("memory")),
+        Err(_) => Err(NoAnswer),
     }
 }
 
 // The macros with these texts.
-fn added(alloc: Global, texts: &[(&str, &str)]) -> Result<Macros, Fail> {
+fn added(alloc: Global, texts: &[(&str, &str)]) -> Result<Macros, NoAnswer> {
     let mut macros = Macros::new(alloc);
     for (name, text) in texts {
         add(&mut macros, name, text)?;
@@ -129,163 +128,147 @@ fn added(alloc: Global, texts: &[(&str, &str)]) -> Result<Macros, Fail> {
     Ok(macros)
 }
 
+// A fault with what it keeps.
+fn told(alloc: Global, fault: &MacroFault) -> Result<String, AllocError> {
+    match fault {
+        MacroFault::Syntax(at) => format!(in alloc; "! Syntax {at}"),
+        MacroFault::Unknown(name) => format!(in alloc; "! Unknown {}", name.as_str()),
+        MacroFault::MacroArgs { name, place, given } => {
+            format!(in alloc; "! MacroArgs {} {place} {given}", name.as_str())
+        }
+        MacroFault::MacroDepth(name) => format!(in alloc; "! MacroDepth {}", name.as_str()),
+        MacroFault::MacroLong => String::from_str(alloc, "! MacroLong"),
+        MacroFault::Memory => String::from_str(alloc, "! Memory"),
+    }
+}
+
 // The expansion, or after `! ` the first fault with what it keeps.
-fn shown(alloc: Global, text: &[u8], macros: &Macros) -> Result<String, AllocError> {
-    match expand(alloc, text, macros) {
-        Ok(bytes) => {
-            let mut text = String::new(alloc);
-            for byte in &bytes {
-                text.push(char::from(*byte))?;
-            }
-            Ok(text)
-        }
-        Err(MacroFault::Syntax(at)) => format!(in alloc; "! Syntax {at}"),
-        Err(MacroFault::Unknown(name)) => {
-            let name = name.as_str();
-            format!(in alloc; "! Unknown {name}")
-        }
-        Err(MacroFault::MacroArgs { name, place, given }) => {
-            let name = name.as_str();
-            format!(in alloc; "! MacroArgs {name} {place} {given}")
-        }
-        Err(MacroFault::MacroDepth(name)) => {
-            let name = name.as_str();
-            format!(in alloc; "! MacroDepth {name}")
-        }
-        Err(MacroFault::MacroLong) => String::from_str(alloc, "! MacroLong"),
-        Err(MacroFault::Memory) => String::from_str(alloc, "! Memory"),
+fn shown(alloc: Global, text: &str, macros: &Macros) -> Result<String, AllocError> {
+    match expand(alloc, text.as_bytes(), macros) {
+        Ok(bytes) => string_of(alloc, &bytes),
+        Err(fault) => told(alloc, &fault),
     }
 }
 
-// Asserts that each text has its expansion, or its fault.
-fn expect_expansions(rt: &impl Abort, alloc: Global, rows: &[(&str, &str)]) -> Result<(), Fail> {
+// The expansion by the macros of the rows, or the first fault.
+pub(crate) fn expansion(alloc: Global, text: &str) -> Result<String, NoAnswer> {
     let macros = added(alloc, &MACROS)?;
-    for (text, wanted) in rows {
-        let found = shown(alloc, text.as_bytes(), &macros)?;
-        expect(rt, text, &found, wanted);
-    }
-    Ok(())
+    Ok(shown(alloc, text, &macros)?)
 }
 
 #[test]
-fn texts_expand_so(rt: HostRuntime) -> Result<(), Fail> {
-    expect_expansions(&rt, rt.alloc(), &EXPANSIONS)
+fn texts_expand_so(rt: HostRuntime) {
+    expect_answers(&rt, rt.alloc(), Asked::Expansion, &EXPANSIONS);
 }
 
 #[test]
-fn texts_have_these_faults(rt: HostRuntime) -> Result<(), Fail> {
-    expect_expansions(&rt, rt.alloc(), &FAULTS)
+fn texts_have_these_faults(rt: HostRuntime) {
+    expect_answers(&rt, rt.alloc(), Asked::Expansion, &FAULTS);
 }
 
-// A part in so many calls within one another.
-fn nested(alloc: Global, opening: &str, part: &str, times: usize) -> Result<String, AllocError> {
-    let mut text = repeated(alloc, opening, times, part)?;
-    text.push_str(&")".repeat(alloc, times)?)?;
-    Ok(text)
-}
-
-// Asserts that an expansion has so many bytes, or is the text of a fault.
-fn expect_length(rt: &impl Abort, found: &str, wanted: Result<usize, &str>) {
-    match wanted {
-        Ok(len) => assert_eq!(rt; found.len(), len),
-        Err(fault) => assert_eq!(rt; found, fault),
-    }
-}
-
-// Some calls within one another: what they open with, what stands inside, how many they are, and what they expand to: how
-// many bytes, or a fault.
-static NESTED: [(&str, &str, usize, Result<usize, &str>); 8] = [
-    ("#one(", "x", 16, Ok(1)),
-    ("#one(", "x", 17, Err("! MacroDepth one")),
-    ("#tri(", "x", 17, Err("! MacroDepth tri")),
-    ("#two(", "x=1", 13, Ok(49149)),
-    ("#two(", "x=1", 14, Err("! MacroLong")),
-    ("#d(", "x", 16, Ok(65536)),
-    ("#d(", "xy", 15, Ok(65536)),
-    ("#d(", "xyz", 15, Err("! MacroLong")),
-];
-
-#[test]
-fn calls_nest_16_deep_and_texts_have_65536_bytes(rt: HostRuntime) -> Result<(), Fail> {
-    let macros = added(rt.alloc(), &MACROS)?;
-    for (opening, part, times, wanted) in NESTED {
-        let text = nested(rt.alloc(), opening, part, times)?;
-        let found = shown(rt.alloc(), text.as_bytes(), &macros)?;
-        expect_length(&rt, &found, wanted);
-    }
-    Ok(())
-}
-
-// A part so many times and what follows: which text it gives, with `m` as 16,383 calls of an empty macro.
-static LONG: [(&str, usize, &str, Result<usize, &str>); 12] = [
-    ("x", 65536, "", Ok(65536)),
-    ("x", 65537, "", Err("! MacroLong")),
-    ("x", 65536, "#e()", Ok(65536)),
-    ("x", 65537, "#", Err("! MacroLong")),
-    ("x", 65536, "#", Err("! Syntax 65536")),
-    ("x", 65536, "#one(x)", Err("! MacroLong")),
-    ("#e()", 16384, "", Ok(0)),
-    ("#m()", 4, "", Ok(0)),
-    ("#m()", 4, "#e()", Err("! MacroLong")),
-    ("#m()", 4, "#tri()", Err("! MacroLong")),
-    ("#m()", 4, "#", Err("! Syntax 16")),
-    ("#m()", 3, "#e(#m())", Err("! MacroLong")),
-];
-
-// The macros of the rows and `m`.
-fn with_calls(alloc: Global) -> Result<Macros, Fail> {
+// The macros of the rows and `m`, which is 16,383 calls of an empty macro.
+fn with_calls(alloc: Global) -> Result<Macros, NoAnswer> {
     let mut macros = added(alloc, &MACROS)?;
     let calls = "#e()".repeat(alloc, 16383)?;
     add(&mut macros, "m", &calls)?;
     Ok(macros)
 }
 
-#[test]
-fn texts_have_65536_bytes_and_calls(rt: HostRuntime) -> Result<(), Fail> {
-    let macros = with_calls(rt.alloc())?;
-    for (part, times, end, wanted) in LONG {
-        let text = repeated(rt.alloc(), part, times, end)?;
-        let found = shown(rt.alloc(), text.as_bytes(), &macros)?;
-        expect_length(&rt, &found, wanted);
-    }
-    Ok(())
+// How many bytes the expansion by these macros has, or the first fault.
+pub(crate) fn expansion_length(alloc: Global, text: &str) -> Result<String, NoAnswer> {
+    let found = shown(alloc, text, &with_calls(alloc)?)?;
+    Ok(if found.starts_with('!') {
+        found
+    } else {
+        found.len().to_string(alloc)?
+    })
 }
 
-// A call whose name has so many bytes: the longest name has 64.
-static NAMES: [(usize, Option<&str>); 3] = [(1, None), (64, None), (65, Some("! Syntax 0"))];
-
-// The expansion of a call of a macro with this name.
-fn shown_of(alloc: Global, name: &str) -> Result<String, Fail> {
-    let macros = added(alloc, &[(name, "text")])?;
-    let text = format!(in alloc; "#{name}()")?;
-    Ok(shown(alloc, text.as_bytes(), &macros)?)
-}
-
-#[test]
-fn names_have_64_bytes(rt: HostRuntime) -> Result<(), Fail> {
-    for (len, wanted) in NAMES {
-        let name = "a".repeat(rt.alloc(), len)?;
-        let found = shown_of(rt.alloc(), &name)?;
-        expect(&rt, &name, &found, wanted.unwrap_or("text"));
-    }
-    Ok(())
-}
-
-// Whether the macro of this name was added with this text.
-fn has(macros: &Macros, name: &str, text: &str) -> bool {
-    match macros.text_of(name.as_bytes()) {
-        Some(kept) => kept == text.as_bytes(),
-        None => false,
-    }
-}
+// Some calls within one another: what they open with, how many they are, what stands inside and what closes them; and how
+// many bytes they expand to, or a fault.
+static NESTED: [Repeated; 8] = [
+    ("#one(", 16, "x", ")", "97 bytes: 1"),
+    ("#one(", 17, "x", ")", "103 bytes: ! MacroDepth one"),
+    ("#tri(", 17, "x", ")", "103 bytes: ! MacroDepth tri"),
+    ("#two(", 13, "x=1", ")", "81 bytes: 49149"),
+    ("#two(", 14, "x=1", ")", "87 bytes: ! MacroLong"),
+    ("#d(", 16, "x", ")", "65 bytes: 65536"),
+    ("#d(", 15, "xy", ")", "62 bytes: 65536"),
+    ("#d(", 15, "xyz", ")", "63 bytes: ! MacroLong"),
+];
 
 #[test]
-fn the_last_text_added_stands(rt: HostRuntime) -> Result<(), Fail> {
-    let macros = added(rt.alloc(), &[("f", "x=1"), ("g", "x=2"), ("f", "x=3")])?;
-    assert!(rt; has(&macros, "f", "x=3"));
-    assert!(rt; has(&macros, "g", "x=2"));
-    assert!(rt; macros.text_of(b"h").is_none());
-    let found = shown(rt.alloc(), b"#f() & #g()", &macros)?;
-    assert_eq!(rt; found.as_str(), "x=3 & x=2");
-    Ok(())
+fn calls_nest_16_deep_and_texts_have_65536_bytes(rt: HostRuntime) {
+    expect_repeated(&rt, rt.alloc(), Asked::ExpansionLength, &NESTED);
+}
+
+// A part so many times and what follows: how many bytes the text expands to, or a fault.
+static LONG: [Repeated; 12] = [
+    ("x", 65536, "", "", "65536 bytes: 65536"),
+    ("x", 65537, "", "", "65537 bytes: ! MacroLong"),
+    ("x", 65536, "#e()", "", "65540 bytes: 65536"),
+    ("x", 65537, "#", "", "65538 bytes: ! MacroLong"),
+    ("x", 65536, "#", "", "65537 bytes: ! Syntax 65536"),
+    ("x", 65536, "#one(x)", "", "65543 bytes: ! MacroLong"),
+    ("#e()", 16384, "", "", "65536 bytes: 0"),
+    ("#m()", 4, "", "", "16 bytes: 0"),
+    ("#m()", 4, "#e()", "", "20 bytes: ! MacroLong"),
+    ("#m()", 4, "#tri()", "", "22 bytes: ! MacroLong"),
+    ("#m()", 4, "#", "", "17 bytes: ! Syntax 16"),
+    ("#m()", 3, "#e(#m())", "", "20 bytes: ! MacroLong"),
+];
+
+#[test]
+fn texts_have_65536_bytes_and_calls(rt: HostRuntime) {
+    expect_repeated(&rt, rt.alloc(), Asked::ExpansionLength, &LONG);
+}
+
+// How many bytes a macro's name has, and what a call of the macro expands to: the longest name has 64.
+static NAMES: [(&str, usize, &str); 3] = [
+    ("1 byte", 1, "text"),
+    ("64 bytes", 64, "text"),
+    ("65 bytes", 65, "! Syntax 0"),
+];
+
+// The expansion of a call of a macro whose name has so many bytes.
+fn named_call(alloc: Global, length: usize) -> Result<String, NoAnswer> {
+    let name = "a".repeat(alloc, length)?;
+    let macros = added(alloc, &[(&name, "text")])?;
+    let call = format!(in alloc; "#{name}()")?;
+    Ok(shown(alloc, &call, &macros)?)
+}
+
+#[test]
+fn names_have_64_bytes(rt: HostRuntime) {
+    for (row, length, wanted) in &NAMES {
+        expect_answer(&rt, row, &named_call(rt.alloc(), *length), wanted);
+    }
+}
+
+// Macros of which one is added twice.
+static TWICE: [(&str, &str); 3] = [("f", "x=1"), ("g", "x=2"), ("f", "x=3")];
+
+// The text that stands under a name, or none.
+fn kept(alloc: Global, name: &str) -> Result<String, NoAnswer> {
+    match added(alloc, &TWICE)?.text_of(name.as_bytes()) {
+        Some(text) => Ok(string_of(alloc, text)?),
+        None => Ok(String::from_str(alloc, "none")?),
+    }
+}
+
+// Their names, and what stands under each.
+static KEPT: [(&str, &str); 3] = [("f", "x=3"), ("g", "x=2"), ("h", "none")];
+
+// The expansion by them.
+fn expansion_by_last(alloc: Global) -> Result<String, NoAnswer> {
+    Ok(shown(alloc, "#f() & #g()", &added(alloc, &TWICE)?)?)
+}
+
+#[test]
+fn the_last_text_added_stands(rt: HostRuntime) {
+    for (name, wanted) in &KEPT {
+        expect_answer(&rt, name, &kept(rt.alloc(), name), wanted);
+    }
+    let found = expansion_by_last(rt.alloc());
+    expect_answer(&rt, "#f() & #g()", &found, "x=3 & x=2");
 }

@@ -1,14 +1,12 @@
 //! Formulas, and the steps by which they are decided. A step is written by its kind; `const` with its number and track, `project`
 //! with its track. A fresh track is written by its number after `#`.
 
-use crate::long_texts::repeated;
-use crate::parsed::{expect, formula_of};
+use crate::answers::{Asked, Repeated, expect_answers, expect_repeated};
+use crate::no_answer::NoAnswer;
 use formula_parse::tree::Formula;
 use formula_plan::{FormulaPlan, Making, Track, plan};
 use formula_resolve::Headers;
 use std::alloc::{AllocError, Global};
-use std::process::Abort;
-use std::test::Fail;
 
 // Terms and comparisons.
 static TERMS: [(&str, &str); 22] = [
@@ -160,7 +158,7 @@ fn write_step(alloc: Global, making: &Making, out: &mut String) -> Result<(), Al
 }
 
 // The plan of a formula over names without headers.
-fn planned(alloc: Global, formula: &Formula) -> Result<FormulaPlan, Fail> {
+fn planned(alloc: Global, formula: &Formula) -> Result<FormulaPlan, NoAnswer> {
     Ok(plan(alloc, formula, &Headers::new(alloc))?)
 }
 
@@ -173,55 +171,39 @@ fn written(alloc: Global, planned: &FormulaPlan) -> Result<String, AllocError> {
     Ok(out)
 }
 
-// The steps of the formula that a text is.
-fn steps(alloc: Global, text: &str) -> Result<String, Fail> {
-    let formula = formula_of(alloc, text.as_bytes())?;
-    let planned = planned(alloc, &formula)?;
-    Ok(written(alloc, &planned)?)
-}
-
-// Asserts that each text has its steps.
-fn expect_steps(rt: &impl Abort, alloc: Global, rows: &[(&str, &str)]) -> Result<(), Fail> {
-    for (text, wanted) in rows {
-        expect(rt, text, &steps(alloc, text)?, wanted);
-    }
-    Ok(())
+// The steps of a formula.
+pub(crate) fn steps(alloc: Global, formula: &Formula) -> Result<String, NoAnswer> {
+    Ok(written(alloc, &planned(alloc, formula)?)?)
 }
 
 #[test]
-fn terms_have_these_steps(rt: HostRuntime) -> Result<(), Fail> {
-    expect_steps(&rt, rt.alloc(), &TERMS)
+fn terms_have_these_steps(rt: HostRuntime) {
+    expect_answers(&rt, rt.alloc(), Asked::Steps, &TERMS);
 }
 
 #[test]
-fn formulas_have_these_steps(rt: HostRuntime) -> Result<(), Fail> {
-    expect_steps(&rt, rt.alloc(), &FORMULAS)
+fn formulas_have_these_steps(rt: HostRuntime) {
+    expect_answers(&rt, rt.alloc(), Asked::Steps, &FORMULAS);
 }
 
 #[test]
-fn calls_and_words_have_these_steps(rt: HostRuntime) -> Result<(), Fail> {
-    expect_steps(&rt, rt.alloc(), &NAMES)
+fn calls_and_words_have_these_steps(rt: HostRuntime) {
+    expect_answers(&rt, rt.alloc(), Asked::Steps, &NAMES);
 }
 
-// How many relations are made for a text, by steps or without.
-fn relations(alloc: Global, text: &str) -> Result<usize, Fail> {
-    let formula = formula_of(alloc, text.as_bytes())?;
-    let planned = planned(alloc, &formula)?;
-    Ok(planned.plans.makings().len())
+// How many relations are made for a formula, by steps or without.
+pub(crate) fn relations(alloc: Global, formula: &Formula) -> Result<usize, NoAnswer> {
+    Ok(planned(alloc, formula)?.plans.makings().len())
 }
 
-#[test]
-fn texts_of_65536_bytes_are_planned(rt: HostRuntime) -> Result<(), Fail> {
-    let chain = repeated(rt.alloc(), "x=1&", 16383, "x=12")?;
-    assert_eq!(rt; relations(rt.alloc(), &chain)?, 49151);
-    let sum = repeated(rt.alloc(), "x+", 32766, "x=12")?;
-    assert_eq!(rt; relations(rt.alloc(), &sum)?, 98302);
-    Ok(())
-}
+// A chain and a sum of 65,536 bytes, and quantifiers 128 deep, each with how many relations are made for it.
+static LONG: [Repeated; 3] = [
+    ("x=1&", 16383, "x=12", "", "65536 bytes: 49151"),
+    ("x+", 32766, "x=12", "", "65536 bytes: 98302"),
+    ("Ax Ey ", 64, "x<y", "", "387 bytes: 5"),
+];
 
 #[test]
-fn quantifiers_128_deep_are_planned(rt: HostRuntime) -> Result<(), Fail> {
-    let text = repeated(rt.alloc(), "Ax Ey ", 64, "x<y")?;
-    assert_eq!(rt; relations(rt.alloc(), &text)?, 5);
-    Ok(())
+fn long_texts_and_quantifiers_128_deep_are_planned(rt: HostRuntime) {
+    expect_repeated(&rt, rt.alloc(), Asked::Relations, &LONG);
 }

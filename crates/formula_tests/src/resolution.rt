@@ -1,17 +1,18 @@
 //! Formulas and their resolution: the free variables with their systems, `-` where there is none, or the fault with what it
 //! keeps; and the files and systems that formulas mention.
 
+use crate::answers::{
+    Asked, Repeated, expect_answer, expect_answers, expect_repeated, long_answer,
+};
 use crate::headers::headers;
 use crate::long_texts::repeated;
-use crate::parsed::{expect, formula_of};
+use crate::no_answer::NoAnswer;
 use digit_tuple::name::Name;
 use formula_parse::tree::Formula;
 use formula_resolve::{
     File, Headers, Mention, ResolveFault, Variable, first_files, first_systems, mentions, resolve,
 };
 use std::alloc::{AllocError, Global};
-use std::process::Abort;
-use std::test::Fail;
 
 // Texts and their resolution.
 static ROWS: [(&str, &str); 72] = [
@@ -112,18 +113,18 @@ static ROWS: [(&str, &str); 72] = [
     ("Ex T[x]=L[0]", "Direction msd_2 lsd_2"),
 ];
 
-// Texts, the files that they mention, and the systems.
-static MENTIONS: [(&str, &str, &str); 2] = [
-    (
-        "$g(1) & T[0]=@0 & (?msd_3 $f(1,2)) & $g(0) & ~?lsd_77 1=1",
-        "$g T $f",
-        "lsd_2 msd_2 msd_3 lsd_77",
-    ),
-    (
-        "$T(0) & T[0]=@0 & ?msd_41 $f(1,2) & U[0][0]=W[1]",
-        "$T T $f U W",
-        "msd_2 msd_41 msd_3",
-    ),
+// Texts with names and systems.
+const MARKED: &str = "$g(1) & T[0]=@0 & (?msd_3 $f(1,2)) & $g(0) & ~?lsd_77 1=1";
+
+const WORDS: &str = "$T(0) & T[0]=@0 & ?msd_41 $f(1,2) & U[0][0]=W[1]";
+
+// The files that they mention.
+static FILES: [(&str, &str); 2] = [(MARKED, "$g T $f"), (WORDS, "$T T $f U W")];
+
+// The systems that they mention.
+static SYSTEMS: [(&str, &str); 2] = [
+    (MARKED, "lsd_2 msd_2 msd_3 lsd_77"),
+    (WORDS, "msd_2 msd_41 msd_3"),
 ];
 
 // Variables with their systems, or `-`.
@@ -170,56 +171,48 @@ fn told(alloc: Global, fault: &ResolveFault) -> Result<String, AllocError> {
 }
 
 // The resolution of a formula, or its fault.
-fn resolution(alloc: Global, formula: &Formula, headers: &Headers) -> Result<String, Fail> {
+fn resolution(alloc: Global, formula: &Formula, headers: &Headers) -> Result<String, NoAnswer> {
     match resolve(alloc, formula, headers) {
         Ok(resolved) => Ok(written(alloc, &resolved.variables)?),
         Err(fault) => Ok(told(alloc, &fault)?),
     }
 }
 
-// The resolution of the formula that a text is, or its fault.
-fn resolution_of(alloc: Global, text: &str) -> Result<String, Fail> {
-    let formula = formula_of(alloc, text.as_bytes())?;
-    resolution(alloc, &formula, &headers(alloc)?)
-}
-
-// Asserts that each text has its resolution.
-fn expect_resolutions(rt: &impl Abort, alloc: Global, rows: &[(&str, &str)]) -> Result<(), Fail> {
-    for (text, wanted) in rows {
-        expect(rt, text, &resolution_of(alloc, text)?, wanted);
-    }
-    Ok(())
+// The resolution of a formula over the names in the rows, or its fault.
+pub(crate) fn resolution_of(alloc: Global, formula: &Formula) -> Result<String, NoAnswer> {
+    let headers = headers(alloc)?;
+    resolution(alloc, formula, &headers)
 }
 
 #[test]
-fn texts_have_this_resolution(rt: HostRuntime) -> Result<(), Fail> {
-    expect_resolutions(&rt, rt.alloc(), &ROWS)
+fn texts_have_this_resolution(rt: HostRuntime) {
+    expect_answers(&rt, rt.alloc(), Asked::Resolution, &ROWS);
 }
 
+// A chain, with its resolution.
+static LONG: [Repeated; 1] = [("x=1&", 16383, "x=12", "", "65536 bytes: x msd_2")];
+
 #[test]
-fn a_chain_of_65536_bytes_is_resolved(rt: HostRuntime) -> Result<(), Fail> {
-    let text = repeated(rt.alloc(), "x=1&", 16383, "x=12")?;
-    assert_eq!(rt; text.len(), 65536);
-    let found = resolution_of(rt.alloc(), &text)?;
-    expect(&rt, "a chain", &found, "x msd_2");
-    Ok(())
+fn a_chain_of_65536_bytes_is_resolved(rt: HostRuntime) {
+    expect_repeated(&rt, rt.alloc(), Asked::Resolution, &LONG);
 }
 
 // Parentheses 128 deep, which a chain follows.
 fn nested_text(alloc: Global) -> Result<String, AllocError> {
-    let mut text = repeated(alloc, "(", 128, "x=1")?;
-    text.push_str(&"&x=1)".repeat(alloc, 128)?)?;
-    text.push_str(&repeated(alloc, "&x=1", 16190, "&x=12")?)?;
+    let mut text = repeated(alloc, "(", 128, "x=1", "&x=1)")?;
+    text.push_str(&repeated(alloc, "&x=1", 16190, "&x=12", "")?)?;
     Ok(text)
 }
 
+// Their resolution, behind their length.
+fn nested_answer(alloc: Global) -> Result<String, NoAnswer> {
+    long_answer(alloc, Asked::Resolution, &nested_text(alloc)?)
+}
+
 #[test]
-fn a_nested_text_of_65536_bytes_is_resolved(rt: HostRuntime) -> Result<(), Fail> {
-    let text = nested_text(rt.alloc())?;
-    assert_eq!(rt; text.len(), 65536);
-    let found = resolution_of(rt.alloc(), &text)?;
-    expect(&rt, "a nested text", &found, "x msd_2");
-    Ok(())
+fn a_nested_text_of_65536_bytes_is_resolved(rt: HostRuntime) {
+    let found = nested_answer(rt.alloc());
+    expect_answer(&rt, "a nested text", &found, "65536 bytes: x msd_2");
 }
 
 // A name after those before it.
@@ -252,46 +245,35 @@ fn named(alloc: Global, names: &[Name]) -> Result<String, AllocError> {
     Ok(out)
 }
 
-// What the formula that a text is mentions.
-fn mentions_in(alloc: Global, text: &str) -> Result<Vec<Mention>, Fail> {
-    let formula = formula_of(alloc, text.as_bytes())?;
-    Ok(mentions(alloc, &formula)?)
+// What a formula mentions.
+fn mentions_in(alloc: Global, formula: &Formula) -> Result<Vec<Mention>, NoAnswer> {
+    Ok(mentions(alloc, formula)?)
 }
 
-// The files among what is mentioned, each once.
-fn files_of(alloc: Global, mentioned: &[Mention]) -> Result<String, Fail> {
-    let files = first_files(alloc, mentioned)?;
+// The files that a formula mentions, each once.
+pub(crate) fn files_in(alloc: Global, formula: &Formula) -> Result<String, NoAnswer> {
+    let files = first_files(alloc, &mentions_in(alloc, formula)?)?;
     Ok(listed(alloc, &files)?)
 }
 
-// The systems that it names, each once.
-fn systems_of(alloc: Global, mentioned: &[Mention], headers: &Headers) -> Result<String, Fail> {
+// The systems that a formula mentions, each once.
+pub(crate) fn systems_in(alloc: Global, formula: &Formula) -> Result<String, NoAnswer> {
+    let headers = headers(alloc)?;
+    systems_of(alloc, &mentions_in(alloc, formula)?, &headers)
+}
+
+// The systems among what is mentioned, each once.
+fn systems_of(alloc: Global, mentioned: &[Mention], headers: &Headers) -> Result<String, NoAnswer> {
     let systems = first_systems(alloc, mentioned, headers)?;
     Ok(named(alloc, &systems)?)
 }
 
-// The files that a text mentions.
-fn files_in(alloc: Global, text: &str) -> Result<String, Fail> {
-    files_of(alloc, &mentions_in(alloc, text)?)
-}
-
-// The systems that a text mentions.
-fn systems_in(alloc: Global, text: &str) -> Result<String, Fail> {
-    systems_of(alloc, &mentions_in(alloc, text)?, &headers(alloc)?)
+#[test]
+fn texts_mention_these_files(rt: HostRuntime) {
+    expect_answers(&rt, rt.alloc(), Asked::Files, &FILES);
 }
 
 #[test]
-fn texts_mention_these_files(rt: HostRuntime) -> Result<(), Fail> {
-    for (text, files, _) in MENTIONS {
-        expect(&rt, text, &files_in(rt.alloc(), text)?, files);
-    }
-    Ok(())
-}
-
-#[test]
-fn texts_mention_these_systems(rt: HostRuntime) -> Result<(), Fail> {
-    for (text, _, systems) in MENTIONS {
-        expect(&rt, text, &systems_in(rt.alloc(), text)?, systems);
-    }
-    Ok(())
+fn texts_mention_these_systems(rt: HostRuntime) {
+    expect_answers(&rt, rt.alloc(), Asked::Systems, &SYSTEMS);
 }

@@ -1,19 +1,25 @@
 //! Rules of morphisms: how they are printed, and their first faults.
 
+use crate::answers::{Asked, expect, expect_answers};
+use crate::long_texts::string_of;
+use crate::no_answer::NoAnswer;
 use morph_words::{Morphism, RulesFault};
 use std::alloc::Global;
-use std::process::Abort;
-use std::test::Fail;
 
 /// The rules of a text as they are printed.
-fn printed(alloc: Global, text: &[u8]) -> Result<Vec<u8>, Fail> {
-    let Ok(morphism) = Morphism::parse(alloc, text) else {
-        return Err(Fail::from("no rules"));
-    };
-    let Ok(printed) = morphism.print(alloc) else {
-        return Err(Fail::from("no memory"));
-    };
-    Ok(printed)
+pub(crate) fn rules_of(alloc: Global, text: &str) -> Result<String, NoAnswer> {
+    match Morphism::parse(alloc, text.as_bytes()) {
+        Ok(morphism) => printed(alloc, &morphism),
+        Err(_) => Err(NoAnswer),
+    }
+}
+
+/// Rules as they are printed.
+fn printed(alloc: Global, morphism: &Morphism) -> Result<String, NoAnswer> {
+    match morphism.print(alloc) {
+        Ok(bytes) => Ok(string_of(alloc, &bytes)?),
+        Err(_) => Err(NoAnswer),
+    }
 }
 
 /// The fault of a text, or none where it has rules.
@@ -24,49 +30,40 @@ fn fault(alloc: Global, text: &[u8]) -> Option<RulesFault> {
     }
 }
 
-static PRINTED: [(&[u8], &[u8]); 19] = [
-    (b"0->01 1->10", b"0->01 1->10\n"),
-    (b"0->01,1->10", b"0->01 1->10\n"),
-    (b"0->01 , , 1->10", b"0->01 1->10\n"),
-    (b"0->01 \t,\r\n1->10", b"0->01 1->10\n"),
-    (b"  0->01 1->10\t\n", b"0->01 1->10\n"),
-    (b"0 -> 01 1 ->10", b"0->01 1->10\n"),
-    (b"0 \t->\n 01  1-> 10", b"0->01 1->10\n"),
-    (b"1->10 0->01", b"0->01 1->10\n"),
-    (b"2->2,0->0,1->1", b"0->0 1->1 2->2\n"),
-    (b"5->56", b"5->56\n"),
-    (b"0->0123456789", b"0->0123456789\n"),
-    (b"[12]->[-1]3", b"[12]->[-1]3\n"),
-    (b"[-1]->[-1] [10]->[9]", b"[-1]->[-1] [10]->9\n"),
-    (b"9->9 [10]->[10] [-5]->9", b"[-5]->9 9->9 [10]->[10]\n"),
+static PRINTED: [(&str, &str); 19] = [
+    ("0->01 1->10", "0->01 1->10\n"),
+    ("0->01,1->10", "0->01 1->10\n"),
+    ("0->01 , , 1->10", "0->01 1->10\n"),
+    ("0->01 \t,\r\n1->10", "0->01 1->10\n"),
+    ("  0->01 1->10\t\n", "0->01 1->10\n"),
+    ("0 -> 01 1 ->10", "0->01 1->10\n"),
+    ("0 \t->\n 01  1-> 10", "0->01 1->10\n"),
+    ("1->10 0->01", "0->01 1->10\n"),
+    ("2->2,0->0,1->1", "0->0 1->1 2->2\n"),
+    ("5->56", "5->56\n"),
+    ("0->0123456789", "0->0123456789\n"),
+    ("[12]->[-1]3", "[12]->[-1]3\n"),
+    ("[-1]->[-1] [10]->[9]", "[-1]->[-1] [10]->9\n"),
+    ("9->9 [10]->[10] [-5]->9", "[-5]->9 9->9 [10]->[10]\n"),
     (
-        b"[-10]->0 [-9]->0 [100]->0 [11]->0",
-        b"[-10]->0 [-9]->0 [11]->0 [100]->0\n",
+        "[-10]->0 [-9]->0 [100]->0 [11]->0",
+        "[-10]->0 [-9]->0 [11]->0 [100]->0\n",
     ),
-    (b"[007]->[5]", b"7->5\n"),
-    (b"[-0]->[-00]", b"0->0\n"),
+    ("[007]->[5]", "7->5\n"),
+    ("[-0]->[-00]", "0->0\n"),
     (
-        b"[2147483647]->[-2147483648]",
-        b"[2147483647]->[-2147483648]\n",
+        "[2147483647]->[-2147483648]",
+        "[2147483647]->[-2147483648]\n",
     ),
     (
-        b"[-2147483648]->1 [2147483647]->2",
-        b"[-2147483648]->1 [2147483647]->2\n",
+        "[-2147483648]->1 [2147483647]->2",
+        "[-2147483648]->1 [2147483647]->2\n",
     ),
 ];
 
-// Asserts that each text is printed so.
-fn expect_printed(rt: &impl Abort, alloc: Global, rows: &[(&[u8], &[u8])]) -> Result<(), Fail> {
-    for (text, expected) in rows {
-        let found = printed(alloc, text)?;
-        assert_eq!(rt; found.as_slice(), *expected);
-    }
-    Ok(())
-}
-
 #[test]
-fn rules_are_printed(rt: HostRuntime) -> Result<(), Fail> {
-    expect_printed(&rt, rt.alloc(), &PRINTED)
+fn rules_are_printed(rt: HostRuntime) {
+    expect_answers(&rt, rt.alloc(), Asked::Rules, &PRINTED);
 }
 
 static FAULTS: [(&[u8], RulesFault); 56] = [
@@ -128,14 +125,9 @@ static FAULTS: [(&[u8], RulesFault); 56] = [
     (b"0[x]->1", RulesFault::Syntax(1)),
 ];
 
-// Asserts that each text has its fault.
-fn expect_faults(rt: &impl Abort, alloc: Global, rows: &[(&[u8], RulesFault)]) {
-    for (text, expected) in rows {
-        assert_eq!(rt; fault(alloc, text), Some(*expected));
-    }
-}
-
 #[test]
 fn rules_have_these_faults(rt: HostRuntime) {
-    expect_faults(&rt, rt.alloc(), &FAULTS);
+    for (text, wanted) in &FAULTS {
+        expect(&rt, text, &fault(rt.alloc(), text), &Some(*wanted));
+    }
 }

@@ -1,13 +1,12 @@
 //! Texts and their trees. A tree is written with each part in parentheses, and each atom in braces after its system.
 
-use crate::parsed::{expect, formula_of};
+use crate::answers::{Asked, expect_answers};
+use crate::no_answer::NoAnswer;
 use digit_tuple::name::Name;
 use formula_parse::tree::{
     Connective, Fact, Factor, Formula, Index, Quantifier, Relation, Sign, Term,
 };
 use std::alloc::{AllocError, Global};
-use std::process::Abort;
-use std::test::Fail;
 
 fn write_names(names: &[Name], between: char, out: &mut String) -> Result<(), AllocError> {
     let mut first = true;
@@ -196,11 +195,10 @@ fn write_formula(alloc: Global, formula: &Formula, out: &mut String) -> Result<(
     }
 }
 
-// The tree of a text.
-fn written(alloc: Global, text: &str) -> Result<String, Fail> {
-    let tree = formula_of(alloc, text.as_bytes())?;
+// A tree as a text.
+pub(crate) fn tree_of(alloc: Global, tree: &Formula) -> Result<String, NoAnswer> {
     let mut written = String::new(alloc);
-    write_formula(alloc, &tree, &mut written)?;
+    write_formula(alloc, tree, &mut written)?;
     Ok(written)
 }
 
@@ -309,15 +307,7 @@ static TREES: [(&str, &str); 50] = [
     ("18446744073709551615<x", "{msd_2 18446744073709551615<x}"),
 ];
 
-// Asserts that each text has its tree.
-fn expect_trees(rt: &impl Abort, alloc: Global, rows: &[(&str, &str)]) -> Result<(), Fail> {
-    for (text, expected) in rows {
-        expect(rt, text, &written(alloc, text)?, expected);
-    }
-    Ok(())
-}
-
 #[test]
-fn texts_have_these_trees(rt: HostRuntime) -> Result<(), Fail> {
-    expect_trees(&rt, rt.alloc(), &TREES)
+fn texts_have_these_trees(rt: HostRuntime) {
+    expect_answers(&rt, rt.alloc(), Asked::Tree, &TREES);
 }

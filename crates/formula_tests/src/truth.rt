@@ -1,12 +1,11 @@
 //! Formulas, and the numbers for which they are true, worked by arithmetic.
 
-use crate::parsed::{expect, formula_of};
+use crate::answers::expect_true;
+use crate::no_answer::NoAnswer;
 use digit_tuple::name::Name;
 use formula_parse::tree::Formula;
 use formula_truth::{Given, holds_below};
 use std::alloc::Global;
-use std::process::Abort;
-use std::test::Fail;
 
 // Texts, their free variables, and the numbers below 6 for these for which they are true, a digit for each variable: comparisons of terms.
 static TERMS: [(&str, &str, &str); 22] = [
@@ -139,17 +138,17 @@ static NAMES: [(&str, &str, &str); 4] = [
 ];
 
 // The name of one byte.
-fn name_of(alloc: Global, byte: u8) -> Result<Name, Fail> {
+fn name_of(alloc: Global, byte: u8) -> Result<Name, NoAnswer> {
     let mut text = String::new(alloc);
     text.push(char::from(byte))?;
     match Name::new(alloc, text.as_str()) {
         Ok(name) => Ok(name),
-        Err(_) => Err(Fail::from("memory")),
+        Err(_) => Err(NoAnswer),
     }
 }
 
 // Numbers below 6 for some variables, by their digits.
-fn given(alloc: Global, variables: &str, mut digits: u64) -> Result<Vec<Given>, Fail> {
+fn given(alloc: Global, variables: &str, mut digits: u64) -> Result<Vec<Given>, NoAnswer> {
     let mut given = Vec::new(alloc);
     for variable in variables.bytes().rev() {
         given.push(Given {
@@ -171,7 +170,7 @@ fn lists(variables: &str) -> u64 {
 }
 
 // The digits of numbers below 6, one for each variable.
-fn shown(given: &[Given], out: &mut String) -> Result<(), Fail> {
+fn shown(given: &[Given], out: &mut String) -> Result<(), NoAnswer> {
     if !out.is_empty() {
         out.push(' ')?;
     }
@@ -182,10 +181,10 @@ fn shown(given: &[Given], out: &mut String) -> Result<(), Fail> {
 }
 
 // Whether a formula is true of these numbers.
-fn is_true(alloc: Global, formula: &Formula, numbers: &[Given]) -> Result<bool, Fail> {
+fn is_true(alloc: Global, formula: &Formula, numbers: &[Given]) -> Result<bool, NoAnswer> {
     match holds_below(alloc, formula, numbers, 40) {
         Ok(truth) => Ok(truth),
-        Err(_) => Err(Fail::from("undecided")),
+        Err(_) => Err(NoAnswer),
     }
 }
 
@@ -196,7 +195,7 @@ fn show_true(
     variables: &str,
     digits: u64,
     out: &mut String,
-) -> Result<(), Fail> {
+) -> Result<(), NoAnswer> {
     let numbers = given(alloc, variables, digits)?;
     if is_true(alloc, formula, &numbers)? {
         shown(&numbers, out)?;
@@ -204,40 +203,35 @@ fn show_true(
     Ok(())
 }
 
-// The numbers below 6 for which a text is true.
-fn true_of(alloc: Global, text: &str, variables: &str) -> Result<String, Fail> {
-    let formula = formula_of(alloc, text.as_bytes())?;
+// The numbers below 6 for which a formula is true.
+pub(crate) fn true_of(
+    alloc: Global,
+    formula: &Formula,
+    variables: &str,
+) -> Result<String, NoAnswer> {
     let mut out = String::new(alloc);
     for digits in 0..lists(variables) {
-        show_true(alloc, &formula, variables, digits, &mut out)?;
+        show_true(alloc, formula, variables, digits, &mut out)?;
     }
     Ok(out)
 }
 
-// Asserts that each text is true of its numbers.
-fn expect_true(rt: &impl Abort, alloc: Global, rows: &[(&str, &str, &str)]) -> Result<(), Fail> {
-    for (text, variables, wanted) in rows {
-        expect(rt, text, &true_of(alloc, text, variables)?, wanted);
-    }
-    Ok(())
+#[test]
+fn comparisons_of_terms_are_true_of_these_numbers(rt: HostRuntime) {
+    expect_true(&rt, rt.alloc(), &TERMS);
 }
 
 #[test]
-fn comparisons_of_terms_are_true_of_these_numbers(rt: HostRuntime) -> Result<(), Fail> {
-    expect_true(&rt, rt.alloc(), &TERMS)
+fn chains_are_true_of_these_numbers(rt: HostRuntime) {
+    expect_true(&rt, rt.alloc(), &CONNECTIVES);
 }
 
 #[test]
-fn chains_are_true_of_these_numbers(rt: HostRuntime) -> Result<(), Fail> {
-    expect_true(&rt, rt.alloc(), &CONNECTIVES)
+fn quantified_formulas_are_true_of_these_numbers(rt: HostRuntime) {
+    expect_true(&rt, rt.alloc(), &QUANTIFIERS);
 }
 
 #[test]
-fn quantified_formulas_are_true_of_these_numbers(rt: HostRuntime) -> Result<(), Fail> {
-    expect_true(&rt, rt.alloc(), &QUANTIFIERS)
-}
-
-#[test]
-fn names_without_meaning_are_true_of_these_numbers(rt: HostRuntime) -> Result<(), Fail> {
-    expect_true(&rt, rt.alloc(), &NAMES)
+fn names_without_meaning_are_true_of_these_numbers(rt: HostRuntime) {
+    expect_true(&rt, rt.alloc(), &NAMES);
 }

@@ -1,5 +1,6 @@
 //! The adapters over the system's own readers, writers and files.
 
+use crate::outcomes::{expect_bytes, expect_value};
 use std::io::{ErrorKind, Read, Write};
 use std::process::Abort;
 use std::test::Fail;
@@ -52,27 +53,18 @@ fn one_read(source: &mut StdSource<Flaky>) -> (Result<usize, Failed>, [u8; 4], u
 }
 
 // What the reads of a source give.
-static READS: [(Result<usize, Failed>, [u8; 4], u64); 3] = [
-    (Ok(1), *b"x\0\0\0", 0),
-    (Ok(0), [0; 4], 0),
-    (Err(Failed), [0; 4], 1),
+static READS: [(&str, (Result<usize, Failed>, [u8; 4], u64)); 3] = [
+    ("read 1", (Ok(1), *b"x\0\0\0", 0)),
+    ("read 2", (Ok(0), [0; 4], 0)),
+    ("read 3", (Err(Failed), [0; 4], 1)),
 ];
-
-// Asserts that the reads of a source give this.
-fn expect_reads(
-    rt: &impl Abort,
-    source: &mut StdSource<Flaky>,
-    rows: &[(Result<usize, Failed>, [u8; 4], u64)],
-) {
-    for wanted in rows {
-        assert_eq!(rt; one_read(source), *wanted);
-    }
-}
 
 #[test]
 fn a_reader_is_a_source(rt: HostRuntime) {
     let mut source = StdSource::new(Flaky { calls: 0 });
-    expect_reads(&rt, &mut source, &READS);
+    for (row, wanted) in &READS {
+        expect_value(&rt, row, &one_read(&mut source), wanted);
+    }
 }
 
 // One write to a sink, and how many faults the sink counts.
@@ -82,27 +74,18 @@ fn one_write(sink: &mut StdSink<Flaky>) -> (Result<usize, WriteFault>, u64) {
 }
 
 // What the writes to a sink give.
-static WRITES: [(Result<usize, WriteFault>, u64); 3] = [
-    (Ok(1), 0),
-    (Ok(0), 1),
-    (Err(WriteFault::Failed), 2),
+static WRITES: [(&str, (Result<usize, WriteFault>, u64)); 3] = [
+    ("write 1", (Ok(1), 0)),
+    ("write 2", (Ok(0), 1)),
+    ("write 3", (Err(WriteFault::Failed), 2)),
 ];
-
-// Asserts that the writes to a sink give this.
-fn expect_writes(
-    rt: &impl Abort,
-    sink: &mut StdSink<Flaky>,
-    rows: &[(Result<usize, WriteFault>, u64)],
-) {
-    for wanted in rows {
-        assert_eq!(rt; one_write(sink), *wanted);
-    }
-}
 
 #[test]
 fn a_writer_is_a_sink(rt: HostRuntime) {
     let mut sink = StdSink::new(Flaky { calls: 0 });
-    expect_writes(&rt, &mut sink, &WRITES);
+    for (row, wanted) in &WRITES {
+        expect_value(&rt, row, &one_write(&mut sink), wanted);
+    }
 }
 
 const FOLDER: &str = "folder_store_test";
@@ -128,7 +111,7 @@ fn expect_found(
     wanted: Found,
     into: &mut Vec<u8>,
 ) {
-    assert_eq!(rt; store.read(folder, name, into), wanted);
+    expect_value(rt, name, &store.read(folder, name, into), &wanted);
 }
 
 // Asserts what a writing call of a store gives.
@@ -139,12 +122,7 @@ fn expect_kept(
     text: &[u8],
     wanted: Result<(), WriteFault>,
 ) {
-    assert_eq!(rt; store.write(folder, name, text), wanted);
-}
-
-// Asserts that bytes are these.
-fn expect_bytes(rt: &impl Abort, found: &[u8], wanted: &[u8]) {
-    assert_eq!(rt; found, wanted);
+    expect_value(rt, name, &store.write(folder, name, text), &wanted);
 }
 
 // Asserts that a store gives a text that was written over a longer one.
@@ -155,18 +133,18 @@ fn expect_overwritten(
 ) {
     let place = (Folder::Automata, "a");
     expect_found(rt, store, place, Found::Absent, into);
-    expect_bytes(rt, into, b"");
+    expect_bytes(rt, "a", into, b"");
     expect_kept(rt, store, place, b"first, longer", Ok(()));
     expect_kept(rt, store, place, b"one", Ok(()));
     expect_found(rt, store, place, Found::Found, into);
-    expect_bytes(rt, into, b"one");
+    expect_bytes(rt, "a", into, b"one");
 }
 
 // Asserts that a store reads and writes nothing outside its folders.
 fn expect_inside(rt: &impl Abort, store: &mut FolderStore<'_, HostRuntime>, into: &mut Vec<u8>) {
     let outside = (Folder::Automata, "../Automata Library/a");
     expect_found(rt, store, outside, Found::Absent, into);
-    assert_eq!(rt; store.faults(), 0);
+    expect_value(rt, "faults", &store.faults(), &0);
     let refused = Err(WriteFault::Failed);
     expect_kept(rt, store, (Folder::Automata, "../a"), b"one", refused);
 }
@@ -176,7 +154,7 @@ fn expect_failed(rt: &impl Abort, store: &mut FolderStore<'_, HostRuntime>, into
     let place = (Folder::Results, "a");
     expect_found(rt, store, place, Found::Failed, into);
     expect_kept(rt, store, place, b"one", Err(WriteFault::Failed));
-    assert_eq!(rt; store.faults(), 3);
+    expect_value(rt, "faults", &store.faults(), &3);
 }
 
 // The text of the file that a store wrote.
@@ -197,9 +175,9 @@ fn a_folder_is_a_store(rt: HostRuntime) -> Result<(), Fail> {
     let mut store = FolderStore::new(&rt, rt.alloc());
     let mut into = Vec::from_slice(rt.alloc(), b"old")?;
     expect_overwritten(&rt, &mut store, &mut into);
-    expect_bytes(&rt, text_of(&rt)?.as_bytes(), b"one");
+    expect_bytes(&rt, "the file", text_of(&rt)?.as_bytes(), b"one");
     expect_inside(&rt, &mut store, &mut into);
-    assert!(rt; !replaced(&rt)?);
+    expect_value(&rt, "a file outside", &replaced(&rt)?, &false);
     expect_failed(&rt, &mut store, &mut into);
     leave(&rt)
 }

@@ -3,7 +3,7 @@
 ghost use Rattle.std.specs.Prelude.{◌≡◌, IsTrue};
 
 use crate::headers::header_of;
-use crate::outcomes::expect;
+use crate::outcomes::{expect, expect_value};
 use crate::row_fault::RowFault;
 use crate::table_texts::listed;
 use determinise::subset_construction::determinise;
@@ -16,7 +16,6 @@ use digit_tuple::name::Name;
 use digit_tuple::nfa::Nfa;
 use digit_tuple::systems::Systems;
 use std::alloc::Global;
-use std::process::Abort;
 
 // The text of an automaton over the header's tracks.
 fn text_of(alloc: Global, header: &Header, line: &str) -> Result<String, RowFault> {
@@ -68,21 +67,11 @@ fn text_over(alloc: Global, tracks: &[&[i32]], line: &str) -> Result<String, Row
     text_of(alloc, &header_of(alloc, tracks)?, line)
 }
 
-// Asserts that each automaton has this text.
-fn expect_texts(
-    rt: &impl Abort,
-    alloc: Global,
-    rows: &[(&[&[i32]], &str, &str)],
-) -> Result<(), RowFault> {
-    for (tracks, line, wanted) in rows {
-        expect(rt, line, &text_over(alloc, tracks, line)?, wanted);
-    }
-    Ok(())
-}
-
 #[test]
-fn automata_over_sets_have_these_texts(rt: HostRuntime) -> Result<(), RowFault> {
-    expect_texts(&rt, rt.alloc(), &TEXTS)
+fn automata_over_sets_have_these_texts(rt: HostRuntime) {
+    for (tracks, line, wanted) in &TEXTS {
+        expect(&rt, line, &text_over(rt.alloc(), tracks, line), wanted);
+    }
 }
 
 // The header of base 2 and base 12.
@@ -93,16 +82,19 @@ fn header_of_bases(alloc: Global) -> Result<Header, RowFault> {
     Ok(Header::Systems(systems))
 }
 
-#[test]
-fn automata_over_systems_have_their_digits(rt: HostRuntime) -> Result<(), RowFault> {
-    let header = header_of_bases(rt.alloc())?;
-    let text = text_of(rt.alloc(), &header, "x:2 y:12 = /! 0>0 23>0")?;
-    let wanted = "msd_2 msd_12\n\n0 1\n0 0 -> 0\n1 11 -> 0\n";
-    expect(&rt, "two systems", &text, wanted);
-    Ok(())
+// The text of an automaton over base 2 and base 12.
+fn text_over_bases(alloc: Global, line: &str) -> Result<String, RowFault> {
+    text_of(alloc, &header_of_bases(alloc)?, line)
 }
 
-// The text of an automaton over sets whose states have these outputs.
+#[test]
+fn automata_over_systems_have_their_digits(rt: HostRuntime) {
+    let text = text_over_bases(rt.alloc(), "x:2 y:12 = /! 0>0 23>0");
+    let wanted = "msd_2 msd_12\n\n0 1\n0 0 -> 0\n1 11 -> 0\n";
+    expect(&rt, "two systems", &text, wanted);
+}
+
+// The text of an automaton over the header's tracks whose states have these outputs.
 fn word_text(
     alloc: Global,
     header: &Header,
@@ -118,18 +110,17 @@ fn word_text(
     }
 }
 
+// The same over base 2 and base 12.
+fn word_over_bases(alloc: Global, line: &str, outputs: &[i32]) -> Result<String, RowFault> {
+    word_text(alloc, &header_of_bases(alloc)?, line, outputs)
+}
+
 #[test]
-fn automata_with_outputs_have_their_letters(rt: HostRuntime) -> Result<(), RowFault> {
-    let header = header_of_bases(rt.alloc())?;
-    let text = word_text(
-        rt.alloc(),
-        &header,
-        "x:2 y:12 = / 0>0 23>1/!",
-        &[-3, 2147483647],
-    )?;
+fn automata_with_outputs_have_their_letters(rt: HostRuntime) {
+    let line = "x:2 y:12 = / 0>0 23>1/!";
+    let text = word_over_bases(rt.alloc(), line, &[-3, 2147483647]);
     let wanted = "msd_2 msd_12\n\n0 -3\n0 0 -> 0\n1 11 -> 1\n\n1 2147483647\n";
     expect(&rt, "outputs", &text, wanted);
-    Ok(())
 }
 
 // A file as it is printed, and one as it may be written by hand.
@@ -138,14 +129,14 @@ const PRINTED: &str = "{0,1}\n\n0 0\n0 -> 1\n1 -> 2\n\n1 0\n0 -> 1\n1 -> 2\n\n2 
 const BY_HAND: &str = "# a file by hand\r\n\n { 1 ,0}{5,-3}\r\n007 -2\n*\t-3->9 7\n9 0";
 
 // A file, the letters of a word, and whether the file accepts it.
-static WORDS: [(&str, &[u32], bool); 7] = [
-    (PRINTED, &[], false),
-    (PRINTED, &[0], false),
-    (PRINTED, &[0, 1], true),
-    (PRINTED, &[0, 2], false),
-    (BY_HAND, &[], true),
-    (BY_HAND, &[2], true),
-    (BY_HAND, &[2, 3], false),
+static WORDS: [(&str, &str, &[u32], bool); 7] = [
+    ("printed, no letter", PRINTED, &[], false),
+    ("printed, 0", PRINTED, &[0], false),
+    ("printed, 0 1", PRINTED, &[0, 1], true),
+    ("printed, 0 2", PRINTED, &[0, 2], false),
+    ("by hand, no letter", BY_HAND, &[], true),
+    ("by hand, 2", BY_HAND, &[2], true),
+    ("by hand, 2 3", BY_HAND, &[2, 3], false),
 ];
 
 // Whether a short file over sets accepts a word of letters.
@@ -168,22 +159,12 @@ fn table_over_sets(alloc: Global, listed: &Listed) -> Result<Nfa, RowFault> {
     }
 }
 
-// Asserts that each file accepts its word, or not.
-fn expect_words(
-    rt: &impl Abort,
-    alloc: Global,
-    rows: &[(&str, &[u32], bool)],
-) -> Result<(), RowFault> {
-    for (text, word, wanted) in rows {
-        let found = accepts_word(alloc, text.as_bytes(), word)?;
-        assert_eq!(rt; found, *wanted, "of {text}");
-    }
-    Ok(())
-}
-
 #[test]
-fn files_accept_these_words(rt: HostRuntime) -> Result<(), RowFault> {
-    expect_words(&rt, rt.alloc(), &WORDS)
+fn files_accept_these_words(rt: HostRuntime) {
+    for (row, text, word, wanted) in &WORDS {
+        let found = accepts_word(rt.alloc(), text.as_bytes(), word).ok();
+        expect_value(&rt, row, &found, &Some(*wanted));
+    }
 }
 
 // What stands in a short file: how many states, or the line of the fault.
@@ -213,15 +194,9 @@ static FILES: [(&str, Result<usize, u64>); 11] = [
     ("{0}\n0 1\n\n0 1\n", Err(4)),
 ];
 
-// Asserts that each file lists so many states, or has its fault in this line.
-fn expect_files(rt: &impl Abort, alloc: Global, rows: &[(&str, Result<usize, u64>)]) {
-    for (text, wanted) in rows {
-        let found = states_in(alloc, text.as_bytes());
-        assert_eq!(rt; found, *wanted, "of {text}");
-    }
-}
-
 #[test]
 fn files_are_read_or_name_a_line(rt: HostRuntime) {
-    expect_files(&rt, rt.alloc(), &FILES);
+    for (text, wanted) in &FILES {
+        expect_value(&rt, text, &states_in(rt.alloc(), text.as_bytes()), wanted);
+    }
 }

@@ -1,23 +1,23 @@
 //! Base k, by sums worked by hand.
 
+use crate::outcomes::expect_value;
 use crate::row_fault::RowFault;
 use base_k::base_k::{BaseK, GREATEST_BASE, LEAST_BASE};
 use digit_tuple::direction::Direction;
 use num_system::num_system::NumSystem;
 use std::alloc::Global;
-use std::process::Abort;
 
-// A system, a word that spells 5, 7 and 12 in it, and one that spells 5, 7 and 13. The letter of the digits x, y and z
+// A system by its name, its base and its direction, a word that spells 5, 7 and 12 in it, and one that spells 5, 7 and 13. The letter of the digits x, y and z
 // in base k is k * k * x + k * y + z.
-pub static SUMS: [(u32, Direction, &[u32], &[u32]); 8] = [
-    (2, Direction::Msd, &[1, 7, 2, 6], &[1, 7, 2, 7]),
-    (2, Direction::Lsd, &[6, 2, 7, 1], &[7, 2, 7, 1]),
-    (3, Direction::Msd, &[1, 16, 21], &[1, 16, 22]),
-    (3, Direction::Lsd, &[21, 16, 1], &[22, 16, 1]),
-    (10, Direction::Msd, &[1, 572], &[1, 573]),
-    (10, Direction::Lsd, &[572, 1], &[573, 1]),
-    (40, Direction::Msd, &[8292], &[8293]),
-    (40, Direction::Lsd, &[8292], &[8293]),
+pub static SUMS: [(&str, u32, Direction, &[u32], &[u32]); 8] = [
+    ("msd_2", 2, Direction::Msd, &[1, 7, 2, 6], &[1, 7, 2, 7]),
+    ("lsd_2", 2, Direction::Lsd, &[6, 2, 7, 1], &[7, 2, 7, 1]),
+    ("msd_3", 3, Direction::Msd, &[1, 16, 21], &[1, 16, 22]),
+    ("lsd_3", 3, Direction::Lsd, &[21, 16, 1], &[22, 16, 1]),
+    ("msd_10", 10, Direction::Msd, &[1, 572], &[1, 573]),
+    ("lsd_10", 10, Direction::Lsd, &[572, 1], &[573, 1]),
+    ("msd_40", 40, Direction::Msd, &[8292], &[8293]),
+    ("lsd_40", 40, Direction::Lsd, &[8292], &[8293]),
 ];
 
 // Whether a system of these digits takes the words over them alone, and the adder accepts a word.
@@ -53,22 +53,14 @@ fn adder_takes(alloc: Global, system: &BaseK, word: &[u32]) -> Result<bool, RowF
     Ok(system.adder(alloc)?.accepts(word))
 }
 
-// Asserts that the one word of each row is a sum, and the other not.
-fn expect_sums(
-    rt: &impl Abort,
-    alloc: Global,
-    rows: &[(u32, Direction, &[u32], &[u32])],
-) -> Result<(), RowFault> {
-    for (base, direction, right, wrong) in rows {
-        assert!(rt; adds(alloc, *base, *direction, right)?, "in base {base}");
-        assert!(rt; !adds(alloc, *base, *direction, wrong)?, "in base {base}");
-    }
-    Ok(())
-}
-
 #[test]
-fn five_and_seven_are_twelve(rt: HostRuntime) -> Result<(), RowFault> {
-    expect_sums(&rt, rt.alloc(), &SUMS)
+fn five_and_seven_are_twelve(rt: HostRuntime) {
+    for (row, base, direction, right, wrong) in &SUMS {
+        let is_sum = adds(rt.alloc(), *base, *direction, right).ok();
+        expect_value(&rt, row, &is_sum, &Some(true));
+        let is_other = adds(rt.alloc(), *base, *direction, wrong).ok();
+        expect_value(&rt, row, &is_other, &Some(false));
+    }
 }
 
 // Whether there is a base of this number in both directions, or in none.
@@ -79,21 +71,16 @@ fn is_base(number: u32) -> Option<bool> {
 }
 
 // Numbers, and whether there is a base of each.
-static BASES: [(u32, bool); 4] = [
-    (LEAST_BASE - 1, false),
-    (2, true),
-    (40, true),
-    (GREATEST_BASE + 1, false),
+static BASES: [(&str, u32, bool); 4] = [
+    ("below the least", LEAST_BASE - 1, false),
+    ("2", 2, true),
+    ("40", 40, true),
+    ("past the greatest", GREATEST_BASE + 1, false),
 ];
-
-// Asserts that there are bases of these numbers, and not of the others.
-fn expect_bases(rt: &impl Abort, rows: &[(u32, bool)]) {
-    for (number, there) in rows {
-        assert_eq!(rt; is_base(*number), Some(*there));
-    }
-}
 
 #[test]
 fn bases_are_2_to_40(rt: HostRuntime) {
-    expect_bases(&rt, &BASES);
+    for (row, number, there) in &BASES {
+        expect_value(&rt, row, &is_base(*number), &Some(*there));
+    }
 }

@@ -1,7 +1,7 @@
 //! Texts of expressions, with their trees by hand, and texts that are none.
 
 use crate::headers::header_of;
-use crate::outcomes::expect;
+use crate::outcomes::{expect, expect_value};
 use crate::row_fault::RowFault;
 use digit_tuple::header::Header;
 use reference::words::{Word, all_words};
@@ -10,7 +10,6 @@ use regex_build::parse;
 use regex_build::postfix_symbol::PostfixSymbol;
 use regex_build::regex::Regex;
 use std::alloc::Global;
-use std::process::Abort;
 
 // Writes the members of a letter.
 fn show_members(alloc: Global, members: &[i32], text: &mut String) -> Result<(), RowFault> {
@@ -66,40 +65,28 @@ static TREES: [(&str, &str); 11] = [
     ("[0]+", "'0+"),
 ];
 
-// The symbols in postfix order of the expression of a text.
-fn tree(alloc: Global, header: &Header, text: &str) -> Result<String, RowFault> {
-    shown(alloc, &parse(alloc, text.as_bytes(), header)?)
+// The symbols in postfix order of the expression of a text over sets.
+fn tree(alloc: Global, tracks: &[&[i32]], text: &str) -> Result<String, RowFault> {
+    let header = header_of(alloc, tracks)?;
+    shown(alloc, &parse(alloc, text.as_bytes(), &header)?)
 }
 
-// Asserts that each text has these symbols.
-fn expect_trees(
-    rt: &impl Abort,
-    alloc: Global,
-    header: &Header,
-    rows: &[(&str, &str)],
-) -> Result<(), RowFault> {
-    for (text, symbols) in rows {
-        expect(rt, text, &tree(alloc, header, text)?, symbols);
+#[test]
+fn trees_over_one_set(rt: HostRuntime) {
+    for (text, symbols) in &TREES {
+        let found = tree(rt.alloc(), &[&[-1, 0, 1, 7, 10]], text);
+        expect(&rt, text, &found, symbols);
     }
-    Ok(())
 }
 
-#[test]
-fn trees_over_one_set(rt: HostRuntime) -> Result<(), RowFault> {
-    let header = header_of(rt.alloc(), &[&[-1, 0, 1, 7, 10]])?;
-    expect_trees(&rt, rt.alloc(), &header, &TREES)
-}
-
-// A text over two sets, and its symbols in postfix order.
-static OVER_TWO_SETS: [(&str, &str); 1] = [(
-    "[0,-2147483648].|[1,2147483647]*",
-    "'0'-2147483648.&'1'2147483647*|",
-)];
+// Two sets.
+const TWO_SETS: &[&[i32]] = &[&[0, 1], &[-2147483648, 2147483647]];
 
 #[test]
-fn trees_over_two_sets(rt: HostRuntime) -> Result<(), RowFault> {
-    let header = header_of(rt.alloc(), &[&[0, 1], &[-2147483648, 2147483647]])?;
-    expect_trees(&rt, rt.alloc(), &header, &OVER_TWO_SETS)
+fn trees_over_two_sets(rt: HostRuntime) {
+    let text = "[0,-2147483648].|[1,2147483647]*";
+    let symbols = "'0'-2147483648.&'1'2147483647*|";
+    expect(&rt, text, &tree(rt.alloc(), TWO_SETS, text), symbols);
 }
 
 // Sets, texts over them, and their faults.
@@ -155,26 +142,12 @@ fn fault_over(
     Ok(fault_of(alloc, &header, text.as_bytes()))
 }
 
-// Asserts that a row has this fault, or none.
-fn expect_fault(rt: &impl Abort, row: &str, found: Option<RegexFault>, wanted: Option<RegexFault>) {
-    assert_eq!(rt; found, wanted, "of {row}");
-}
-
-// Asserts that each text has its fault, or none.
-fn expect_faults(
-    rt: &impl Abort,
-    alloc: Global,
-    rows: &[(&[&[i32]], &str, Option<RegexFault>)],
-) -> Result<(), RowFault> {
-    for (tracks, text, fault) in rows {
-        expect_fault(rt, text, fault_over(alloc, tracks, text)?, *fault);
-    }
-    Ok(())
-}
-
 #[test]
-fn texts_have_these_faults(rt: HostRuntime) -> Result<(), RowFault> {
-    expect_faults(&rt, rt.alloc(), &FAULTS)
+fn texts_have_these_faults(rt: HostRuntime) {
+    for (tracks, text, fault) in &FAULTS {
+        let found = fault_over(rt.alloc(), tracks, text).ok();
+        expect_value(&rt, text, &found, &Some(*fault));
+    }
 }
 
 // The fault of so many parentheses in one another, if they have one.
@@ -185,12 +158,11 @@ fn fault_of_nesting(alloc: Global, depth: usize) -> Result<Option<RegexFault>, R
 }
 
 #[test]
-fn parentheses_nest_128_deep(rt: HostRuntime) -> Result<(), RowFault> {
-    let most = fault_of_nesting(rt.alloc(), 128)?;
-    expect_fault(&rt, "128", most, None);
-    let more = fault_of_nesting(rt.alloc(), 129)?;
-    expect_fault(&rt, "129", more, Some(RegexFault::Depth(128)));
-    Ok(())
+fn parentheses_nest_128_deep(rt: HostRuntime) {
+    let most = fault_of_nesting(rt.alloc(), 128).ok();
+    expect_value(&rt, "128", &most, &Some(None));
+    let more = fault_of_nesting(rt.alloc(), 129).ok();
+    expect_value(&rt, "129", &more, &Some(Some(RegexFault::Depth(128))));
 }
 
 // How many texts over these bytes have an expression, up to a length.
@@ -254,20 +226,10 @@ fn read_over(
     read(alloc, &header, bytes.as_bytes(), longest)
 }
 
-// Asserts that so many of each row's texts are expressions.
-fn expect_read(
-    rt: &impl Abort,
-    alloc: Global,
-    rows: &[(&[&[i32]], &str, usize, usize)],
-) -> Result<(), RowFault> {
-    for (tracks, bytes, longest, count) in rows {
-        let found = read_over(alloc, tracks, bytes, *longest)?;
-        assert_eq!(rt; found, *count, "over {bytes}");
-    }
-    Ok(())
-}
-
 #[test]
-fn expressions_are_counted(rt: HostRuntime) -> Result<(), RowFault> {
-    expect_read(&rt, rt.alloc(), &READ)
+fn expressions_are_counted(rt: HostRuntime) {
+    for (tracks, bytes, longest, count) in &READ {
+        let found = read_over(rt.alloc(), tracks, bytes, *longest).ok();
+        expect_value(&rt, bytes, &found, &Some(*count));
+    }
 }

@@ -2,7 +2,7 @@
 
 ghost use Rattle.std.specs.Prelude.{◌≡◌};
 
-use crate::outcomes::expect;
+use crate::outcomes::{expect, expect_so, expect_value};
 use crate::row_fault::RowFault;
 use crate::table_texts::sets_of;
 use digit_tuple::alphabet::Alphabet;
@@ -13,7 +13,6 @@ use digit_tuple::names::{are_distinct, find_name, joint_names, names_without};
 use digit_tuple::sets::Sets;
 use digit_tuple::systems::Systems;
 use std::alloc::Global;
-use std::process::Abort;
 
 /// Names with these texts.
 pub fn names_of(alloc: Global, texts: &[&str]) -> Result<Vec<Name>, RowFault> {
@@ -45,9 +44,8 @@ fn copied(alloc: Global, text: &str) -> Result<String, RowFault> {
 }
 
 #[test]
-fn a_name_keeps_its_text(rt: HostRuntime) -> Result<(), RowFault> {
-    expect(&rt, "a copy", &copied(rt.alloc(), "ab")?, "ab");
-    Ok(())
+fn a_name_keeps_its_text(rt: HostRuntime) {
+    expect(&rt, "a copy", &copied(rt.alloc(), "ab"), "ab");
 }
 
 // The texts of names, with a blank between.
@@ -71,13 +69,18 @@ fn place_of(alloc: Global, texts: &[&str], text: &str) -> Result<Option<usize>, 
     Ok(find_name(&names, &Name::new(alloc, text)?))
 }
 
+// Names.
+const NAMES: &[&str] = &["y", "x", "yy"];
+
 #[test]
-fn names_are_found_at_their_places(rt: HostRuntime) -> Result<(), RowFault> {
-    assert!(rt; have_no_pair(rt.alloc(), &["y", "x", "yy"])?);
-    assert_eq!(rt; place_of(rt.alloc(), &["y", "x", "yy"], "x")?, Some(1));
-    assert_eq!(rt; place_of(rt.alloc(), &["y", "x", "yy"], "xx")?, None);
-    assert!(rt; !have_no_pair(rt.alloc(), &["y", "x", "y"])?);
-    Ok(())
+fn names_are_found_at_their_places(rt: HostRuntime) {
+    expect_so(&rt, "y x yy", &have_no_pair(rt.alloc(), NAMES));
+    let there = place_of(rt.alloc(), NAMES, "x").ok();
+    expect_value(&rt, "x", &there, &Some(Some(1)));
+    let elsewhere = place_of(rt.alloc(), NAMES, "xx").ok();
+    expect_value(&rt, "xx", &elsewhere, &Some(None));
+    let twice = have_no_pair(rt.alloc(), &["y", "x", "y"]).ok();
+    expect_value(&rt, "y x y", &twice, &Some(false));
 }
 
 // The names of two lists as one.
@@ -95,12 +98,11 @@ fn without(alloc: Global, texts: &[&str], text: &str) -> Result<String, RowFault
 }
 
 #[test]
-fn names_are_joined_in_byte_order(rt: HostRuntime) -> Result<(), RowFault> {
-    let joint = joined(rt.alloc(), &["y", "x", "B"], &["z", "x", "a"])?;
+fn names_are_joined_in_byte_order(rt: HostRuntime) {
+    let joint = joined(rt.alloc(), &["y", "x", "B"], &["z", "x", "a"]);
     expect(&rt, "two lists", &joint, "B a x y z ");
-    let rest = without(rt.alloc(), &["y", "x", "B"], "x")?;
+    let rest = without(rt.alloc(), &["y", "x", "B"], "x");
     expect(&rt, "but for x", &rest, "y B ");
-    Ok(())
 }
 
 // The set of these members, if they are in order and none stands twice.
@@ -118,12 +120,17 @@ fn is_of_three(set: &LetterSet) -> bool {
     set.len() == 3 && !set.is_empty() && set.place_of(7) == Some(2) && set.place_of(1).is_none()
 }
 
+// Whether three members of which the third is 7 make such a set.
+fn make_three(alloc: Global, members: &[i32]) -> Result<bool, RowFault> {
+    match set_of(alloc, members)? {
+        Some(set) => Ok(is_of_three(&set) && has_members(alloc, &set, members)?),
+        None => Ok(false),
+    }
+}
+
 #[test]
-fn a_set_finds_its_members(rt: HostRuntime) -> Result<(), RowFault> {
-    let set = set_of(rt.alloc(), &[-3, 0, 7])?.ok_or(RowFault::Form)?;
-    assert!(rt; is_of_three(&set));
-    assert!(rt; has_members(rt.alloc(), &set, &[-3, 0, 7])?);
-    Ok(())
+fn a_set_finds_its_members(rt: HostRuntime) {
+    expect_so(&rt, "-3, 0 and 7", &make_three(rt.alloc(), &[-3, 0, 7]));
 }
 
 // Whether members make a set.
@@ -132,17 +139,25 @@ fn is_set(alloc: Global, members: &[i32]) -> Result<bool, RowFault> {
 }
 
 #[test]
-fn a_set_has_no_member_twice(rt: HostRuntime) -> Result<(), RowFault> {
-    assert!(rt; !is_set(rt.alloc(), &[1, 1])?);
-    assert!(rt; !is_set(rt.alloc(), &[2, 1])?);
-    Ok(())
+fn a_set_has_no_member_twice(rt: HostRuntime) {
+    expect_value(
+        &rt,
+        "1 and 1",
+        &is_set(rt.alloc(), &[1, 1]).ok(),
+        &Some(false),
+    );
+    expect_value(
+        &rt,
+        "2 and 1",
+        &is_set(rt.alloc(), &[2, 1]).ok(),
+        &Some(false),
+    );
 }
 
-// The sizes of a header's tracks, by way of a copy.
-fn sizes_in(alloc: Global, header: &Header) -> Result<Vec<u32>, RowFault> {
+// Whether a header's tracks have two and three digits, by way of a copy.
+fn has_two_and_three(alloc: Global, header: &Header) -> Result<bool, RowFault> {
     let header = header.copy(alloc)?;
-    let alphabet = Alphabet::of_header(alloc, &header)?;
-    Ok(Vec::from_slice(alloc, alphabet.sizes())?)
+    Ok(Alphabet::of_header(alloc, &header)?.sizes() == [2, 3].as_slice())
 }
 
 // How many letters there are over these sets.
@@ -150,20 +165,21 @@ fn letters_over(alloc: Global, sets: &Sets) -> Result<u32, RowFault> {
     Ok(Alphabet::of_sets(alloc, sets)?.letters())
 }
 
-// Asserts that sizes are these.
-fn expect_sizes(rt: &impl Abort, found: &[u32], wanted: &[u32]) {
-    assert_eq!(rt; found, wanted);
+// Whether sets of two and three digits are two, with six letters.
+fn are_two_sets(alloc: Global, sets: &Sets) -> Result<bool, RowFault> {
+    Ok(!sets.is_empty() && sets.len() == 2 && letters_over(alloc, sets)? == 6)
+}
+
+// Whether they and the header of their copy have what they should.
+fn make_a_header(alloc: Global) -> Result<bool, RowFault> {
+    let sets = sets_of(alloc, &[2, 3])?;
+    let header = Header::Sets(sets.copy(alloc)?);
+    Ok(are_two_sets(alloc, &sets)? && has_two_and_three(alloc, &header)?)
 }
 
 #[test]
-fn a_header_has_the_alphabet_of_its_sets(rt: HostRuntime) -> Result<(), RowFault> {
-    let sets = sets_of(rt.alloc(), &[2, 3])?;
-    assert!(rt; !sets.is_empty());
-    assert_eq!(rt; letters_over(rt.alloc(), &sets)?, 6);
-    let copy = sets.copy(rt.alloc())?;
-    assert_eq!(rt; copy.len(), 2);
-    expect_sizes(&rt, &sizes_in(rt.alloc(), &Header::Sets(copy))?, &[2, 3]);
-    Ok(())
+fn a_header_has_the_alphabet_of_its_sets(rt: HostRuntime) {
+    expect_so(&rt, "two sets", &make_a_header(rt.alloc()));
 }
 
 // Systems of two and three digits.
@@ -188,13 +204,15 @@ fn digits_have_one(alloc: Global, header: &Header) -> Result<bool, RowFault> {
     Ok(have_one(header.copy(alloc)?.sets(alloc)?.as_slice()))
 }
 
-#[test]
-fn a_header_of_systems_has_their_digits(rt: HostRuntime) -> Result<(), RowFault> {
-    let systems = two_systems(rt.alloc())?.copy(rt.alloc())?;
-    assert!(rt; !systems.is_empty());
-    assert_eq!(rt; systems.len(), 2);
+// Whether two systems and their header have what they should, by way of a copy.
+fn make_digits(alloc: Global) -> Result<bool, RowFault> {
+    let systems = two_systems(alloc)?.copy(alloc)?;
+    let are_two = !systems.is_empty() && systems.len() == 2;
     let header = Header::Systems(systems);
-    assert!(rt; digits_have_one(rt.alloc(), &header)?);
-    expect_sizes(&rt, &sizes_in(rt.alloc(), &header)?, &[2, 3]);
-    Ok(())
+    Ok(are_two && digits_have_one(alloc, &header)? && has_two_and_three(alloc, &header)?)
+}
+
+#[test]
+fn a_header_of_systems_has_their_digits(rt: HostRuntime) {
+    expect_so(&rt, "two systems", &make_digits(rt.alloc()));
 }

@@ -2,16 +2,15 @@
 
 ghost use Rattle.std.specs.Prelude.{◌<◌, ◌^◌, length};
 
-use crate::outcomes::expect;
+use crate::outcomes::{expect, expect_bytes, expect_value};
+use crate::row_fault::RowFault;
 use command_head::{Alphabets, HeadFault, RegParts, first_word, named_parts, reg_parts};
 use digit_tuple::letter_set::LetterSet;
 use digit_tuple::name::Name;
 use std::alloc::Global;
-use std::process::Abort;
-use std::test::Fail;
 
 // Writes sets, each in braces.
-fn show_sets(alloc: Global, sets: &[LetterSet], text: &mut String) -> Result<(), Fail> {
+fn show_sets(alloc: Global, sets: &[LetterSet], text: &mut String) -> Result<(), RowFault> {
     for set in sets {
         show_set(alloc, set.members(), text)?;
     }
@@ -19,7 +18,7 @@ fn show_sets(alloc: Global, sets: &[LetterSet], text: &mut String) -> Result<(),
 }
 
 // Writes a set in braces.
-fn show_set(alloc: Global, members: &[i32], text: &mut String) -> Result<(), Fail> {
+fn show_set(alloc: Global, members: &[i32], text: &mut String) -> Result<(), RowFault> {
     let mut before = "{";
     for member in members {
         text.push_str(&format!(in alloc; "{before}{member}")?)?;
@@ -30,7 +29,7 @@ fn show_set(alloc: Global, members: &[i32], text: &mut String) -> Result<(), Fai
 }
 
 // Writes names, each after a blank.
-fn show_names(names: &[Name], text: &mut String) -> Result<(), Fail> {
+fn show_names(names: &[Name], text: &mut String) -> Result<(), RowFault> {
     for name in names {
         text.push(' ')?;
         text.push_str(name.as_str())?;
@@ -39,23 +38,29 @@ fn show_names(names: &[Name], text: &mut String) -> Result<(), Fail> {
 }
 
 // The name, the sets or systems, and after `=` the quoted text.
-fn shown(alloc: Global, parts: &RegParts<'_>) -> Result<String, Fail> {
+fn shown(alloc: Global, parts: &RegParts<'_>) -> Result<String, RowFault> {
     let mut text = String::from_str(alloc, parts.name.as_str())?;
     match &parts.alphabets {
         Alphabets::Sets(sets) => show_sets(alloc, sets.as_slice(), &mut text)?,
         Alphabets::Systems(names) => show_names(names, &mut text)?,
     }
-    text.push('=')?;
-    for byte in parts.body {
-        text.push(char::from(*byte))?;
-    }
+    push_body(&mut text, parts.body)?;
     Ok(text)
 }
 
+// Writes `=` and a quoted text.
+fn push_body(text: &mut String, body: &[u8]) -> Result<(), RowFault> {
+    text.push('=')?;
+    for byte in body {
+        text.push(char::from(*byte))?;
+    }
+    Ok(())
+}
+
 // What a short text has, as a text, or its fault.
-fn read(alloc: Global, text: &str) -> Result<Result<String, HeadFault>, Fail> {
+fn read(alloc: Global, text: &str) -> Result<Result<String, HeadFault>, RowFault> {
     if text.len() > 1000 {
-        return Err(Fail::from("a short text"));
+        return Err(RowFault::Form);
     }
     match reg_parts(alloc, text.as_bytes()) {
         Ok(parts) => Ok(Ok(shown(alloc, &parts)?)),
@@ -64,10 +69,18 @@ fn read(alloc: Global, text: &str) -> Result<Result<String, HeadFault>, Fail> {
 }
 
 // What a text has that has no fault.
-fn whole(found: Result<String, HeadFault>) -> Result<String, Fail> {
+fn whole(found: Result<Result<String, HeadFault>, RowFault>) -> Result<String, RowFault> {
     match found {
-        Ok(text) => Ok(text),
-        Err(_) => Err(Fail::from("a head")),
+        Ok(Ok(text)) => Ok(text),
+        _ => Err(RowFault::Form),
+    }
+}
+
+// The fault of a text that has one.
+fn fault_in(found: Result<Result<String, HeadFault>, RowFault>) -> Option<HeadFault> {
+    match found {
+        Ok(Err(fault)) => Some(fault),
+        _ => None,
     }
 }
 
@@ -94,17 +107,11 @@ static HEADS: [(&str, &str); 10] = [
     ),
 ];
 
-// Asserts that each text has this.
-fn expect_heads(rt: &impl Abort, alloc: Global, rows: &[(&str, &str)]) -> Result<(), Fail> {
-    for (text, wanted) in rows {
-        expect(rt, text, &whole(read(alloc, text)?)?, wanted);
-    }
-    Ok(())
-}
-
 #[test]
-fn heads_are_read(rt: HostRuntime) -> Result<(), Fail> {
-    expect_heads(&rt, rt.alloc(), &HEADS)
+fn heads_are_read(rt: HostRuntime) {
+    for (text, wanted) in &HEADS {
+        expect(&rt, text, &whole(read(rt.alloc(), text)), wanted);
+    }
 }
 
 // Texts and their first faults: of sets, of systems, and numbers out of 32 bits.
@@ -147,30 +154,21 @@ static FAULTS: [(&str, HeadFault); 30] = [
     ),
 ];
 
-// Asserts that a row has this fault.
-fn expect_fault(rt: &impl Abort, row: &str, found: Option<HeadFault>, wanted: HeadFault) {
-    assert_eq!(rt; found, Some(wanted), "of {row}");
-}
-
-// Asserts that each text has its fault.
-fn expect_faults(rt: &impl Abort, alloc: Global, rows: &[(&str, HeadFault)]) -> Result<(), Fail> {
-    for (text, wanted) in rows {
-        expect_fault(rt, text, read(alloc, text)?.err(), *wanted);
-    }
-    Ok(())
-}
-
 #[test]
-fn faults_are_the_first(rt: HostRuntime) -> Result<(), Fail> {
-    expect_faults(&rt, rt.alloc(), &FAULTS)
+fn faults_are_the_first(rt: HostRuntime) {
+    for (text, wanted) in &FAULTS {
+        let found = fault_in(read(rt.alloc(), text));
+        expect_value(&rt, text, &found, &Some(*wanted));
+    }
 }
 
 // The name and after `=` the quoted text of a head with the word `def`, or its fault.
-fn read_named(alloc: Global, text: &str) -> Result<Result<String, HeadFault>, Fail> {
+fn read_named(alloc: Global, text: &str) -> Result<Result<String, HeadFault>, RowFault> {
     match named_parts(alloc, b"def", text.as_bytes()) {
         Ok(parts) => {
-            let body = str::from_utf8(parts.body)?;
-            Ok(Ok(format!(in alloc; "{}={body}", parts.name.as_str())?))
+            let mut shown = String::from_str(alloc, parts.name.as_str())?;
+            push_body(&mut shown, parts.body)?;
+            Ok(Ok(shown))
         }
         Err(fault) => Ok(Err(fault)),
     }
@@ -196,30 +194,19 @@ static NOT_NAMED: [(&str, HeadFault); 8] = [
     ("def a \"x\" y", HeadFault::Syntax(10)),
 ];
 
-// Asserts that each head has this.
-fn expect_named(rt: &impl Abort, alloc: Global, rows: &[(&str, &str)]) -> Result<(), Fail> {
-    for (text, wanted) in rows {
-        expect(rt, text, &whole(read_named(alloc, text)?)?, wanted);
+#[test]
+fn named_heads_are_read(rt: HostRuntime) {
+    for (text, wanted) in &NAMED {
+        expect(&rt, text, &whole(read_named(rt.alloc(), text)), wanted);
     }
-    Ok(())
 }
 
 #[test]
-fn named_heads_are_read(rt: HostRuntime) -> Result<(), Fail> {
-    expect_named(&rt, rt.alloc(), &NAMED)
-}
-
-// Asserts that each text has its fault.
-fn expect_refused(rt: &impl Abort, alloc: Global, rows: &[(&str, HeadFault)]) -> Result<(), Fail> {
-    for (text, wanted) in rows {
-        expect_fault(rt, text, read_named(alloc, text)?.err(), *wanted);
+fn other_heads_are_refused(rt: HostRuntime) {
+    for (text, wanted) in &NOT_NAMED {
+        let found = fault_in(read_named(rt.alloc(), text));
+        expect_value(&rt, text, &found, &Some(*wanted));
     }
-    Ok(())
-}
-
-#[test]
-fn other_heads_are_refused(rt: HostRuntime) -> Result<(), Fail> {
-    expect_refused(&rt, rt.alloc(), &NOT_NAMED)
 }
 
 // Texts and their first words.
@@ -229,14 +216,10 @@ static FIRST_WORDS: [(&str, &str); 3] = [
     ("prove{a}\t", "prove{a}"),
 ];
 
-// Asserts that each text has its first word.
-fn expect_first_words(rt: &impl Abort, rows: &[(&str, &str)]) {
-    for (text, wanted) in rows {
-        assert_eq!(rt; first_word(text.as_bytes()), wanted.as_bytes(), "of {text}");
-    }
-}
-
 #[test]
 fn the_first_word_ends_at_a_blank_or_a_quote(rt: HostRuntime) {
-    expect_first_words(&rt, &FIRST_WORDS);
+    for (text, wanted) in &FIRST_WORDS {
+        let found = first_word(text.as_bytes());
+        expect_bytes(&rt, text, found, wanted.as_bytes());
+    }
 }

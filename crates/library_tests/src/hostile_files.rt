@@ -1,9 +1,9 @@
 //! Files that are read, and files that break the format, each with the line at which it does.
 
+use crate::outcomes::expect_value;
 use crate::row_fault::RowFault;
 use dfa_reading::{FileFault, read_relation};
 use std::alloc::Global;
-use std::process::Abort;
 
 // No row is longer.
 const LONGEST: usize = 16_777_216;
@@ -25,21 +25,6 @@ fn fault_of(alloc: Global, text: &[u8]) -> Option<FileFault> {
         return Some(FileFault::Memory);
     }
     read_relation(alloc, text).err()
-}
-
-// Asserts that each file is read, with so many states.
-fn expect_states(rt: &impl Abort, alloc: Global, rows: &[(&[u8], usize)]) {
-    for (row, (text, states)) in rows.iter().enumerate() {
-        assert_eq!(rt; states_of(alloc, text), Some(*states), "of row {row}");
-    }
-}
-
-// Asserts that each file breaks the format at its line.
-fn expect_lines(rt: &impl Abort, alloc: Global, rows: &[(&[u8], u64)]) {
-    for (row, (text, line)) in rows.iter().enumerate() {
-        let wanted = Some(FileFault::File(*line));
-        assert_eq!(rt; fault_of(alloc, text), wanted, "of row {row}");
-    }
 }
 
 // Files that are read, and how many states they list.
@@ -136,9 +121,21 @@ static READ: [(&[u8], usize); 57] = [
     (b"{-1,1}\n00 -1\n* -> 0\n", 1),
 ];
 
+// The number of the first of these files that is not read, with so many states, counted from 0; how many they are, if each is.
+fn first_unread(alloc: Global, rows: &[(&[u8], usize)]) -> usize {
+    let mut count: usize = 0;
+    for (text, states) in rows {
+        if states_of(alloc, text) != Some(*states) {
+            return count;
+        }
+        count = count.saturating_add(1);
+    }
+    count
+}
+
 #[test]
 fn files_are_read(rt: HostRuntime) {
-    expect_states(&rt, rt.alloc(), &READ);
+    expect_value(&rt, "files", &first_unread(rt.alloc(), &READ), &READ.len());
 }
 
 // Files that break the format, and the line at which each does: the first that is out of form, where there is none the first
@@ -324,11 +321,27 @@ static BYTES: [(&[u8], u64); 14] = [
     (b"{0}\n\"0\" 1\n", 2),
 ];
 
+// The number of the first of these files that does not break the format at its line, counted from 0; how many they are, if
+// each does.
+fn first_unbroken(alloc: Global, rows: &[(&[u8], u64)]) -> usize {
+    let mut count: usize = 0;
+    for (text, line) in rows {
+        if fault_of(alloc, text) != Some(FileFault::File(*line)) {
+            return count;
+        }
+        count = count.saturating_add(1);
+    }
+    count
+}
+
 #[test]
 fn files_break_at_their_lines(rt: HostRuntime) {
-    expect_lines(&rt, rt.alloc(), &BROKEN);
-    expect_lines(&rt, rt.alloc(), &MISSING);
-    expect_lines(&rt, rt.alloc(), &BYTES);
+    let broken = first_unbroken(rt.alloc(), &BROKEN);
+    expect_value(&rt, "broken files", &broken, &BROKEN.len());
+    let missing = first_unbroken(rt.alloc(), &MISSING);
+    expect_value(&rt, "missing targets", &missing, &MISSING.len());
+    let bytes = first_unbroken(rt.alloc(), &BYTES);
+    expect_value(&rt, "bytes", &bytes, &BYTES.len());
 }
 
 // A front, a part so many times, and an end, and the line at which they break the format, or None where they are read.
@@ -422,17 +435,21 @@ fn text_of(alloc: Global, file: &LongFile) -> Result<String, RowFault> {
     Ok(text)
 }
 
-// Asserts that each long file is read, or breaks at its line.
-fn expect_long(rt: &impl Abort, alloc: Global, files: &[LongFile]) -> Result<(), RowFault> {
-    for (row, file) in files.iter().enumerate() {
+// The number of the first of these files that is not read or broken so, counted from 0; how many they are, if each is.
+fn first_other(alloc: Global, files: &[LongFile]) -> Result<usize, RowFault> {
+    let mut count: usize = 0;
+    for file in files {
         let text = text_of(alloc, file)?;
-        let wanted = file.line.map(FileFault::File);
-        assert_eq!(rt; fault_of(alloc, text.as_bytes()), wanted, "of row {row}");
+        if fault_of(alloc, text.as_bytes()) != file.line.map(FileFault::File) {
+            return Ok(count);
+        }
+        count = count.saturating_add(1);
     }
-    Ok(())
+    Ok(count)
 }
 
 #[test]
-fn files_may_be_long(rt: HostRuntime) -> Result<(), RowFault> {
-    expect_long(&rt, rt.alloc(), &LONG)
+fn files_may_be_long(rt: HostRuntime) {
+    let found = first_other(rt.alloc(), &LONG).ok();
+    expect_value(&rt, "long files", &found, &Some(LONG.len()));
 }

@@ -3,7 +3,8 @@
 ghost use Rattle.std.specs.Prelude.{◌≡◌, ◌∷◌, [], IfOk};
 ghost use Rattle.digit_tuple.specs.Deterministic.{states_of};
 
-use crate::outcomes::{below_width_of, expect, table_outcome, width_of};
+use crate::calls::{Call, expect_widths};
+use crate::outcomes::{expect, expect_value, table_outcome};
 use crate::row_fault::RowFault;
 use crate::table_texts::{language, line_of, listed, table, table_of, tracked};
 use determinise::reversal::reverse;
@@ -17,72 +18,49 @@ use minimise::canonical::canonical;
 use minimise::comparison::{is_canonical, same};
 use minimise::tracked::Tracked;
 use std::alloc::Global;
-use std::process::Abort;
 
 // The words whose third letter from the end is 1.
 const THIRD: &str = "x:2 = / 0>0 1>0 1>1/ 0>2 1>2/ 0>3 1>3/!";
 
 // Tables, and the automata of their sets of states.
-static SETS: [(&str, &str); 2] = [
+static SETS: [(Call, &str); 2] = [
     // Each state has its word's last three letters, of which the first is 1 where it accepts.
     (
-        THIRD,
+        Call::Sets(THIRD),
         "8 / 0>0 1>1/ 0>2 1>3/ 0>4 1>5/ 0>6 1>7/! 0>0 1>1/! 0>2 1>3/! 0>4 1>5/! 0>6 1>7",
     ),
     // The empty set counts and is not listed.
-    ("x:2 = /! 1>0", "2 /! 1>0"),
+    (Call::Sets("x:2 = /! 1>0"), "2 /! 1>0"),
 ];
 
 // The subset construction under a limit, or why there is none.
-fn of_sets(alloc: Global, line: &str, limit: u32) -> Result<String, RowFault> {
+pub fn of_sets(alloc: Global, line: &str, limit: u32) -> Result<String, RowFault> {
     let table = table(alloc, line)?;
     table_outcome(alloc, determinise(alloc, &table, limit))
 }
 
-// Asserts that each automaton of sets is made at its width, and not below.
-fn expect_sets(rt: &impl Abort, alloc: Global, rows: &[(&str, &str)]) -> Result<(), RowFault> {
-    for (line, wanted) in rows {
-        let made = of_sets(alloc, line, width_of(wanted)?)?;
-        expect(rt, line, &made, wanted);
-        let narrow = of_sets(alloc, line, below_width_of(wanted)?)?;
-        expect(rt, line, &narrow, "States");
-    }
-    Ok(())
-}
-
 #[test]
-fn states_are_sets_of_states(rt: HostRuntime) -> Result<(), RowFault> {
-    expect_sets(&rt, rt.alloc(), &SETS)
+fn states_are_sets_of_states(rt: HostRuntime) {
+    expect_widths(&rt, rt.alloc(), &SETS);
 }
 
 // Tables, and the automata of the words in reverse.
-static REVERSALS: [(&str, &str); 2] = [
+static REVERSALS: [(Call, &str); 2] = [
     // The third letter from the start has five residuals.
-    (THIRD, "5 / 0>1 1>1/ 0>2 1>2/ 1>3/! 0>3 1>3"),
+    (Call::Reversal(THIRD), "5 / 0>1 1>1/ 0>2 1>2/ 1>3/! 0>3 1>3"),
     // Nothing reversed has one.
-    ("x:2 = /", "1 /"),
+    (Call::Reversal("x:2 = /"), "1 /"),
 ];
 
 // The reversal under a limit, or why there is none.
-fn turned(alloc: Global, line: &str, limit: u32) -> Result<String, RowFault> {
+pub fn turned(alloc: Global, line: &str, limit: u32) -> Result<String, RowFault> {
     let dfa = listed(alloc, line)?;
     table_outcome(alloc, reverse(alloc, &dfa, limit))
 }
 
-// Asserts that each reversal is made at its width, and not below.
-fn expect_turned(rt: &impl Abort, alloc: Global, rows: &[(&str, &str)]) -> Result<(), RowFault> {
-    for (line, wanted) in rows {
-        let made = turned(alloc, line, width_of(wanted)?)?;
-        expect(rt, line, &made, wanted);
-        let narrow = turned(alloc, line, below_width_of(wanted)?)?;
-        expect(rt, line, &narrow, "States");
-    }
-    Ok(())
-}
-
 #[test]
-fn states_are_residuals_of_reversed_words(rt: HostRuntime) -> Result<(), RowFault> {
-    expect_turned(&rt, rt.alloc(), &REVERSALS)
+fn states_are_residuals_of_reversed_words(rt: HostRuntime) {
+    expect_widths(&rt, rt.alloc(), &REVERSALS);
 }
 
 // Tables, and the least automata of their languages.
@@ -102,17 +80,11 @@ fn least_table(alloc: Global, line: &str) -> Result<String, RowFault> {
     table_of(alloc, &language(alloc, line)?)
 }
 
-// Asserts that each least automaton is this.
-fn expect_least(rt: &impl Abort, alloc: Global, rows: &[(&str, &str)]) -> Result<(), RowFault> {
-    for (line, wanted) in rows {
-        expect(rt, line, &least_table(alloc, line)?, wanted);
-    }
-    Ok(())
-}
-
 #[test]
-fn states_are_residuals_that_are_not_empty(rt: HostRuntime) -> Result<(), RowFault> {
-    expect_least(&rt, rt.alloc(), &LEAST)
+fn states_are_residuals_that_are_not_empty(rt: HostRuntime) {
+    for (line, wanted) in &LEAST {
+        expect(&rt, line, &least_table(rt.alloc(), line), wanted);
+    }
 }
 
 // An automaton over two letters, of three states and three edges, each its state, letter and target.
@@ -173,45 +145,34 @@ fn built(alloc: Global, row: &BuiltRow) -> Result<Dfa, RowFault> {
     Ok(builder.finish()?)
 }
 
-// The table of the automaton without the states that no word leads to.
-fn trimmed_table(alloc: Global, dfa: &Dfa) -> Result<String, RowFault> {
-    table_of(alloc, &trimmed(alloc, dfa)?)
+// The table of the row's automaton.
+fn built_table(alloc: Global, row: &BuiltRow) -> Result<String, RowFault> {
+    table_of(alloc, &built(alloc, row)?)
 }
 
-// The table of the least automaton, if that is canonical and the automaton is not.
-fn canonical_table(alloc: Global, dfa: &Dfa) -> Result<String, RowFault> {
-    let least = canonical(alloc, dfa)?;
-    if is_canonical(alloc, &least)? && !is_canonical(alloc, dfa)? {
+// The table of the row's automaton without the states that no word leads to.
+fn trimmed_table(alloc: Global, row: &BuiltRow) -> Result<String, RowFault> {
+    table_of(alloc, &trimmed(alloc, &built(alloc, row)?)?)
+}
+
+// The table of the row's least automaton, if that is canonical and the automaton is not.
+fn canonical_table(alloc: Global, row: &BuiltRow) -> Result<String, RowFault> {
+    let dfa = built(alloc, row)?;
+    let least = canonical(alloc, &dfa)?;
+    if is_canonical(alloc, &least)? && !is_canonical(alloc, &dfa)? {
         table_of(alloc, &least)
     } else {
         Err(RowFault::Form)
     }
 }
 
-// Asserts that an automaton is that of its row, and so are those without states and with the least ones.
-fn expect_tables(
-    rt: &impl Abort,
-    alloc: Global,
-    dfa: &Dfa,
-    row: &BuiltRow,
-) -> Result<(), RowFault> {
-    expect(rt, row.table, &table_of(alloc, dfa)?, row.table);
-    expect(rt, row.table, &trimmed_table(alloc, dfa)?, row.trimmed);
-    expect(rt, row.table, &canonical_table(alloc, dfa)?, row.least);
-    Ok(())
-}
-
-// Asserts that the automaton of each row is so.
-fn expect_built(rt: &impl Abort, alloc: Global, rows: &[BuiltRow]) -> Result<(), RowFault> {
-    for row in rows {
-        expect_tables(rt, alloc, &built(alloc, row)?, row)?;
-    }
-    Ok(())
-}
-
 #[test]
-fn states_are_numbered_by_first_words(rt: HostRuntime) -> Result<(), RowFault> {
-    expect_built(&rt, rt.alloc(), &BUILT)
+fn states_are_numbered_by_first_words(rt: HostRuntime) {
+    for row in &BUILT {
+        expect(&rt, row.table, &built_table(rt.alloc(), row), row.table);
+        expect(&rt, row.table, &trimmed_table(rt.alloc(), row), row.trimmed);
+        expect(&rt, row.table, &canonical_table(rt.alloc(), row), row.least);
+    }
 }
 
 // Lines, and whether they have one language.
@@ -232,21 +193,12 @@ fn are_same(alloc: Global, one: &str, other: &str) -> Result<bool, RowFault> {
     }
 }
 
-// Asserts that each two lines have one language, or not.
-fn expect_same(
-    rt: &impl Abort,
-    alloc: Global,
-    rows: &[(&str, &str, bool)],
-) -> Result<(), RowFault> {
-    for (one, other, wanted) in rows {
-        assert_eq!(rt; are_same(alloc, one, other)?, *wanted, "of {one}");
-    }
-    Ok(())
-}
-
 #[test]
-fn canonical_automata_of_one_language_are_equal(rt: HostRuntime) -> Result<(), RowFault> {
-    expect_same(&rt, rt.alloc(), &SAME)
+fn canonical_automata_of_one_language_are_equal(rt: HostRuntime) {
+    for (one, other, wanted) in &SAME {
+        let found = are_same(rt.alloc(), one, other).ok();
+        expect_value(&rt, one, &found, &Some(*wanted));
+    }
 }
 
 // The line of a table's least automaton with its track under a name, if it has one track.
@@ -272,10 +224,9 @@ fn renamed(alloc: Global, line: &str, name: &str) -> Result<String, RowFault> {
 }
 
 #[test]
-fn tracks_have_names(rt: HostRuntime) -> Result<(), RowFault> {
+fn tracks_have_names(rt: HostRuntime) {
     let line = "x:2 = / 0>1 1>2/! 0>1/!";
-    expect(&rt, line, &named(rt.alloc(), line, "x")?, line);
+    expect(&rt, line, &named(rt.alloc(), line, "x"), line);
     let other = "y:2 = / 0>1 1>2/! 0>1/!";
-    expect(&rt, line, &renamed(rt.alloc(), line, "y")?, other);
-    Ok(())
+    expect(&rt, line, &renamed(rt.alloc(), line, "y"), other);
 }

@@ -17,6 +17,10 @@ mod table_texts;
 #[cfg(test)]
 mod outcomes;
 
+// calls under a limit of states
+#[cfg(test)]
+mod calls;
+
 // names, sets, systems and headers
 #[cfg(test)]
 mod headers;
@@ -89,6 +93,10 @@ mod automaton_texts;
 #[cfg(test)]
 mod hostile_files;
 
+// files of users' systems
+#[cfg(test)]
+mod system_files;
+
 // files of automatic words
 #[cfg(test)]
 mod word_files;
@@ -104,6 +112,10 @@ mod scripts;
 // heads of commands
 #[cfg(test)]
 mod heads;
+
+// the heads of commands that make words, and their faults
+#[cfg(test)]
+mod word_heads;
 
 // sources, sinks and stores in memory
 #[cfg(test)]

@@ -1,6 +1,7 @@
 //! The tables of expressions, and which words match them.
 
-use crate::outcomes::{below_width_of, expect, table_outcome, width_of};
+use crate::calls::{Call, expect_widths};
+use crate::outcomes::{expect, expect_value, table_outcome};
 use crate::row_fault::RowFault;
 use crate::table_texts::{branches_of, sets_of};
 use digit_tuple::alphabet::Alphabet;
@@ -19,7 +20,6 @@ use regex_build::postfix_symbol::PostfixSymbol;
 use regex_build::regex::Regex;
 use regex_build::{parse, positions};
 use std::alloc::Global;
-use std::process::Abort;
 
 // The letter of one track with this member.
 fn letter_of(alloc: Global, member: i32) -> Result<LetterTuple, RowFault> {
@@ -84,20 +84,13 @@ static TABLES: [(&str, &str); 15] = [
     ("0_|1,", "/ 0>1 1>2/ 1>2/!"),
 ];
 
-// Asserts that the expression of each row's symbols has its table.
-fn expect_tables(rt: &impl Abort, alloc: Global, rows: &[(&str, &str)]) -> Result<(), RowFault> {
-    for (text, table) in rows {
-        expect(rt, text, &symbols_table(alloc, &[2], text)?, table);
-    }
-    Ok(())
-}
-
 #[test]
-fn tables_of_small_expressions(rt: HostRuntime) -> Result<(), RowFault> {
-    expect_tables(&rt, rt.alloc(), &TABLES)?;
-    let made = symbols_table(rt.alloc(), &[2, 2], ".?")?;
-    expect(&rt, ".?", &made, "/! 0>1 1>1 2>1 3>1/!");
-    Ok(())
+fn tables_of_small_expressions(rt: HostRuntime) {
+    for (text, table) in &TABLES {
+        expect(&rt, text, &symbols_table(rt.alloc(), &[2], text), table);
+    }
+    let two = symbols_table(rt.alloc(), &[2, 2], ".?");
+    expect(&rt, ".?", &two, "/! 0>1 1>1 2>1 3>1/!");
 }
 
 // Whether these symbols over one track are an expression.
@@ -108,17 +101,12 @@ fn is_expression(alloc: Global, text: &str) -> Result<bool, RowFault> {
 // Symbols that are no expression.
 static NO_EXPRESSIONS: [&str; 4] = ["", "00", "0|1", "02,"];
 
-// Asserts that these symbols are no expressions.
-fn expect_none(rt: &impl Abort, alloc: Global, texts: &[&str]) -> Result<(), RowFault> {
-    for text in texts {
-        assert!(rt; !is_expression(alloc, text)?, "of {text}");
-    }
-    Ok(())
-}
-
 #[test]
-fn symbols_that_are_no_expression(rt: HostRuntime) -> Result<(), RowFault> {
-    expect_none(&rt, rt.alloc(), &NO_EXPRESSIONS)
+fn symbols_that_are_no_expression(rt: HostRuntime) {
+    for text in &NO_EXPRESSIONS {
+        let found = is_expression(rt.alloc(), text).ok();
+        expect_value(&rt, text, &found, &Some(false));
+    }
 }
 
 // The expression over tracks of these sizes.
@@ -128,32 +116,21 @@ fn regex_of(alloc: Global, sizes: &[u32], text: &str) -> Result<Regex, RowFault>
 }
 
 // The automaton of an expression's matches, under a limit, or why there is none.
-fn built(alloc: Global, sizes: &[u32], text: &str, limit: u32) -> Result<String, RowFault> {
+pub fn built(alloc: Global, sizes: &[u32], text: &str, limit: u32) -> Result<String, RowFault> {
     let regex = regex_of(alloc, sizes, text)?;
     table_outcome(alloc, build(alloc, &regex, limit))
 }
 
 // Expressions and their automata. The width counts the empty word, and a word after which none is accepted.
-static WIDTHS: [(&str, &str); 3] = [
-    ("()", "2 /!"),
-    ("0*1", "4 / 0>0 1>1/!"),
-    ("01|10", "6 / 0>1 1>2/ 1>3/ 0>3/!"),
+static WIDTHS: [(Call, &str); 3] = [
+    (Call::Built("()"), "2 /!"),
+    (Call::Built("0*1"), "4 / 0>0 1>1/!"),
+    (Call::Built("01|10"), "6 / 0>1 1>2/ 1>3/ 0>3/!"),
 ];
 
-// Asserts that each automaton is made at its width, and not below.
-fn expect_widths(rt: &impl Abort, alloc: Global, rows: &[(&str, &str)]) -> Result<(), RowFault> {
-    for (text, wanted) in rows {
-        let made = built(alloc, &[2], text, width_of(wanted)?)?;
-        expect(rt, text, &made, wanted);
-        let narrow = built(alloc, &[2], text, below_width_of(wanted)?)?;
-        expect(rt, text, &narrow, "States");
-    }
-    Ok(())
-}
-
 #[test]
-fn widths_are_those_worked_out(rt: HostRuntime) -> Result<(), RowFault> {
-    expect_widths(&rt, rt.alloc(), &WIDTHS)
+fn widths_are_those_worked_out(rt: HostRuntime) {
+    expect_widths(&rt, rt.alloc(), &WIDTHS);
 }
 
 // An automaton of a row, under a limit.
@@ -175,12 +152,11 @@ fn width_and_states(alloc: Global, text: &str, limit: u32) -> Result<(u32, u32),
 
 // The last five letters of a word count, and the empty word apart.
 #[test]
-fn the_empty_word_counts(rt: HostRuntime) -> Result<(), RowFault> {
+fn the_empty_word_counts(rt: HostRuntime) {
     let text = "(0|1)*1(0|1)(0|1)(0|1)(0|1)";
-    assert_eq!(rt; width_and_states(rt.alloc(), text, 33)?, (33, 32));
-    let narrow = built(rt.alloc(), &[2], text, 32)?;
-    expect(&rt, text, &narrow, "States");
-    Ok(())
+    let found = width_and_states(rt.alloc(), text, 33).ok();
+    expect_value(&rt, text, &found, &Some((33, 32)));
+    expect(&rt, text, &built(rt.alloc(), &[2], text, 32), "States");
 }
 
 // How many letters the automaton of the empty word has over so many tracks.
@@ -190,11 +166,11 @@ fn letters_over(alloc: Global, sizes: &[u32]) -> Result<u32, RowFault> {
 }
 
 #[test]
-fn seventeen_tracks_are_too_many(rt: HostRuntime) -> Result<(), RowFault> {
-    assert_eq!(rt; letters_over(rt.alloc(), &[2; 16])?, 65536);
-    let more = built(rt.alloc(), &[2; 17], "()", 0)?;
-    expect(&rt, "()", &more, "Letters");
-    Ok(())
+fn seventeen_tracks_are_too_many(rt: HostRuntime) {
+    let letters = letters_over(rt.alloc(), &[2; 16]).ok();
+    expect_value(&rt, "sixteen", &letters, &Some(65536));
+    let more = built(rt.alloc(), &[2; 17], "()", 0);
+    expect(&rt, "seventeen", &more, "Letters");
 }
 
 // How many words up to a length match the expression, by the plain program.
@@ -253,20 +229,10 @@ static MATCHES: [(&[u32], &str, usize, usize); 21] = [
     (&[2, 2], "[1,1]?.+|[0,0]", 3, 84),
 ];
 
-// Asserts that so many words match each expression.
-fn expect_matching(
-    rt: &impl Abort,
-    alloc: Global,
-    rows: &[(&[u32], &str, usize, usize)],
-) -> Result<(), RowFault> {
-    for (sizes, text, longest, count) in rows {
-        let found = matching_text(alloc, sizes, text, *longest)?;
-        assert_eq!(rt; found, *count, "of {text}");
-    }
-    Ok(())
-}
-
 #[test]
-fn matching_words_are_counted(rt: HostRuntime) -> Result<(), RowFault> {
-    expect_matching(&rt, rt.alloc(), &MATCHES)
+fn matching_words_are_counted(rt: HostRuntime) {
+    for (sizes, text, longest, count) in &MATCHES {
+        let found = matching_text(rt.alloc(), sizes, text, *longest).ok();
+        expect_value(&rt, text, &found, &Some(*count));
+    }
 }

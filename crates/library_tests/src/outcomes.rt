@@ -8,6 +8,7 @@ use digit_tuple::stepped::Stepped;
 use digit_tuple::steps::{StepLine, Steps};
 use minimise::tracked::Tracked;
 use std::alloc::Global;
+use std::fmt::Debug;
 use std::process::Abort;
 
 /// The width and the line of an automaton with names, or why there is none.
@@ -69,7 +70,33 @@ fn line_text(alloc: Global, line: StepLine) -> Result<String, RowFault> {
     Ok(format!(in alloc; "{kind} {} {}, ", line.width, line.size)?)
 }
 
-/// Asserts that a row has what is wanted.
-pub fn expect(rt: &impl Abort, row: &str, found: &str, wanted: &str) {
+/// Asserts that a row has this text.
+pub fn expect_text(rt: &impl Abort, row: &str, found: &str, wanted: &str) {
     assert_eq!(rt; found, wanted, "of {row}");
+}
+
+/// Asserts that a row has these bytes.
+pub fn expect_bytes(rt: &impl Abort, row: &str, found: &[u8], wanted: &[u8]) {
+    assert_eq!(rt; found, wanted, "of {row}");
+}
+
+/// Asserts that a row has this value.
+pub fn expect_value<T: Debug + PartialEq>(rt: &impl Abort, row: &str, found: &T, wanted: &T) {
+    assert!(rt; found == wanted, "of {row}: {found:?}, not {wanted:?}");
+}
+
+/// Asserts that a row is worked out, and has this text.
+pub fn expect(rt: &impl Abort, row: &str, found: &Result<String, RowFault>, wanted: &str) {
+    match found {
+        Ok(text) => expect_text(rt, row, text, wanted),
+        Err(_) => expect_text(rt, row, "no answer", wanted),
+    }
+}
+
+/// Asserts that a row is worked out, and is so.
+pub fn expect_so(rt: &impl Abort, row: &str, found: &Result<bool, RowFault>) {
+    match found {
+        Ok(is_so) => expect_value(rt, row, is_so, &true),
+        Err(_) => expect_text(rt, row, "no answer", "an answer"),
+    }
 }

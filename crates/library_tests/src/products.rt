@@ -6,7 +6,8 @@ ghost use Rattle.product_op.specs.Connectives.{among_valid};
 ghost use Rattle.product_op.specs.Tracks.{joint_sizes};
 ghost use Rattle.product_op.specs.Validity.{AreLanguages};
 
-use crate::outcomes::{below_width_of, expect, outcome, width_of};
+use crate::calls::{Call, expect_letters, expect_widths};
+use crate::outcomes::{expect, expect_so, expect_value, outcome};
 use crate::row_fault::RowFault;
 use crate::table_texts::{languages, tracked};
 use digit_tuple::dfa::Dfa;
@@ -22,7 +23,6 @@ use product_op::product::product;
 use product_op::validity::{complement_in, valid_part};
 use reference::words::all_words;
 use std::alloc::Global;
-use std::process::Abort;
 use std::rc::Rc;
 
 // Words with an even number of 1s, words that end in 1, and words without two 1s in a row.
@@ -41,73 +41,83 @@ const ANY_Y: &str = "y:3 = .*";
 
 const ANY_Z: &str = "z:2 = .*";
 
-// Two automata, a connective, a language for each track where these count, and the product.
-#[derive(Drop)]
-struct ProductRow {
+/// Two automata, a connective, and a language for each track where these count.
+pub struct ProductRow {
     a: &'static str,
     b: &'static str,
     op: Op,
     valid: &'static [&'static str],
-    made: &'static str,
 }
 
-static PRODUCTS: [ProductRow; 6] = [
-    ProductRow {
-        a: EVEN,
-        b: ENDS,
-        op: Op::And,
-        valid: &[],
-        made: "4 x:2 = / 0>0 1>1/ 0>1 1>2/! 0>0 1>1",
-    },
+static PRODUCTS: [(Call, &str); 6] = [
+    (
+        Call::Product(ProductRow {
+            a: EVEN,
+            b: ENDS,
+            op: Op::And,
+            valid: &[],
+        }),
+        "4 x:2 = / 0>0 1>1/ 0>1 1>2/! 0>0 1>1",
+    ),
     // the tracks stand in byte order
-    ProductRow {
-        a: "y:2 = (0|10*1)*",
-        b: ENDS,
-        op: Op::And,
-        valid: &[],
-        made: "4 x:2 y:2 = / 0>0 1>1 2>2 3>1/ 0>1 1>0 2>1 3>2/! 0>0 1>1 2>2 3>1",
-    },
-    ProductRow {
-        a: ENDS,
-        b: EVEN,
-        op: Op::Implies,
-        valid: &[SPARSE],
-        made: "8 x:2 = /! 0>0 1>1/ 0>2/! 0>2 1>3/! 0>0",
-    },
+    (
+        Call::Product(ProductRow {
+            a: "y:2 = (0|10*1)*",
+            b: ENDS,
+            op: Op::And,
+            valid: &[],
+        }),
+        "4 x:2 y:2 = / 0>0 1>1 2>2 3>1/ 0>1 1>0 2>1 3>2/! 0>0 1>1 2>2 3>1",
+    ),
+    (
+        Call::Product(ProductRow {
+            a: ENDS,
+            b: EVEN,
+            op: Op::Implies,
+            valid: &[SPARSE],
+        }),
+        "8 x:2 = /! 0>0 1>1/ 0>2/! 0>2 1>3/! 0>0",
+    ),
     // The lengths go together: those of words modulo 2 follow from those modulo 4, so there are 4 pairs of residuals
     // and not 8.
-    ProductRow {
-        a: "x:2 y:3 = (..)*",
-        b: "y:3 z:2 = (....)*",
-        op: Op::And,
-        valid: &[],
-        made: "4 x:2 y:3 z:2 = /! 0>1 1>1 2>1 3>1 4>1 5>1 6>1 7>1 8>1 9>1 10>1 11>1/ 0>2 1>2 2>2 3>2 4>2 5>2 6>2 7>2 8>2 9>2 10>2 11>2/ 0>3 1>3 2>3 3>3 4>3 5>3 6>3 7>3 8>3 9>3 10>3 11>3/ 0>0 1>0 2>0 3>0 4>0 5>0 6>0 7>0 8>0 9>0 10>0 11>0",
-    },
+    (
+        Call::Product(ProductRow {
+            a: "x:2 y:3 = (..)*",
+            b: "y:3 z:2 = (....)*",
+            op: Op::And,
+            valid: &[],
+        }),
+        "4 x:2 y:3 z:2 = /! 0>1 1>1 2>1 3>1 4>1 5>1 6>1 7>1 8>1 9>1 10>1 11>1/ 0>2 1>2 2>2 3>2 4>2 5>2 6>2 7>2 8>2 9>2 10>2 11>2/ 0>3 1>3 2>3 3>3 4>3 5>3 6>3 7>3 8>3 9>3 10>3 11>3/ 0>0 1>0 2>0 3>0 4>0 5>0 6>0 7>0 8>0 9>0 10>0 11>0",
+    ),
     // Each argument has one residual until a wrong letter, and then the empty one. A letter (x, y, z) may be right for
     // both as (0, 0, 0), wrong for the first alone as (0, 1, 1), wrong for the second alone as (1, 1, 0), or wrong for
     // both as (0, 1, 0): 4 pairs.
-    ProductRow {
-        a: "x:2 y:3 = ([0,0]|[1,1])*",
-        b: "y:3 z:2 = ([0,0]|[0,1]|[1,1])*",
-        op: Op::AndNot,
-        valid: &[],
-        made: "4 x:2 y:3 z:2 = / 0>0 1>0 8>1 9>0/! 0>1 1>1 8>1 9>1",
-    },
+    (
+        Call::Product(ProductRow {
+            a: "x:2 y:3 = ([0,0]|[1,1])*",
+            b: "y:3 z:2 = ([0,0]|[0,1]|[1,1])*",
+            op: Op::AndNot,
+            valid: &[],
+        }),
+        "4 x:2 y:3 z:2 = / 0>0 1>0 8>1 9>0/! 0>1 1>1 8>1 9>1",
+    ),
     // Among valid words each of these 4 pairs comes with each of the 3 residuals of the language of x: where the last 1
     // is not at the end, where it is, and after two 1s in a row. From the pair after no letter, (1, 1, 1), (1, 0, 0),
     // (1, 1, 0) and (1, 2, 0) lead to all pairs after a 1, from where (0, 0, 0) keeps each pair, and so do (1, 1, 1) where
     // the first argument is right and (1, 0, 0) where it isn't: 4 times 3.
-    ProductRow {
-        a: "x:2 y:3 = ([0,0]|[1,1])*",
-        b: "y:3 z:2 = ([0,0]|[0,1]|[1,1])*",
-        op: Op::Or,
-        valid: &[SPARSE, ANY_Y, ANY_Z],
-        made: "12 x:2 y:3 z:2 = /! 0>0 1>0 3>1 6>2 7>2 8>3 9>4/! 0>1 1>1 3>1 6>2 7>2 9>2/! 0>1 1>1 3>1/! 0>5 1>5/! 0>0 1>0 3>1/! 0>5 1>5 8>3 9>3",
-    },
+    (
+        Call::Product(ProductRow {
+            a: "x:2 y:3 = ([0,0]|[1,1])*",
+            b: "y:3 z:2 = ([0,0]|[0,1]|[1,1])*",
+            op: Op::Or,
+            valid: &[SPARSE, ANY_Y, ANY_Z],
+        }),
+        "12 x:2 y:3 z:2 = /! 0>0 1>0 3>1 6>2 7>2 8>3 9>4/! 0>1 1>1 3>1 6>2 7>2 9>2/! 0>1 1>1 3>1/! 0>5 1>5/! 0>0 1>0 3>1/! 0>5 1>5 8>3 9>3",
+    ),
 ];
 
 // The product of a row's automata under a limit, if these go together, or why there is none.
-fn joined(alloc: Global, row: &ProductRow, limit: u32) -> Result<String, RowFault> {
+pub fn joined(alloc: Global, row: &ProductRow, limit: u32) -> Result<String, RowFault> {
     let a = tracked(alloc, row.a)?;
     let b = tracked(alloc, row.b)?;
     let valid = languages(alloc, row.valid)?;
@@ -167,51 +177,30 @@ fn joint_sizes_of(alloc: Global, a: &Tracked, b: &Tracked) -> Result<Vec<u32>, R
     Ok(sizes_of_names(alloc, &names, a, b)?)
 }
 
-// Asserts that each product is made at its width, and not below.
-fn expect_products(rt: &impl Abort, alloc: Global, rows: &[ProductRow]) -> Result<(), RowFault> {
-    for row in rows {
-        let made = joined(alloc, row, width_of(row.made)?)?;
-        expect(rt, row.a, &made, row.made);
-        let narrow = joined(alloc, row, below_width_of(row.made)?)?;
-        expect(rt, row.a, &narrow, "States");
-    }
-    Ok(())
-}
-
 #[test]
-fn products_are_those_worked_out(rt: HostRuntime) -> Result<(), RowFault> {
-    expect_products(&rt, rt.alloc(), &PRODUCTS)
+fn products_are_those_worked_out(rt: HostRuntime) {
+    expect_widths(&rt, rt.alloc(), &PRODUCTS);
 }
 
 // Automata over seventeen tracks together, and over 257 times 256 letters.
-static LARGE: [ProductRow; 2] = [
-    ProductRow {
+static LARGE: [Call; 2] = [
+    Call::Product(ProductRow {
         a: "a:1 b:1 c:1 d:1 e:1 f:1 g:1 h:1 i:1 = ()",
         b: "j:1 k:1 l:1 m:1 n:1 o:1 p:1 q:1 = ()",
         op: Op::And,
         valid: &[],
-        made: "Letters",
-    },
-    ProductRow {
+    }),
+    Call::Product(ProductRow {
         a: "x:257 = ()",
         b: "y:256 = ()",
         op: Op::And,
         valid: &[],
-        made: "Letters",
-    },
+    }),
 ];
 
-// Asserts that each product is refused so.
-fn expect_refused(rt: &impl Abort, alloc: Global, rows: &[ProductRow]) -> Result<(), RowFault> {
-    for row in rows {
-        expect(rt, row.a, &joined(alloc, row, 1000)?, row.made);
-    }
-    Ok(())
-}
-
 #[test]
-fn joint_tracks_have_an_alphabet(rt: HostRuntime) -> Result<(), RowFault> {
-    expect_refused(&rt, rt.alloc(), &LARGE)
+fn joint_tracks_have_an_alphabet(rt: HostRuntime) {
+    expect_letters(&rt, rt.alloc(), &LARGE);
 }
 
 // Two automata, a language for each track, the longest words, and how many words up to that length are in their product
@@ -317,85 +306,91 @@ fn product_count(
     }
 }
 
-// Asserts that so many are in it by each connective of `OPS`.
-fn expect_row_counts(rt: &impl Abort, alloc: Global, row: &CountRow) -> Result<(), RowFault> {
-    for (op, wanted) in OPS.iter().zip(&row.counts) {
-        expect_count(rt, row.a, joined_count(alloc, row, *op)?, *wanted);
+// How many words up to the row's length are in its products by the connectives of `OPS`.
+fn joined_counts(alloc: Global, row: &CountRow) -> Result<Vec<usize>, RowFault> {
+    let mut counts = Vec::new(alloc);
+    for op in &OPS {
+        counts.push(joined_count(alloc, row, *op)?)?;
     }
-    Ok(())
+    Ok(counts)
 }
 
-// Asserts that there are as many words as wanted.
-fn expect_count(rt: &impl Abort, row: &str, found: usize, wanted: usize) {
-    assert_eq!(rt; found, wanted, "of {row}");
-}
-
-// Asserts that so many words are in each row's products.
-fn expect_counts(rt: &impl Abort, alloc: Global, rows: &[CountRow]) -> Result<(), RowFault> {
-    for row in rows {
-        expect_row_counts(rt, alloc, row)?;
-    }
-    Ok(())
+// Whether these are the row's.
+fn has_counts(alloc: Global, row: &CountRow) -> Result<bool, RowFault> {
+    Ok(joined_counts(alloc, row)?.as_slice() == row.counts.as_slice())
 }
 
 #[test]
-fn words_in_products_are_counted(rt: HostRuntime) -> Result<(), RowFault> {
-    expect_counts(&rt, rt.alloc(), &COUNTS)
+fn words_in_products_are_counted(rt: HostRuntime) {
+    for row in &COUNTS {
+        expect_so(&rt, row.a, &has_counts(rt.alloc(), row));
+    }
 }
 
-// The complement under a limit, if there is a language for each track, or why there is none.
-fn complement(alloc: Global, line: &str, valid: &[&str], limit: u32) -> Result<String, RowFault> {
-    let a = tracked(alloc, line)?;
-    let languages = languages(alloc, valid)?;
-    complement_text(alloc, &a, &languages, limit)
+/// Which of the valid words stay: those that an automaton does not accept, or those that it does.
+#[derive(Clone, Copy)]
+pub enum Restriction {
+    Complement,
+    ValidPart,
 }
 
-// The complement of an automaton under a limit, if there is a language for each track, or why there is none.
-fn complement_text(
+// The complement or the valid part of an automaton under a limit, if there is a language for each track.
+fn made(
     alloc: Global,
+    way: Restriction,
     a: &Tracked,
     languages: &[Rc<Dfa>],
     limit: u32,
-) -> Result<String, RowFault> {
+) -> Result<Result<Stepped<Tracked>, OpFault>, RowFault> {
     if are_languages(alloc, a.dfa().alphabet().sizes(), languages)? {
-        outcome(alloc, complement_in(alloc, a, languages, limit))
+        Ok(match way {
+            Restriction::Complement => complement_in(alloc, a, languages, limit),
+            Restriction::ValidPart => valid_part(alloc, a, languages, limit),
+        })
     } else {
         Err(RowFault::Form)
     }
 }
 
-// The valid part under a limit, if there is a language for each track, or why there is none.
-fn part(alloc: Global, line: &str, valid: &[&str], limit: u32) -> Result<String, RowFault> {
+// The same of the automaton and the languages of lines.
+fn made_of(
+    alloc: Global,
+    way: Restriction,
+    line: &str,
+    valid: &[&str],
+    limit: u32,
+) -> Result<Result<Stepped<Tracked>, OpFault>, RowFault> {
     let a = tracked(alloc, line)?;
     let languages = languages(alloc, valid)?;
-    part_text(alloc, &a, &languages, limit)
+    made(alloc, way, &a, &languages, limit)
 }
 
-// The valid part of an automaton under a limit, if there is a language for each track, or why there is none.
-fn part_text(
+/// The complement or the valid part under a limit, or why there is none.
+pub fn restricted(
     alloc: Global,
-    a: &Tracked,
-    languages: &[Rc<Dfa>],
+    way: Restriction,
+    line: &str,
+    valid: &[&str],
     limit: u32,
 ) -> Result<String, RowFault> {
-    if are_languages(alloc, a.dfa().alphabet().sizes(), languages)? {
-        outcome(alloc, valid_part(alloc, a, languages, limit))
-    } else {
-        Err(RowFault::Form)
-    }
+    outcome(alloc, made_of(alloc, way, line, valid, limit)?)
 }
 
+// Of the automaton `ENDS`.
+static ENDINGS: [(Call, &str); 2] = [
+    (
+        Call::Restricted(Restriction::Complement, ENDS, &[SPARSE]),
+        "4 x:2 = /! 0>0 1>1/ 0>0",
+    ),
+    (
+        Call::Restricted(Restriction::ValidPart, ENDS, &[SPARSE]),
+        "4 x:2 = / 0>0 1>1/! 0>0",
+    ),
+];
+
 #[test]
-fn complements_and_parts_have_valid_words_alone(rt: HostRuntime) -> Result<(), RowFault> {
-    let others = complement(rt.alloc(), ENDS, &[SPARSE], 4)?;
-    expect(&rt, ENDS, &others, "4 x:2 = /! 0>0 1>1/ 0>0");
-    let narrow = complement(rt.alloc(), ENDS, &[SPARSE], 3)?;
-    expect(&rt, ENDS, &narrow, "States");
-    let some = part(rt.alloc(), ENDS, &[SPARSE], 4)?;
-    expect(&rt, ENDS, &some, "4 x:2 = / 0>0 1>1/! 0>0");
-    let narrow = part(rt.alloc(), ENDS, &[SPARSE], 3)?;
-    expect(&rt, ENDS, &narrow, "States");
-    Ok(())
+fn complements_and_parts_have_valid_words_alone(rt: HostRuntime) {
+    expect_widths(&rt, rt.alloc(), &ENDINGS);
 }
 
 // An automaton, a language for each track, the longest words, and how many words up to that length are in the
@@ -412,76 +407,35 @@ static VALID_WORDS: [(&str, &[&str], usize, usize, usize); 3] = [
     ),
 ];
 
-// How many words up to a length are in the complement, if there is a language for each track.
-fn complement_count(
+// How many words up to a length are in the complement or the valid part.
+fn restricted_count(
     alloc: Global,
+    way: Restriction,
     line: &str,
     valid: &[&str],
     longest: usize,
 ) -> Result<usize, RowFault> {
-    let a = tracked(alloc, line)?;
-    let languages = languages(alloc, valid)?;
-    complement_size(alloc, &a, &languages, longest)
+    accepted_in(alloc, made_of(alloc, way, line, valid, 1000)?, longest)
 }
 
-// How many words up to a length are in the complement of an automaton, if there is a language for each track.
-fn complement_size(
-    alloc: Global,
-    a: &Tracked,
-    languages: &[Rc<Dfa>],
-    longest: usize,
-) -> Result<usize, RowFault> {
-    if are_languages(alloc, a.dfa().alphabet().sizes(), languages)? {
-        accepted_in(alloc, complement_in(alloc, a, languages, 1000), longest)
-    } else {
-        Err(RowFault::Form)
-    }
-}
-
-// How many words up to a length are in the valid part, if there is a language for each track.
-fn part_count(
+// How many are in the complement, and how many in the valid part.
+fn valid_counts(
     alloc: Global,
     line: &str,
     valid: &[&str],
     longest: usize,
-) -> Result<usize, RowFault> {
-    let a = tracked(alloc, line)?;
-    let languages = languages(alloc, valid)?;
-    part_size(alloc, &a, &languages, longest)
-}
-
-// How many words up to a length are in the valid part of an automaton, if there is a language for each track.
-fn part_size(
-    alloc: Global,
-    a: &Tracked,
-    languages: &[Rc<Dfa>],
-    longest: usize,
-) -> Result<usize, RowFault> {
-    if are_languages(alloc, a.dfa().alphabet().sizes(), languages)? {
-        accepted_in(alloc, valid_part(alloc, a, languages, 1000), longest)
-    } else {
-        Err(RowFault::Form)
-    }
-}
-
-// Asserts that so many words are in each complement and in each valid part.
-fn expect_valid_words(
-    rt: &impl Abort,
-    alloc: Global,
-    rows: &[(&str, &[&str], usize, usize, usize)],
-) -> Result<(), RowFault> {
-    for (line, valid, longest, others, some) in rows {
-        let found = complement_count(alloc, line, valid, *longest)?;
-        expect_count(rt, line, found, *others);
-        let found = part_count(alloc, line, valid, *longest)?;
-        expect_count(rt, line, found, *some);
-    }
-    Ok(())
+) -> Result<(usize, usize), RowFault> {
+    let others = restricted_count(alloc, Restriction::Complement, line, valid, longest)?;
+    let some = restricted_count(alloc, Restriction::ValidPart, line, valid, longest)?;
+    Ok((others, some))
 }
 
 #[test]
-fn valid_words_are_counted(rt: HostRuntime) -> Result<(), RowFault> {
-    expect_valid_words(&rt, rt.alloc(), &VALID_WORDS)
+fn valid_words_are_counted(rt: HostRuntime) {
+    for (line, valid, longest, others, some) in &VALID_WORDS {
+        let found = valid_counts(rt.alloc(), line, valid, *longest).ok();
+        expect_value(&rt, line, &found, &Some((*others, *some)));
+    }
 }
 
 // The tracks of two automata as one list, where they agree on those of one name.
@@ -519,21 +473,11 @@ static JOINT: [(&str, &str, &str); 4] = [
     ("x:2 = .", "x:0 = ()", ""),
 ];
 
-// Asserts that each two have these joint tracks.
-fn expect_joint(
-    rt: &impl Abort,
-    alloc: Global,
-    rows: &[(&str, &str, &str)],
-) -> Result<(), RowFault> {
-    for (a, b, wanted) in rows {
-        expect(rt, a, &joint(alloc, a, b)?, wanted);
-    }
-    Ok(())
-}
-
 #[test]
-fn tracks_of_one_name_are_one_track(rt: HostRuntime) -> Result<(), RowFault> {
-    expect_joint(&rt, rt.alloc(), &JOINT)
+fn tracks_of_one_name_are_one_track(rt: HostRuntime) {
+    for (a, b, wanted) in &JOINT {
+        expect(&rt, a, &joint(rt.alloc(), a, b), wanted);
+    }
 }
 
 // An automaton, languages, and whether these are one for each track.
@@ -551,33 +495,23 @@ fn has_languages(alloc: Global, line: &str, valid: &[&str]) -> Result<bool, RowF
     Ok(are_languages(alloc, a.dfa().alphabet().sizes(), &languages)?)
 }
 
-// Asserts that each row has a language for each track, or not.
-fn expect_languages(
-    rt: &impl Abort,
-    alloc: Global,
-    rows: &[(&str, &[&str], bool)],
-) -> Result<(), RowFault> {
-    for (line, valid, wanted) in rows {
-        let found = has_languages(alloc, line, valid)?;
-        assert_eq!(rt; found, *wanted, "of {line}");
-    }
-    Ok(())
-}
-
 #[test]
-fn each_track_has_a_language(rt: HostRuntime) -> Result<(), RowFault> {
-    expect_languages(&rt, rt.alloc(), &LANGUAGES)
+fn each_track_has_a_language(rt: HostRuntime) {
+    for (line, valid, wanted) in &LANGUAGES {
+        let found = has_languages(rt.alloc(), line, valid).ok();
+        expect_value(&rt, line, &found, &Some(*wanted));
+    }
 }
 
 // What the connectives say of false and false, false and true, true and false, and true and true, and whether they are
 // taken among valid words alone.
-static TRUTH: [(Op, [bool; 4], bool); 6] = [
-    (Op::And, [false, false, false, true], false),
-    (Op::AndNot, [false, false, true, false], false),
-    (Op::Or, [false, true, true, true], true),
-    (Op::Xor, [false, true, true, false], true),
-    (Op::Implies, [true, true, false, true], true),
-    (Op::Iff, [true, false, false, true], true),
+static TRUTH: [(&str, Op, [bool; 4], bool); 6] = [
+    ("And", Op::And, [false, false, false, true], false),
+    ("AndNot", Op::AndNot, [false, false, true, false], false),
+    ("Or", Op::Or, [false, true, true, true], true),
+    ("Xor", Op::Xor, [false, true, true, false], true),
+    ("Implies", Op::Implies, [true, true, false, true], true),
+    ("Iff", Op::Iff, [true, false, false, true], true),
 ];
 
 // What a connective says of false and false, false and true, true and false, and true and true.
@@ -590,15 +524,10 @@ fn truth_of(op: Op) -> [bool; 4] {
     ]
 }
 
-// Asserts that the connectives say this.
-fn expect_truth(rt: &impl Abort, rows: &[(Op, [bool; 4], bool)]) {
-    for (op, wanted, among_valid) in rows {
-        assert_eq!(rt; truth_of(*op), *wanted, "of {op:?}");
-        assert_eq!(rt; op.is_among_valid(), *among_valid, "of {op:?}");
-    }
-}
-
 #[test]
 fn connectives_are_those_of_truth_values(rt: HostRuntime) {
-    expect_truth(&rt, &TRUTH);
+    for (row, op, wanted, among_valid) in &TRUTH {
+        expect_value(&rt, row, &truth_of(*op), wanted);
+        expect_value(&rt, row, &op.is_among_valid(), among_valid);
+    }
 }

@@ -5,6 +5,7 @@ ghost use Rattle.std.specs.Rc.{rc_value};
 ghost use Rattle.numeration.specs.Spelling.{sizes_of};
 ghost use Rattle.num_system.specs.Tracks.{HaveOneWay, systems_of};
 
+use crate::outcomes::expect_value;
 use crate::row_fault::RowFault;
 use base_k::base_k::BaseK;
 use dfa_reading::{FileHeader, Listed, read_relation};
@@ -19,7 +20,6 @@ use num_system::system::System;
 use number_relations::reading::reading_steps;
 use number_relations::relation::Relation;
 use std::alloc::Global;
-use std::process::Abort;
 use std::rc::Rc;
 
 // The branching automaton of a short file, whose systems have so many digits.
@@ -103,21 +103,22 @@ static EDGES: [(&[u8], &[u32], Option<usize>); 13] = [
     (b"msd_X msd_Y\n0 1\n65535 0 -> 0\n", &[65536, 1], Some(1)),
 ];
 
-// Asserts that the first state of each file has so many edges.
-fn expect_edges(
-    rt: &impl Abort,
-    alloc: Global,
-    rows: &[(&[u8], &[u32], Option<usize>)],
-) -> Result<(), RowFault> {
-    for (row, (text, digits, edges)) in rows.iter().enumerate() {
-        assert_eq!(rt; edges_of(alloc, text, digits)?, *edges, "of row {row}");
+// The number of the first of these files whose first state has not so many edges, counted from 0; how many they are, if each has.
+fn first_other(alloc: Global, rows: &[(&[u8], &[u32], Option<usize>)]) -> Result<usize, RowFault> {
+    let mut count: usize = 0;
+    for (text, digits, edges) in rows {
+        if edges_of(alloc, text, digits)? != *edges {
+            return Ok(count);
+        }
+        count = count.saturating_add(1);
     }
-    Ok(())
+    Ok(count)
 }
 
 #[test]
-fn files_have_these_edges(rt: HostRuntime) -> Result<(), RowFault> {
-    expect_edges(&rt, rt.alloc(), &EDGES)
+fn files_have_these_edges(rt: HostRuntime) {
+    let found = first_other(rt.alloc(), &EDGES).ok();
+    expect_value(&rt, "files", &found, &Some(EDGES.len()));
 }
 
 // A system: the base of this number, or the Fibonacci system where it is None.
@@ -134,9 +135,10 @@ fn sealed(alloc: Global, numerals: Numerals, direction: Direction) -> Result<Sys
     }
 }
 
-// A file over systems of one direction, the widths and the sizes of the steps read, pad and valid, and words that the relation
+// A name, a file over systems of one direction, the widths and the sizes of the steps read, pad and valid, and words that the relation
 // accepts, and words that it does not.
 struct Row {
+    name: &'static str,
     text: &'static [u8],
     direction: Direction,
     systems: &'static [Numerals],
@@ -149,6 +151,7 @@ struct Row {
 static ROWS: [Row; 11] = [
     // any number, since some zeros before a word make it accepted
     Row {
+        name: "any number by zeros before it",
         text: b"msd_2\n0 1\n0 -> 0\n0 -> 1\n1 -> 1\n1 0\n1 -> 0\n",
         direction: Direction::Msd,
         systems: &[Some(2)],
@@ -158,6 +161,7 @@ static ROWS: [Row; 11] = [
         refused: &[],
     },
     Row {
+        name: "any number",
         text: b"msd_2\n# c\n7 1\n* -> 7\n",
         direction: Direction::Msd,
         systems: &[Some(2)],
@@ -168,6 +172,7 @@ static ROWS: [Row; 11] = [
     },
     // pairs of equal numbers
     Row {
+        name: "equal in lsd_3",
         text: b"lsd_3 lsd_3\n0 1\n0 0 -> 0\n1 1 -> 0\n2 2 -> 0\n",
         direction: Direction::Lsd,
         systems: &[Some(3), Some(3)],
@@ -178,6 +183,7 @@ static ROWS: [Row; 11] = [
     },
     // any number, of which the words without 11 are valid
     Row {
+        name: "any number in msd_fib",
         text: b"msd_fib\n0 1\n* -> 0\n",
         direction: Direction::Msd,
         systems: &[None],
@@ -188,6 +194,7 @@ static ROWS: [Row; 11] = [
     },
     // the number 0, by its spelling 0 alone
     Row {
+        name: "zero in lsd_2",
         text: b"lsd_2\n0 0\n0 -> 1\n1 1\n",
         direction: Direction::Lsd,
         systems: &[Some(2)],
@@ -197,6 +204,7 @@ static ROWS: [Row; 11] = [
         refused: &[&[1], &[0, 1]],
     },
     Row {
+        name: "zero in msd_2",
         text: b"msd_2\r\n0 0\r\n0 -> 1\r\n1 1\r\n",
         direction: Direction::Msd,
         systems: &[Some(2)],
@@ -207,6 +215,7 @@ static ROWS: [Row; 11] = [
     },
     // no number
     Row {
+        name: "no number",
         text: b"msd_2\n\n0 0\n",
         direction: Direction::Msd,
         systems: &[Some(2)],
@@ -217,6 +226,7 @@ static ROWS: [Row; 11] = [
     },
     // the number 1, by its spelling 01 alone, with an output below 0
     Row {
+        name: "one",
         text: b"msd_2\n0 0\n0 -> 1\n1 0\n1 -> 2\n2 -7\n",
         direction: Direction::Msd,
         systems: &[Some(2)],
@@ -227,6 +237,7 @@ static ROWS: [Row; 11] = [
     },
     // the numbers that are written with 3 alone, and 0
     Row {
+        name: "threes alone",
         text: b"msd_10\n0 2\n3 -> 0\n",
         direction: Direction::Msd,
         systems: &[Some(10)],
@@ -237,6 +248,7 @@ static ROWS: [Row; 11] = [
     },
     // digits that the system has not: their remainders are not taken
     Row {
+        name: "digits that are not there",
         text: b"lsd_X\n0 1\n0 -> 0\n3 -> 0\n4294967295 -> 0\n",
         direction: Direction::Lsd,
         systems: &[Some(2)],
@@ -247,6 +259,7 @@ static ROWS: [Row; 11] = [
     },
     // pairs of equal numbers, of which words without 11 are valid
     Row {
+        name: "equal in lsd_fib",
         text: b"lsd_fib lsd_fib\n0 1\n1 1 -> 0\n0 0 -> 0\n",
         direction: Direction::Lsd,
         systems: &[None, None],
@@ -329,21 +342,23 @@ fn answers(relation: &Relation, words: &[&[u32]], wanted: bool) -> bool {
         .all(|word| relation.dfa().accepts(word) == wanted)
 }
 
-// Asserts that each file has its steps, and that its relation accepts the words that it is to accept.
-fn expect_rows(rt: &impl Abort, alloc: Global, rows: &[Row]) -> Result<(), RowFault> {
-    for (number, row) in rows.iter().enumerate() {
-        let mut steps = Steps::new(alloc, 1000);
-        let relation = relation_of(alloc, row, &mut steps)?;
-        assert!(rt; are_lines_of(&steps, row), "the lines of row {number}");
-        assert!(rt; answers(&relation, row.accepted, true), "of row {number}");
-        assert!(rt; answers(&relation, row.refused, false), "of row {number}");
-    }
-    Ok(())
+// Whether a file has its steps, and its relation accepts the words that it is to accept, and none of the others.
+fn is_row(alloc: Global, row: &Row) -> Result<[bool; 3], RowFault> {
+    let mut steps = Steps::new(alloc, 1000);
+    let relation = relation_of(alloc, row, &mut steps)?;
+    Ok([
+        are_lines_of(&steps, row),
+        answers(&relation, row.accepted, true),
+        answers(&relation, row.refused, false),
+    ])
 }
 
 #[test]
-fn files_have_these_steps(rt: HostRuntime) -> Result<(), RowFault> {
-    expect_rows(&rt, rt.alloc(), &ROWS)
+fn files_have_these_steps(rt: HostRuntime) {
+    for row in &ROWS {
+        let found = is_row(rt.alloc(), row).ok();
+        expect_value(&rt, row.name, &found, &Some([true, true, true]));
+    }
 }
 
 // Why the steps of a row are refused under a limit, if they are.
@@ -370,22 +385,20 @@ fn first_past(widths: [u32; 3], limit: u32) -> Option<StepFault> {
     }
 }
 
-// Asserts that the first step of each file that passes a limit is refused, under each limit up to 12.
-fn expect_refusals(rt: &impl Abort, alloc: Global, rows: &[Row]) -> Result<(), RowFault> {
-    for (number, row) in rows.iter().enumerate() {
-        for limit in 0..13 {
-            let found = refusal(alloc, row, limit)?;
-            assert_eq!(rt;
-                found,
-                first_past(row.widths, limit),
-                "of row {number} under {limit}"
-            );
+// The first limit up to 12 under which the first step that passes it is not the one that is refused, if there is one.
+fn first_unkept(alloc: Global, row: &Row) -> Result<Option<u32>, RowFault> {
+    for limit in 0..13 {
+        if refusal(alloc, row, limit)? != first_past(row.widths, limit) {
+            return Ok(Some(limit));
         }
     }
-    Ok(())
+    Ok(None)
 }
 
 #[test]
-fn the_first_step_past_the_limit_is_refused(rt: HostRuntime) -> Result<(), RowFault> {
-    expect_refusals(&rt, rt.alloc(), &ROWS)
+fn the_first_step_past_the_limit_is_refused(rt: HostRuntime) {
+    for row in &ROWS {
+        let found = first_unkept(rt.alloc(), row).ok();
+        expect_value(&rt, row.name, &found, &Some(None));
+    }
 }

@@ -1,7 +1,7 @@
 //! Relations on numbers in some bases, against arithmetic.
 
 use crate::headers::names_of;
-use crate::outcomes::{expect, lines_of};
+use crate::outcomes::{expect, expect_value, lines_of};
 use crate::row_fault::RowFault;
 use crate::sealed_systems::sealed;
 use digit_tuple::direction::Direction;
@@ -17,17 +17,16 @@ use number_relations::multiple::{MultipleNames, multiple_steps};
 use number_relations::projection::project_step;
 use number_relations::relation::Relation;
 use std::alloc::Global;
-use std::process::Abort;
 use std::rc::Rc;
 
 // Some bases, each in both directions.
-static BASES: [(u32, Direction); 6] = [
-    (2, Direction::Msd),
-    (2, Direction::Lsd),
-    (3, Direction::Msd),
-    (3, Direction::Lsd),
-    (10, Direction::Msd),
-    (10, Direction::Lsd),
+static BASES: [(&str, u32, Direction); 6] = [
+    ("msd_2", 2, Direction::Msd),
+    ("lsd_2", 2, Direction::Lsd),
+    ("msd_3", 3, Direction::Msd),
+    ("lsd_3", 3, Direction::Lsd),
+    ("msd_10", 10, Direction::Msd),
+    ("lsd_10", 10, Direction::Lsd),
 ];
 
 // A base, sealed.
@@ -110,7 +109,7 @@ fn holds(
 }
 
 // A relation that is made without a step, under the names x, y and z.
-#[derive(Clone, Copy, Debug)]
+#[derive(Clone, Copy)]
 enum Made {
     Compared(Comparison, &'static str, &'static str),
     Sum(&'static str, &'static str, &'static str),
@@ -181,82 +180,10 @@ fn is_so(made: Made, numbers: [u32; 3]) -> bool {
     }
 }
 
-// Each comparison under two names in one order and the other, and under one; sums under five patterns of names; a number;
-// and what is true and false.
-static MADE: [Made; 26] = [
-    Made::Compared(Comparison::Equal, "x", "y"),
-    Made::Compared(Comparison::Equal, "y", "x"),
-    Made::Compared(Comparison::Equal, "x", "x"),
-    Made::Compared(Comparison::Unequal, "x", "y"),
-    Made::Compared(Comparison::Unequal, "y", "x"),
-    Made::Compared(Comparison::Unequal, "x", "x"),
-    Made::Compared(Comparison::Less, "x", "y"),
-    Made::Compared(Comparison::Less, "y", "x"),
-    Made::Compared(Comparison::Less, "x", "x"),
-    Made::Compared(Comparison::Greater, "x", "y"),
-    Made::Compared(Comparison::Greater, "y", "x"),
-    Made::Compared(Comparison::Greater, "x", "x"),
-    Made::Compared(Comparison::AtMost, "x", "y"),
-    Made::Compared(Comparison::AtMost, "y", "x"),
-    Made::Compared(Comparison::AtMost, "x", "x"),
-    Made::Compared(Comparison::AtLeast, "x", "y"),
-    Made::Compared(Comparison::AtLeast, "y", "x"),
-    Made::Compared(Comparison::AtLeast, "x", "x"),
-    Made::Sum("x", "y", "z"),
-    Made::Sum("x", "x", "y"),
-    Made::Sum("x", "y", "x"),
-    Made::Sum("y", "x", "x"),
-    Made::Sum("x", "x", "x"),
-    Made::Number("x"),
-    Made::Truth(true),
-    Made::Truth(false),
-];
-
-// Whether the relation holds as arithmetic has it, of all x, y and z below 8.
-fn is_right(alloc: Global, shared: &Shared, made: Made) -> Result<bool, RowFault> {
-    let relation = made_in(alloc, shared, made)?;
-    let mut right = true;
-    for number in 0..512 {
-        let numbers = [number / 64, number / 8 % 8, number % 8];
-        right = right && holds(alloc, shared, &relation, 3, numbers)? == is_so(made, numbers);
-    }
-    Ok(right)
-}
-
-// Asserts that each relation holds in a base as arithmetic has it.
-fn expect_made(
-    rt: &impl Abort,
-    alloc: Global,
-    shared: &Shared,
-    rows: &[Made],
-) -> Result<(), RowFault> {
-    for made in rows {
-        assert!(rt; is_right(alloc, shared, *made)?, "of {made:?}");
-    }
-    Ok(())
-}
-
-// Asserts that each relation does so in each base.
-fn expect_in_bases(
-    rt: &impl Abort,
-    alloc: Global,
-    bases: &[(u32, Direction)],
-) -> Result<(), RowFault> {
-    for (base, direction) in bases {
-        let shared = shared_base(alloc, *base, *direction)?;
-        expect_made(rt, alloc, &shared, &MADE)?;
-    }
-    Ok(())
-}
-
-#[test]
-fn relations_hold_of_the_numbers_of_arithmetic(rt: HostRuntime) -> Result<(), RowFault> {
-    expect_in_bases(&rt, rt.alloc(), &BASES)
-}
-
-// A relation that is made of another one, or by a step alone.
-#[derive(Clone, Copy, Debug)]
-enum Changed {
+// A relation that is made without a step, of another one, or by a step alone.
+#[derive(Clone, Copy)]
+enum Tried {
+    Made(Made),
     Constant(u64, &'static str),
     Complement(Made),
     Projected(Made, &'static str),
@@ -264,12 +191,13 @@ enum Changed {
 }
 
 // The relation in a base.
-fn changed_in(alloc: Global, shared: &Shared, changed: Changed) -> Result<Relation, RowFault> {
-    match changed {
-        Changed::Constant(number, a) => constant(alloc, shared, number, a),
-        Changed::Complement(made) => complement(alloc, &made_in(alloc, shared, made)?),
-        Changed::Projected(made, a) => projected(alloc, &made_in(alloc, shared, made)?, a),
-        Changed::Renamed(made, a, b) => renamed(alloc, &made_in(alloc, shared, made)?, a, b),
+fn tried_in(alloc: Global, shared: &Shared, tried: Tried) -> Result<Relation, RowFault> {
+    match tried {
+        Tried::Made(made) => made_in(alloc, shared, made),
+        Tried::Constant(number, a) => constant(alloc, shared, number, a),
+        Tried::Complement(made) => complement(alloc, &made_in(alloc, shared, made)?),
+        Tried::Projected(made, a) => projected(alloc, &made_in(alloc, shared, made)?, a),
+        Tried::Renamed(made, a, b) => renamed(alloc, &made_in(alloc, shared, made)?, a, b),
     }
 }
 
@@ -337,77 +265,110 @@ fn is_so_of_some(made: Made, name: &str, numbers: [u32; 3]) -> bool {
 }
 
 // Whether the relation holds, by arithmetic.
-fn is_changed_so(changed: Changed, numbers: [u32; 3]) -> bool {
-    match changed {
-        Changed::Constant(number, a) => u64::from(number_of(a, numbers)) == number,
-        Changed::Complement(made) => !is_so(made, numbers),
-        Changed::Projected(made, a) => is_so_of_some(made, a, numbers),
-        Changed::Renamed(made, a, b) => is_so(made, with_number(a, number_of(b, numbers), numbers)),
+fn is_tried_so(tried: Tried, numbers: [u32; 3]) -> bool {
+    match tried {
+        Tried::Made(made) => is_so(made, numbers),
+        Tried::Constant(number, a) => u64::from(number_of(a, numbers)) == number,
+        Tried::Complement(made) => !is_so(made, numbers),
+        Tried::Projected(made, a) => is_so_of_some(made, a, numbers),
+        Tried::Renamed(made, a, b) => is_so(made, with_number(a, number_of(b, numbers), numbers)),
     }
 }
 
-// Single numbers; complements; projections, for whose numbers below 8 there is a number below 16 on the track that is
-// dropped, if there is one; tracks under other names.
-static CHANGED: [Changed; 13] = [
-    Changed::Constant(0, "x"),
-    Changed::Constant(5, "y"),
-    Changed::Constant(8, "x"),
-    Changed::Complement(Made::Compared(Comparison::Less, "x", "y")),
-    Changed::Complement(Made::Sum("x", "y", "z")),
-    Changed::Complement(Made::Truth(true)),
-    Changed::Projected(Made::Sum("x", "y", "z"), "z"),
-    Changed::Projected(Made::Sum("x", "y", "z"), "x"),
-    Changed::Projected(Made::Sum("y", "y", "x"), "y"),
-    Changed::Projected(Made::Compared(Comparison::Less, "x", "y"), "x"),
-    Changed::Projected(Made::Compared(Comparison::Unequal, "x", "x"), "x"),
-    Changed::Renamed(Made::Compared(Comparison::Less, "x", "y"), "x", "z"),
-    Changed::Renamed(Made::Sum("x", "y", "y"), "z", "a"),
+// Each comparison under two names in one order and the other, and under one; sums under five patterns of names; a number;
+// and what is true and false.
+static MADE: [Tried; 26] = [
+    Tried::Made(Made::Compared(Comparison::Equal, "x", "y")),
+    Tried::Made(Made::Compared(Comparison::Equal, "y", "x")),
+    Tried::Made(Made::Compared(Comparison::Equal, "x", "x")),
+    Tried::Made(Made::Compared(Comparison::Unequal, "x", "y")),
+    Tried::Made(Made::Compared(Comparison::Unequal, "y", "x")),
+    Tried::Made(Made::Compared(Comparison::Unequal, "x", "x")),
+    Tried::Made(Made::Compared(Comparison::Less, "x", "y")),
+    Tried::Made(Made::Compared(Comparison::Less, "y", "x")),
+    Tried::Made(Made::Compared(Comparison::Less, "x", "x")),
+    Tried::Made(Made::Compared(Comparison::Greater, "x", "y")),
+    Tried::Made(Made::Compared(Comparison::Greater, "y", "x")),
+    Tried::Made(Made::Compared(Comparison::Greater, "x", "x")),
+    Tried::Made(Made::Compared(Comparison::AtMost, "x", "y")),
+    Tried::Made(Made::Compared(Comparison::AtMost, "y", "x")),
+    Tried::Made(Made::Compared(Comparison::AtMost, "x", "x")),
+    Tried::Made(Made::Compared(Comparison::AtLeast, "x", "y")),
+    Tried::Made(Made::Compared(Comparison::AtLeast, "y", "x")),
+    Tried::Made(Made::Compared(Comparison::AtLeast, "x", "x")),
+    Tried::Made(Made::Sum("x", "y", "z")),
+    Tried::Made(Made::Sum("x", "x", "y")),
+    Tried::Made(Made::Sum("x", "y", "x")),
+    Tried::Made(Made::Sum("y", "x", "x")),
+    Tried::Made(Made::Sum("x", "x", "x")),
+    Tried::Made(Made::Number("x")),
+    Tried::Made(Made::Truth(true)),
+    Tried::Made(Made::Truth(false)),
 ];
 
-// Whether the relation holds as arithmetic has it, of all x, y and z below 8.
-fn is_changed_right(alloc: Global, shared: &Shared, changed: Changed) -> Result<bool, RowFault> {
-    let relation = changed_in(alloc, shared, changed)?;
+// Single numbers; complements; projections, for whose numbers below 8 there is a number below 16 on the track that is
+// dropped, if there is one; tracks under other names.
+static CHANGED: [Tried; 13] = [
+    Tried::Constant(0, "x"),
+    Tried::Constant(5, "y"),
+    Tried::Constant(8, "x"),
+    Tried::Complement(Made::Compared(Comparison::Less, "x", "y")),
+    Tried::Complement(Made::Sum("x", "y", "z")),
+    Tried::Complement(Made::Truth(true)),
+    Tried::Projected(Made::Sum("x", "y", "z"), "z"),
+    Tried::Projected(Made::Sum("x", "y", "z"), "x"),
+    Tried::Projected(Made::Sum("y", "y", "x"), "y"),
+    Tried::Projected(Made::Compared(Comparison::Less, "x", "y"), "x"),
+    Tried::Projected(Made::Compared(Comparison::Unequal, "x", "x"), "x"),
+    Tried::Renamed(Made::Compared(Comparison::Less, "x", "y"), "x", "z"),
+    Tried::Renamed(Made::Sum("x", "y", "y"), "z", "a"),
+];
+
+// Whether the relation holds as arithmetic has it, of all x, y and z below 8, by words of so many letters.
+fn is_right(alloc: Global, shared: &Shared, tried: Tried, length: u32) -> Result<bool, RowFault> {
+    let relation = tried_in(alloc, shared, tried)?;
     let mut right = true;
     for number in 0..512 {
         let numbers = [number / 64, number / 8 % 8, number % 8];
-        let found = holds(alloc, shared, &relation, 4, numbers)?;
-        right = right && found == is_changed_so(changed, numbers);
+        let found = holds(alloc, shared, &relation, length, numbers)?;
+        right = right && found == is_tried_so(tried, numbers);
     }
     Ok(right)
 }
 
-// Asserts that each changed relation holds in a base as arithmetic has it.
-fn expect_changed(
-    rt: &impl Abort,
+// The number of the first relation that does not hold so in a base, counted from 0; how many they are, if each does.
+fn first_wrong(
     alloc: Global,
-    shared: &Shared,
-    rows: &[Changed],
-) -> Result<(), RowFault> {
-    for changed in rows {
-        assert!(rt;
-            is_changed_right(alloc, shared, *changed)?,
-            "of {changed:?}"
-        );
+    base: u32,
+    direction: Direction,
+    rows: &[Tried],
+    length: u32,
+) -> Result<usize, RowFault> {
+    let shared = shared_base(alloc, base, direction)?;
+    let mut count: usize = 0;
+    for tried in rows {
+        if !is_right(alloc, &shared, *tried, length)? {
+            return Ok(count);
+        }
+        count = count.saturating_add(1);
     }
-    Ok(())
-}
-
-// Asserts that each changed relation does so in each base.
-fn expect_changed_in_bases(
-    rt: &impl Abort,
-    alloc: Global,
-    bases: &[(u32, Direction)],
-) -> Result<(), RowFault> {
-    for (base, direction) in bases {
-        let shared = shared_base(alloc, *base, *direction)?;
-        expect_changed(rt, alloc, &shared, &CHANGED)?;
-    }
-    Ok(())
+    Ok(count)
 }
 
 #[test]
-fn changed_relations_hold_of_the_numbers_of_arithmetic(rt: HostRuntime) -> Result<(), RowFault> {
-    expect_changed_in_bases(&rt, rt.alloc(), &BASES)
+fn relations_hold_of_the_numbers_of_arithmetic(rt: HostRuntime) {
+    for (row, base, direction) in &BASES {
+        let found = first_wrong(rt.alloc(), *base, *direction, &MADE, 3).ok();
+        expect_value(&rt, row, &found, &Some(MADE.len()));
+    }
+}
+
+#[test]
+fn changed_relations_hold_of_the_numbers_of_arithmetic(rt: HostRuntime) {
+    for (row, base, direction) in &BASES {
+        let found = first_wrong(rt.alloc(), *base, *direction, &CHANGED, 4).ok();
+        expect_value(&rt, row, &found, &Some(CHANGED.len()));
+    }
 }
 
 // Whether the relation is true, if it has no track.
@@ -417,27 +378,17 @@ fn verdict(alloc: Global, made: Made) -> Result<Option<bool>, RowFault> {
 }
 
 // Relations, and whether they are true, if they have no track.
-static VERDICTS: [(Made, Option<bool>); 3] = [
-    (Made::Truth(true), Some(true)),
-    (Made::Truth(false), Some(false)),
-    (Made::Number("x"), None),
+static VERDICTS: [(&str, Made, Option<bool>); 3] = [
+    ("true", Made::Truth(true), Some(true)),
+    ("false", Made::Truth(false), Some(false)),
+    ("a number", Made::Number("x"), None),
 ];
 
-// Asserts that each relation has this verdict.
-fn expect_verdicts(
-    rt: &impl Abort,
-    alloc: Global,
-    rows: &[(Made, Option<bool>)],
-) -> Result<(), RowFault> {
-    for (made, wanted) in rows {
-        assert_eq!(rt; verdict(alloc, *made)?, *wanted, "of {made:?}");
-    }
-    Ok(())
-}
-
 #[test]
-fn sentences_are_true_or_false(rt: HostRuntime) -> Result<(), RowFault> {
-    expect_verdicts(&rt, rt.alloc(), &VERDICTS)
+fn sentences_are_true_or_false(rt: HostRuntime) {
+    for (row, made, wanted) in &VERDICTS {
+        expect_value(&rt, row, &verdict(rt.alloc(), *made).ok(), &Some(*wanted));
+    }
 }
 
 // The relation that y is so many times x, by the next steps.
@@ -488,19 +439,23 @@ fn multiplies(alloc: Global, shared: &Shared, factor: u32) -> Result<bool, RowFa
     Ok(right)
 }
 
-// Asserts that numbers are multiplied in base 2 by all factors up to 100.
-fn expect_multiples(rt: &impl Abort, alloc: Global, direction: Direction) -> Result<(), RowFault> {
+// The first factor up to 100 by which numbers are not multiplied so in base 2, if there is one.
+fn first_wrong_factor(alloc: Global, direction: Direction) -> Result<Option<u32>, RowFault> {
     let shared = shared_base(alloc, 2, direction)?;
     for factor in 0..=100 {
-        assert!(rt; multiplies(alloc, &shared, factor)?, "by {factor}");
+        if !multiplies(alloc, &shared, factor)? {
+            return Ok(Some(factor));
+        }
     }
-    Ok(())
+    Ok(None)
 }
 
 #[test]
-fn multiples_are_those_of_multiplication(rt: HostRuntime) -> Result<(), RowFault> {
-    expect_multiples(&rt, rt.alloc(), Direction::Msd)?;
-    expect_multiples(&rt, rt.alloc(), Direction::Lsd)
+fn multiples_are_those_of_multiplication(rt: HostRuntime) {
+    let msd = first_wrong_factor(rt.alloc(), Direction::Msd).ok();
+    expect_value(&rt, "msd_2", &msd, &Some(None));
+    let lsd = first_wrong_factor(rt.alloc(), Direction::Lsd).ok();
+    expect_value(&rt, "lsd_2", &lsd, &Some(None));
 }
 
 // The lines of the steps of a multiple in base 2.
@@ -523,19 +478,9 @@ static MULTIPLES: [(u64, &str, &str); 4] = [
     ),
 ];
 
-// Asserts that each multiple has these steps.
-fn expect_steps(
-    rt: &impl Abort,
-    alloc: Global,
-    rows: &[(u64, &str, &str)],
-) -> Result<(), RowFault> {
-    for (factor, row, wanted) in rows {
-        expect(rt, row, &multiple_lines(alloc, *factor)?, wanted);
-    }
-    Ok(())
-}
-
 #[test]
-fn multiples_have_these_steps(rt: HostRuntime) -> Result<(), RowFault> {
-    expect_steps(&rt, rt.alloc(), &MULTIPLES)
+fn multiples_have_these_steps(rt: HostRuntime) {
+    for (factor, row, wanted) in &MULTIPLES {
+        expect(&rt, row, &multiple_lines(rt.alloc(), *factor), wanted);
+    }
 }

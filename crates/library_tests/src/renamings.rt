@@ -8,7 +8,6 @@ use digit_tuple::names::are_distinct;
 use project_close::renaming::rename;
 use project_close::restriction::{are_two_tracks, restrict};
 use std::alloc::Global;
-use std::process::Abort;
 
 // The names in a text, with blanks between.
 fn names_in(alloc: Global, text: &str) -> Result<Vec<Name>, RowFault> {
@@ -47,21 +46,11 @@ static RENAMINGS: [(&str, &str, &str); 4] = [
     ("x:0 y:0 = /!", "y x", "x:0 y:0 = /!"),
 ];
 
-// Asserts that each automaton is this under its new names.
-fn expect_renamed(
-    rt: &impl Abort,
-    alloc: Global,
-    rows: &[(&str, &str, &str)],
-) -> Result<(), RowFault> {
-    for (line, names, wanted) in rows {
-        expect(rt, line, &renamed(alloc, line, names)?, wanted);
-    }
-    Ok(())
-}
-
 #[test]
-fn tracks_move_with_their_names(rt: HostRuntime) -> Result<(), RowFault> {
-    expect_renamed(&rt, rt.alloc(), &RENAMINGS)
+fn tracks_move_with_their_names(rt: HostRuntime) {
+    for (line, names, wanted) in &RENAMINGS {
+        expect(&rt, line, &renamed(rt.alloc(), line, names), wanted);
+    }
 }
 
 // The automaton on words with equal tracks, if they are two of one size, else nothing.
@@ -90,19 +79,14 @@ static RESTRICTIONS: [(&str, &str, &str, &str); 7] = [
     ("x:2 y:3 = .", "x", "z", ""),
 ];
 
-// Asserts that each automaton is this on words with equal tracks.
-fn expect_restricted(
-    rt: &impl Abort,
-    alloc: Global,
-    rows: &[(&str, &str, &str, &str)],
-) -> Result<(), RowFault> {
-    for (line, kept, dropped, wanted) in rows {
-        expect(rt, line, &restricted(alloc, line, kept, dropped)?, wanted);
-    }
-    Ok(())
-}
-
 #[test]
-fn words_with_equal_tracks_stay(rt: HostRuntime) -> Result<(), RowFault> {
-    expect_restricted(&rt, rt.alloc(), &RESTRICTIONS)
+fn words_with_equal_tracks_stay(rt: HostRuntime) {
+    for (line, kept, dropped, wanted) in &RESTRICTIONS {
+        expect(
+            &rt,
+            line,
+            &restricted(rt.alloc(), line, kept, dropped),
+            wanted,
+        );
+    }
 }

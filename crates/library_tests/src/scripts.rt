@@ -1,14 +1,14 @@
 //! How scripts are cut into items, whole and in pieces.
 
 use crate::outcomes::expect;
+use crate::row_fault::RowFault;
 use script_cut::{Cut, CutFault, Cutter, SCRIPT_LIMIT, TEXT_LIMIT};
 use std::alloc::{AllocError, Global};
 use std::process::Abort;
-use std::test::Fail;
 use wal_outside::MemSource;
 
 // A source that gives a script in pieces of one length.
-fn in_pieces(alloc: Global, script: &[u8], length: usize) -> Result<MemSource, AllocError> {
+fn in_pieces(alloc: Global, script: &[u8], length: usize) -> Result<MemSource, RowFault> {
     let bytes = Vec::from_slice(alloc, script)?;
     let pieces = vec![in alloc; length; script.len()]?;
     Ok(MemSource::new(bytes, pieces, Vec::new(alloc)))
@@ -20,7 +20,7 @@ fn show_item(
     alloc: Global,
     item: Result<Cut, CutFault>,
     items: &mut String,
-) -> Result<bool, AllocError> {
+) -> Result<bool, RowFault> {
     match item {
         Ok(Cut::Command(text, shown, line)) => show_command(alloc, &text, shown, line, items)?,
         Ok(Cut::End) => return Ok(false),
@@ -37,7 +37,7 @@ fn show_command(
     shown: bool,
     line: u64,
     items: &mut String,
-) -> Result<(), AllocError> {
+) -> Result<(), RowFault> {
     let mark = if shown { ":" } else { ";" };
     items.push_str(&format!(in alloc; "{line}{mark}")?)?;
     for byte in text {
@@ -63,7 +63,7 @@ fn next_item(cutter: &mut Cutter, source: &mut MemSource) -> Result<Cut, CutFaul
 }
 
 // The items of a script in pieces of a length, at most 100.
-fn items_of(alloc: Global, script: &[u8], length: usize) -> Result<String, AllocError> {
+fn items_of(alloc: Global, script: &[u8], length: usize) -> Result<String, RowFault> {
     let mut source = in_pieces(alloc, script, length)?;
     let mut cutter = Cutter::new(alloc);
     let mut items = String::new(alloc);
@@ -113,79 +113,66 @@ static SCRIPTS: [(&str, &str); 30] = [
 ];
 
 // Asserts that each script has its items in pieces of a length.
-fn expect_items(
-    rt: &impl Abort,
-    alloc: Global,
-    length: usize,
-    rows: &[(&str, &str)],
-) -> Result<(), Fail> {
-    for (script, items) in rows {
-        let found = items_of(alloc, script.as_bytes(), length)?;
+fn expect_items(rt: &impl Abort, alloc: Global, length: usize) {
+    for (script, items) in &SCRIPTS {
+        let found = items_of(alloc, script.as_bytes(), length);
         expect(rt, script, &found, items);
     }
-    Ok(())
 }
 
 #[test]
-fn scripts_have_these_items_in_pieces_of_any_length(rt: HostRuntime) -> Result<(), Fail> {
-    expect_items(&rt, rt.alloc(), 1, &SCRIPTS)?;
-    expect_items(&rt, rt.alloc(), 2, &SCRIPTS)?;
-    expect_items(&rt, rt.alloc(), 3, &SCRIPTS)?;
-    expect_items(&rt, rt.alloc(), 7, &SCRIPTS)?;
-    expect_items(&rt, rt.alloc(), 100, &SCRIPTS)
+fn scripts_have_these_items_in_pieces_of_any_length(rt: HostRuntime) {
+    expect_items(&rt, rt.alloc(), 1);
+    expect_items(&rt, rt.alloc(), 2);
+    expect_items(&rt, rt.alloc(), 3);
+    expect_items(&rt, rt.alloc(), 7);
+    expect_items(&rt, rt.alloc(), 100);
 }
 
-// The text of the next item.
-fn next_text(
+// Writes so many of the next items.
+fn show_next(
     alloc: Global,
     cutter: &mut Cutter,
     source: &mut MemSource,
-) -> Result<String, AllocError> {
-    let item = next_item(cutter, source);
-    let mut text = String::new(alloc);
-    show_item(alloc, item, &mut text)?;
-    Ok(text)
-}
-
-// Asserts that the next items are these.
-fn expect_next(
-    rt: &impl Abort,
-    alloc: Global,
-    cutter: &mut Cutter,
-    source: &mut MemSource,
-    items: &[&str],
-) -> Result<(), AllocError> {
-    for item in items {
-        expect(rt, "the script", &next_text(alloc, cutter, source)?, item);
+    count: usize,
+    items: &mut String,
+) -> Result<(), RowFault> {
+    for _ in 0..count {
+        show_item(alloc, next_item(cutter, source), items)?;
     }
     Ok(())
 }
 
 // A source that gives all of a script at once, and then fails.
-fn failing(alloc: Global, script: &[u8]) -> Result<MemSource, AllocError> {
+fn failing(alloc: Global, script: &[u8]) -> Result<MemSource, RowFault> {
     let bytes = Vec::from_slice(alloc, script)?;
     Ok(MemSource::new(bytes, vec![in alloc; 5]?, vec![in alloc; 2]?))
 }
 
+// Two items of such a script, if one call of the source was enough, and the next one.
+fn items_at_once(alloc: Global) -> Result<String, RowFault> {
+    let mut source = failing(alloc, b"a;b::c")?;
+    let mut cutter = Cutter::new(alloc);
+    let mut items = String::new(alloc);
+    show_next(alloc, &mut cutter, &mut source, 2, &mut items)?;
+    if source.calls() != 1 {
+        return Err(RowFault::Form);
+    }
+    show_next(alloc, &mut cutter, &mut source, 1, &mut items)?;
+    Ok(items)
+}
+
 #[test]
-fn a_command_is_given_without_a_further_read(rt: HostRuntime) -> Result<(), Fail> {
-    let mut source = failing(rt.alloc(), b"a;b::c")?;
-    let mut cutter = Cutter::new(rt.alloc());
-    expect_next(&rt, rt.alloc(), &mut cutter, &mut source, &["1;a|", "1:b|"])?;
-    assert_eq!(rt; source.calls(), 1);
-    expect_next(&rt, rt.alloc(), &mut cutter, &mut source, &["failed|"])?;
-    Ok(())
+fn a_command_is_given_without_a_further_read(rt: HostRuntime) {
+    let items = items_at_once(rt.alloc());
+    expect(&rt, "two commands", &items, "1;a|1:b|failed|");
 }
 
 // Two commands, of so many bytes and of one more, each with a short one after it.
-fn two_long(alloc: Global, length: usize) -> Result<Vec<u8>, AllocError> {
-    let mut script = vec![in alloc; b'x'; length]?;
-    script.extend_from_slice(b";\n")?;
-    for _ in 0..length {
-        script.push(b'y')?;
-    }
-    script.extend_from_slice(b"y;z;")?;
-    Ok(script)
+fn two_long(alloc: Global, length: usize) -> Result<String, RowFault> {
+    let first = "x".repeat(alloc, length)?;
+    let second = "y".repeat(alloc, length)?;
+    Ok(format!(in alloc; "{first};\n{second}y;z;")?)
 }
 
 // How many bytes an item has, if it is a command of the first line.
@@ -196,44 +183,63 @@ fn length_of(item: Result<Cut, CutFault>) -> usize {
     }
 }
 
-#[test]
-fn a_long_command_is_passed_over(rt: HostRuntime) -> Result<(), Fail> {
-    let script = two_long(rt.alloc(), TEXT_LIMIT)?;
-    let mut source = in_pieces(rt.alloc(), &script, 5000)?;
-    let mut cutter = Cutter::new(rt.alloc());
-    assert_eq!(rt; length_of(next_item(&mut cutter, &mut source)), TEXT_LIMIT);
-    expect_next(
-        &rt,
-        rt.alloc(),
-        &mut cutter,
-        &mut source,
-        &["2*|", "2;z|", ""],
-    )?;
-    Ok(())
+// The items behind the first of two long commands, if that has its length.
+fn items_behind(alloc: Global, length: usize) -> Result<String, RowFault> {
+    let script = two_long(alloc, length)?;
+    let mut source = in_pieces(alloc, script.as_bytes(), 5000)?;
+    let mut cutter = Cutter::new(alloc);
+    if length_of(next_item(&mut cutter, &mut source)) != length {
+        return Err(RowFault::Form);
+    }
+    let mut items = String::new(alloc);
+    show_next(alloc, &mut cutter, &mut source, 3, &mut items)?;
+    Ok(items)
 }
 
 #[test]
-fn the_limit_counts_what_is_spent(rt: HostRuntime) -> Result<(), Fail> {
-    let mut source = in_pieces(rt.alloc(), b"a;\n;b", 3)?;
-    let mut cutter = Cutter::new(rt.alloc());
-    assert!(rt; cutter.spend(SCRIPT_LIMIT as u64 - 4));
-    assert!(rt; !cutter.spend(5));
-    expect_next(&rt, rt.alloc(), &mut cutter, &mut source, &["1;a|", "2#|"])?;
-    Ok(())
+fn a_long_command_is_passed_over(rt: HostRuntime) {
+    let items = items_behind(rt.alloc(), TEXT_LIMIT);
+    expect(&rt, "two long commands", &items, "2*|2;z|");
+}
+
+// A cutter that may read 4 bytes more, and not 5.
+fn almost_spent(alloc: Global) -> Result<Cutter, RowFault> {
+    let mut cutter = Cutter::new(alloc);
+    if cutter.spend(SCRIPT_LIMIT as u64 - 4) && !cutter.spend(5) {
+        Ok(cutter)
+    } else {
+        Err(RowFault::Form)
+    }
+}
+
+// Its items.
+fn items_of_the_rest(alloc: Global) -> Result<String, RowFault> {
+    let mut source = in_pieces(alloc, b"a;\n;b", 3)?;
+    let mut cutter = almost_spent(alloc)?;
+    let mut items = String::new(alloc);
+    show_next(alloc, &mut cutter, &mut source, 2, &mut items)?;
+    Ok(items)
+}
+
+#[test]
+fn the_limit_counts_what_is_spent(rt: HostRuntime) {
+    let items = items_of_the_rest(rt.alloc());
+    expect(&rt, "what is left", &items, "1;a|2#|");
 }
 
 // The first item of a script of blank lines of so many bytes.
-fn first_of_blanks(alloc: Global, length: usize) -> Result<String, AllocError> {
+fn first_of_blanks(alloc: Global, length: usize) -> Result<String, RowFault> {
     let script = vec![in alloc; b'\n'; length]?;
     let mut source = MemSource::new(script, Vec::new(alloc), Vec::new(alloc));
-    next_text(alloc, &mut Cutter::new(alloc), &mut source)
+    let mut items = String::new(alloc);
+    show_next(alloc, &mut Cutter::new(alloc), &mut source, 1, &mut items)?;
+    Ok(items)
 }
 
 #[test]
-fn a_script_is_cut_at_its_limit(rt: HostRuntime) -> Result<(), Fail> {
-    let most = first_of_blanks(rt.alloc(), SCRIPT_LIMIT)?;
+fn a_script_is_cut_at_its_limit(rt: HostRuntime) {
+    let most = first_of_blanks(rt.alloc(), SCRIPT_LIMIT);
     expect(&rt, "16,777,216 bytes", &most, "");
-    let more = first_of_blanks(rt.alloc(), SCRIPT_LIMIT + 1)?;
+    let more = first_of_blanks(rt.alloc(), SCRIPT_LIMIT + 1);
     expect(&rt, "one byte more", &more, "16777217#|");
-    Ok(())
 }

@@ -4,7 +4,8 @@ ghost use Rattle.std.specs.Prelude.{◌≡◌, ℕ, ◌∷◌, [], IfOk, IsTrue}
 ghost use Rattle.num_system.specs.SuccessorSteps.{name_u, name_x, name_y};
 
 use crate::bases::{SUMS, base_of};
-use crate::outcomes::{below_width_of, expect, outcome, table_outcome, width_of};
+use crate::calls::{Call, expect_widths};
+use crate::outcomes::{expect, expect_so, expect_value, outcome, table_outcome};
 use crate::row_fault::RowFault;
 use crate::table_texts::{language, table_of};
 use base_k::base_k::{BaseK, GREATEST_BASE, LEAST_BASE};
@@ -17,15 +18,12 @@ use num_system::seal::{seal, seal_built_in};
 use num_system::successor::{between_of, chain_of, next_of, successor_of};
 use num_system::system::System;
 use std::alloc::Global;
-use std::process::Abort;
 
 // A limit that every base keeps to.
 const LIMIT: u32 = 1024;
 
 // The numbers that are looked at are less.
 const SOME: u32 = 30;
-
-static DIRECTIONS: [Direction; 2] = [Direction::Msd, Direction::Lsd];
 
 /// The sealed system of a base.
 pub fn sealed(
@@ -113,20 +111,21 @@ fn say_of_lengths(alloc: Global, number: u32, direction: Direction) -> Result<bo
     Ok(right)
 }
 
-// Asserts that they do so in a base, in both directions.
-fn expect_said(rt: &impl Abort, alloc: Global, number: u32) -> Result<(), RowFault> {
-    for direction in DIRECTIONS {
-        let right = say_of_lengths(alloc, number, direction)?;
-        assert!(rt; right, "of base {number}");
-    }
-    Ok(())
-}
+// Bases.
+static SAID: [(&str, u32, Direction); 6] = [
+    ("msd_2", 2, Direction::Msd),
+    ("lsd_2", 2, Direction::Lsd),
+    ("msd_3", 3, Direction::Msd),
+    ("lsd_3", 3, Direction::Lsd),
+    ("msd_10", 10, Direction::Msd),
+    ("lsd_10", 10, Direction::Lsd),
+];
 
 #[test]
-fn relations_are_those_of_numbers(rt: HostRuntime) -> Result<(), RowFault> {
-    expect_said(&rt, rt.alloc(), 2)?;
-    expect_said(&rt, rt.alloc(), 3)?;
-    expect_said(&rt, rt.alloc(), 10)
+fn relations_are_those_of_numbers(rt: HostRuntime) {
+    for (row, number, direction) in &SAID {
+        expect_so(&rt, row, &say_of_lengths(rt.alloc(), *number, *direction));
+    }
 }
 
 // Whether a base is sealed with its digits and its direction.
@@ -135,18 +134,21 @@ fn is_sealed(alloc: Global, number: u32, direction: Direction) -> Result<bool, R
     Ok(system.digits() == number && system.direction() == direction)
 }
 
-// Asserts that each base is sealed so.
-fn expect_sealed(rt: &impl Abort, alloc: Global, direction: Direction) -> Result<(), RowFault> {
+// The first base that is not sealed so in both directions, if there is one.
+fn first_unsealed(alloc: Global) -> Result<Option<u32>, RowFault> {
     for number in LEAST_BASE..=GREATEST_BASE {
-        assert!(rt; is_sealed(alloc, number, direction)?, "of base {number}");
+        let is_msd = is_sealed(alloc, number, Direction::Msd)?;
+        if !is_msd || !is_sealed(alloc, number, Direction::Lsd)? {
+            return Ok(Some(number));
+        }
     }
-    Ok(())
+    Ok(None)
 }
 
 #[test]
-fn every_base_is_sealed(rt: HostRuntime) -> Result<(), RowFault> {
-    expect_sealed(&rt, rt.alloc(), Direction::Msd)?;
-    expect_sealed(&rt, rt.alloc(), Direction::Lsd)
+fn every_base_is_sealed(rt: HostRuntime) {
+    let found = first_unsealed(rt.alloc()).ok();
+    expect_value(&rt, "the bases", &found, &Some(None));
 }
 
 // Whether base 2 is sealed under a limit, and not refused by it.
@@ -158,13 +160,15 @@ fn is_sealed_under(alloc: Global, limit: u32) -> Result<bool, RowFault> {
     }
 }
 
-// The order has the width 3, and the first step of its successor the width 9.
+// Limits, and whether base 2 is sealed under each: the order has the width 3, and the first step of its successor the width 9.
+static SEALED: [(&str, u32, bool); 3] = [("2", 2, false), ("8", 8, false), ("9", 9, true)];
+
 #[test]
-fn the_order_and_its_successor_keep_to_the_limit(rt: HostRuntime) -> Result<(), RowFault> {
-    assert!(rt; !is_sealed_under(rt.alloc(), 2)?);
-    assert!(rt; !is_sealed_under(rt.alloc(), 8)?);
-    assert!(rt; is_sealed_under(rt.alloc(), 9)?);
-    Ok(())
+fn the_order_and_its_successor_keep_to_the_limit(rt: HostRuntime) {
+    for (row, limit, wanted) in &SEALED {
+        let found = is_sealed_under(rt.alloc(), *limit).ok();
+        expect_value(&rt, row, &found, &Some(*wanted));
+    }
 }
 
 // Whether the language and the adder have as many states, and the adder accepts the one word and not the other.
@@ -187,22 +191,12 @@ fn adds_rightly(
     Ok(is_right_adder(&system, right, wrong))
 }
 
-// Asserts that they are so in each row's base.
-fn expect_adders(
-    rt: &impl Abort,
-    alloc: Global,
-    rows: &[(u32, Direction, &[u32], &[u32])],
-) -> Result<(), RowFault> {
-    for (number, direction, right, wrong) in rows {
-        let found = adds_rightly(alloc, *number, *direction, right, wrong)?;
-        assert!(rt; found, "in base {number}");
-    }
-    Ok(())
-}
-
 #[test]
-fn adders_have_a_state_for_each_carry(rt: HostRuntime) -> Result<(), RowFault> {
-    expect_adders(&rt, rt.alloc(), &SUMS)
+fn adders_have_a_state_for_each_carry(rt: HostRuntime) {
+    for (row, number, direction, right, wrong) in &SUMS {
+        let found = adds_rightly(rt.alloc(), *number, *direction, right, wrong);
+        expect_so(&rt, row, &found);
+    }
 }
 
 // Base 2, sealed without a limit.
@@ -220,10 +214,9 @@ fn order_in(alloc: Global) -> Result<String, RowFault> {
 }
 
 #[test]
-fn systems_of_the_program_are_sealed_without_a_limit(rt: HostRuntime) -> Result<(), RowFault> {
-    let less = order_in(rt.alloc())?;
+fn systems_of_the_program_are_sealed_without_a_limit(rt: HostRuntime) {
+    let less = order_in(rt.alloc());
     expect(&rt, "the order", &less, "/ 0>0 1>1 3>0/! 0>1 1>1 2>1 3>1");
-    Ok(())
 }
 
 // Whether two tracks of the automaton are all, and of one size.
@@ -243,7 +236,7 @@ fn is_triple(dfa: &Dfa) -> bool
 }
 
 // The first step of the successor under a limit, from an order, or why there is none.
-fn chain(alloc: Global, order: &str, limit: u32) -> Result<String, RowFault> {
+pub fn chain(alloc: Global, order: &str, limit: u32) -> Result<String, RowFault> {
     let less = language(alloc, order)?;
     if is_pair(&less) {
         outcome(alloc, chain_of(alloc, &less, limit))
@@ -267,7 +260,7 @@ fn triples(alloc: Global, line: &str) -> Result<Tracked, RowFault>
 }
 
 // The second step under a limit, from the triples of the first, or why there is none.
-fn between(
+pub fn between(
     alloc: Global,
     line: &str,
     direction: Direction,
@@ -296,7 +289,7 @@ fn pairs(alloc: Global, line: &str) -> Result<Tracked, RowFault>
 }
 
 // The third step under a limit, from the order and the pairs of the second, or why there is none.
-fn next(alloc: Global, order: &str, line: &str, limit: u32) -> Result<String, RowFault> {
+pub fn next(alloc: Global, order: &str, line: &str, limit: u32) -> Result<String, RowFault> {
     let less = language(alloc, order)?;
     let between = pairs(alloc, line)?;
     let _tracks = less.alphabet().tracks();
@@ -322,96 +315,87 @@ fn successor(
     }
 }
 
-// A direction, an order of numbers in it, and the steps of its successor.
-struct SuccessorRow {
-    direction: Direction,
-    order: &'static str,
-    chain: &'static str,
-    between: &'static str,
-    next: &'static str,
-}
+// Orders of numbers, the first steps of their successors, and the second ones: of base 2 in both directions, and of words without
+// two 1s in a row.
+const ORDER_MSD_2: &str = "x:2 y:2 = / 0>0 1>1 3>0/! 0>1 1>1 2>1 3>1";
 
-static SUCCESSORS: [SuccessorRow; 3] = [
-    // base 2
-    SuccessorRow {
-        direction: Direction::Msd,
-        order: "x:2 y:2 = / 0>0 1>1 3>0/! 0>1 1>1 2>1 3>1",
-        chain: "9 u:2 x:2 y:2 = / 0>0 1>1 5>2 7>0/ 0>1 1>1 4>3 5>3 6>1 7>1/ 0>2 1>3 2>2 3>3 5>2 7>2/! 0>3 1>3 2>3 3>3 4>3 5>3 6>3 7>3",
-        between: "4 x:2 y:2 = / 0>0 1>1 3>0/ 0>2 1>2 2>1 3>2/! 0>2 1>2 2>2 3>2",
-        next: "4 / 0>0 1>1 3>0/! 2>1",
-    },
-    SuccessorRow {
-        direction: Direction::Lsd,
-        order: "x:2 y:2 = / 0>0 1>1 2>0 3>0/! 0>1 1>1 2>0 3>1",
-        chain: "4 u:2 x:2 y:2 = / 0>0 1>1 2>0 3>1 4>2 5>2 6>0 7>0/ 0>1 1>1 2>1 3>1 4>2 5>3 6>0 7>1/ 0>2 1>3 2>0 3>1 4>2 5>2 6>2 7>2/! 0>3 1>3 2>1 3>1 4>2 5>3 6>2 7>3",
-        between: "6 x:2 y:2 = / 0>1 1>1 2>0 3>1/ 0>1 1>2 2>1 3>1/! 0>2 1>2 2>1 3>2",
-        next: "4 / 1>1 2>0/! 0>1 3>1",
-    },
-    // words without two 1s in a row
-    SuccessorRow {
-        direction: Direction::Msd,
-        order: "x:2 y:2 = / 0>0 1>1 3>2/! 0>3 2>4/ 0>0/! 0>3 1>1 2>4 3>5/! 0>3 1>1/! 0>3",
-        chain: "31 u:2 x:2 y:2 = / 0>0 1>1 5>2 7>3/ 0>4 4>5 6>6/ 0>7 2>8/ 0>0/ 0>4 1>1 4>5 5>9 6>6 7>10/! 0>11 1>12 2>13 3>14/ 0>4 1>1/ 0>7 1>12 2>8 3>14 5>2 7>15/ 0>7 1>12 5>2/! 0>11 2>13/ 0>4/! 0>11 1>12 2>13 3>14 4>5 5>9 6>16 7>17/! 0>11 2>13 4>5 6>16/! 0>11 1>12 4>5 5>9/! 0>11 4>5/ 0>7/! 0>11 1>12/! 0>11",
-        between: "14 x:2 y:2 = / 0>0 1>1 3>2/ 0>3 2>4/ 0>0/! 0>3 1>5 2>6 3>7/ 0>8 1>5/! 0>3 2>6/! 0>3 1>5/! 0>3/ 0>3 1>5 2>4 3>7",
-        next: "10 / 0>0 1>1 3>2/! 2>3/ 0>0/! 0>1",
-    },
+const CHAIN_MSD_2: &str =
+    "9 u:2 x:2 y:2 = / 0>0 1>1 5>2 7>0/ 0>1 1>1 4>3 5>3 6>1 7>1/ 0>2 1>3 2>2 3>3 5>2 7>2/! 0>3 1>3 2>3 3>3 4>3 5>3 6>3 7>3";
+
+const BETWEEN_MSD_2: &str = "4 x:2 y:2 = / 0>0 1>1 3>0/ 0>2 1>2 2>1 3>2/! 0>2 1>2 2>2 3>2";
+
+const ORDER_LSD_2: &str = "x:2 y:2 = / 0>0 1>1 2>0 3>0/! 0>1 1>1 2>0 3>1";
+
+const CHAIN_LSD_2: &str =
+    "4 u:2 x:2 y:2 = / 0>0 1>1 2>0 3>1 4>2 5>2 6>0 7>0/ 0>1 1>1 2>1 3>1 4>2 5>3 6>0 7>1/ 0>2 1>3 2>0 3>1 4>2 5>2 6>2 7>2/! 0>3 1>3 2>1 3>1 4>2 5>3 6>2 7>3";
+
+const BETWEEN_LSD_2: &str = "6 x:2 y:2 = / 0>1 1>1 2>0 3>1/ 0>1 1>2 2>1 3>1/! 0>2 1>2 2>1 3>2";
+
+const ORDER_SPARSE: &str =
+    "x:2 y:2 = / 0>0 1>1 3>2/! 0>3 2>4/ 0>0/! 0>3 1>1 2>4 3>5/! 0>3 1>1/! 0>3";
+
+const CHAIN_SPARSE: &str =
+    "31 u:2 x:2 y:2 = / 0>0 1>1 5>2 7>3/ 0>4 4>5 6>6/ 0>7 2>8/ 0>0/ 0>4 1>1 4>5 5>9 6>6 7>10/! 0>11 1>12 2>13 3>14/ 0>4 1>1/ 0>7 1>12 2>8 3>14 5>2 7>15/ 0>7 1>12 5>2/! 0>11 2>13/ 0>4/! 0>11 1>12 2>13 3>14 4>5 5>9 6>16 7>17/! 0>11 2>13 4>5 6>16/! 0>11 1>12 4>5 5>9/! 0>11 4>5/ 0>7/! 0>11 1>12/! 0>11";
+
+const BETWEEN_SPARSE: &str =
+    "14 x:2 y:2 = / 0>0 1>1 3>2/ 0>3 2>4/ 0>0/! 0>3 1>5 2>6 3>7/ 0>8 1>5/! 0>3 2>6/! 0>3 1>5/! 0>3/ 0>3 1>5 2>4 3>7";
+
+// The first steps.
+static CHAINS: [(Call, &str); 3] = [
+    (Call::Chain(ORDER_MSD_2), CHAIN_MSD_2),
+    (Call::Chain(ORDER_LSD_2), CHAIN_LSD_2),
+    (Call::Chain(ORDER_SPARSE), CHAIN_SPARSE),
 ];
 
-// Asserts that each first step is made at its width, and not below.
-fn expect_chains(rt: &impl Abort, alloc: Global, rows: &[SuccessorRow]) -> Result<(), RowFault> {
-    for row in rows {
-        let made = chain(alloc, row.order, width_of(row.chain)?)?;
-        expect(rt, row.order, &made, row.chain);
-        let narrow = chain(alloc, row.order, below_width_of(row.chain)?)?;
-        expect(rt, row.order, &narrow, "States");
-    }
-    Ok(())
+#[test]
+fn chains_are_those_worked_out(rt: HostRuntime) {
+    expect_widths(&rt, rt.alloc(), &CHAINS);
 }
+
+// The second steps.
+static BETWEEN: [(Call, &str); 3] = [
+    (Call::Between(CHAIN_MSD_2, Direction::Msd), BETWEEN_MSD_2),
+    (Call::Between(CHAIN_LSD_2, Direction::Lsd), BETWEEN_LSD_2),
+    (Call::Between(CHAIN_SPARSE, Direction::Msd), BETWEEN_SPARSE),
+];
 
 #[test]
-fn chains_are_those_worked_out(rt: HostRuntime) -> Result<(), RowFault> {
-    expect_chains(&rt, rt.alloc(), &SUCCESSORS)
+fn pairs_with_a_number_between_are_those_worked_out(rt: HostRuntime) {
+    expect_widths(&rt, rt.alloc(), &BETWEEN);
 }
 
-// Asserts that each second step is made at its width, and not below.
-fn expect_between(rt: &impl Abort, alloc: Global, rows: &[SuccessorRow]) -> Result<(), RowFault> {
-    for row in rows {
-        let made = between(alloc, row.chain, row.direction, width_of(row.between)?)?;
-        expect(rt, row.order, &made, row.between);
-        let limit = below_width_of(row.between)?;
-        let narrow = between(alloc, row.chain, row.direction, limit)?;
-        expect(rt, row.order, &narrow, "States");
-    }
-    Ok(())
-}
+// The third steps.
+static NEXT: [(Call, &str); 3] = [
+    (
+        Call::Next(ORDER_MSD_2, BETWEEN_MSD_2),
+        "4 / 0>0 1>1 3>0/! 2>1",
+    ),
+    (
+        Call::Next(ORDER_LSD_2, BETWEEN_LSD_2),
+        "4 / 1>1 2>0/! 0>1 3>1",
+    ),
+    (
+        Call::Next(ORDER_SPARSE, BETWEEN_SPARSE),
+        "10 / 0>0 1>1 3>2/! 2>3/ 0>0/! 0>1",
+    ),
+];
 
-#[test]
-fn pairs_with_a_number_between_are_those_worked_out(rt: HostRuntime) -> Result<(), RowFault> {
-    expect_between(&rt, rt.alloc(), &SUCCESSORS)
-}
-
-// Asserts that each third step is made at its width, and not below.
-fn expect_next(rt: &impl Abort, alloc: Global, rows: &[SuccessorRow]) -> Result<(), RowFault> {
-    for row in rows {
-        let made = next(alloc, row.order, row.between, width_of(row.next)?)?;
-        expect(rt, row.order, &made, row.next);
-        let narrow = next(alloc, row.order, row.between, below_width_of(row.next)?)?;
-        expect(rt, row.order, &narrow, "States");
-    }
-    Ok(())
-}
-
-// Asserts that each successor is what its third step makes.
-fn expect_whole(rt: &impl Abort, alloc: Global, rows: &[SuccessorRow]) -> Result<(), RowFault> {
-    for row in rows {
-        let whole = successor(alloc, row.order, row.direction, 1000)?;
-        assert!(rt; row.next.ends_with(whole.as_str()), "of {}", row.order);
-    }
-    Ok(())
-}
+// Directions and orders, and their successors: what the third steps make.
+static SUCCESSORS: [(Direction, &str, &str); 3] = [
+    (Direction::Msd, ORDER_MSD_2, "/ 0>0 1>1 3>0/! 2>1"),
+    (Direction::Lsd, ORDER_LSD_2, "/ 1>1 2>0/! 0>1 3>1"),
+    (
+        Direction::Msd,
+        ORDER_SPARSE,
+        "/ 0>0 1>1 3>2/! 2>3/ 0>0/! 0>1",
+    ),
+];
 
 #[test]
-fn successors_are_those_worked_out(rt: HostRuntime) -> Result<(), RowFault> {
-    expect_next(&rt, rt.alloc(), &SUCCESSORS)?;
-    expect_whole(&rt, rt.alloc(), &SUCCESSORS)
+fn successors_are_those_worked_out(rt: HostRuntime) {
+    expect_widths(&rt, rt.alloc(), &NEXT);
+    for (direction, order, wanted) in &SUCCESSORS {
+        let found = successor(rt.alloc(), order, *direction, 1000);
+        expect(&rt, order, &found, wanted);
+    }
 }

@@ -1,6 +1,7 @@
 //! The words of single numbers in some bases, and their automata.
 
-use crate::outcomes::{below_width_of, expect, table_outcome, width_of};
+use crate::calls::{Call, expect_widths};
+use crate::outcomes::{expect_so, table_outcome};
 use crate::row_fault::RowFault;
 use crate::sealed_systems::sealed;
 use constants::constant::constant;
@@ -9,9 +10,16 @@ use digit_tuple::direction::Direction;
 use digit_tuple::faults::OpFault;
 use num_system::system::System;
 use std::alloc::Global;
-use std::process::Abort;
 
-static DIRECTIONS: [Direction; 2] = [Direction::Msd, Direction::Lsd];
+// Some bases.
+static BASES: [(&str, u32, Direction); 6] = [
+    ("msd_2", 2, Direction::Msd),
+    ("lsd_2", 2, Direction::Lsd),
+    ("msd_3", 3, Direction::Msd),
+    ("lsd_3", 3, Direction::Lsd),
+    ("msd_10", 10, Direction::Msd),
+    ("lsd_10", 10, Direction::Lsd),
+];
 
 // The word of a number, of so many letters at most.
 fn word(alloc: Global, system: &System, number: u64, longest: u32) -> Result<Vec<u32>, RowFault> {
@@ -46,28 +54,20 @@ fn gives_word(alloc: Global, system: &System, base: u32, number: u64) -> Result<
     Ok(stands_for(&word, base, number))
 }
 
-// Asserts that numbers are given their words in a base.
-fn expect_words(rt: &impl Abort, alloc: Global, base: u32) -> Result<(), RowFault> {
-    for direction in DIRECTIONS {
-        assert!(rt; gives_words(alloc, base, direction)?, "in base {base}");
-    }
-    Ok(())
-}
-
 #[test]
-fn words_have_their_positional_values(rt: HostRuntime) -> Result<(), RowFault> {
-    expect_words(&rt, rt.alloc(), 2)?;
-    expect_words(&rt, rt.alloc(), 3)?;
-    expect_words(&rt, rt.alloc(), 10)
+fn words_have_their_positional_values(rt: HostRuntime) {
+    for (row, base, direction) in &BASES {
+        expect_so(&rt, row, &gives_words(rt.alloc(), *base, *direction));
+    }
 }
 
 // Numbers, lengths, and the words in base 2, if they are no longer.
-static WORDS: [(u64, u32, Option<&[u32]>); 5] = [
-    (7, 3, Some(&[1, 1, 1])),
-    (8, 3, None),
-    (8, 4, Some(&[1, 0, 0, 0])),
-    (0, 0, Some(&[])),
-    (1, 0, None),
+static WORDS: [(&str, u64, u32, Option<&[u32]>); 5] = [
+    ("7 in 3 letters", 7, 3, Some(&[1, 1, 1])),
+    ("8 in 3 letters", 8, 3, None),
+    ("8 in 4 letters", 8, 4, Some(&[1, 0, 0, 0])),
+    ("0 in no letter", 0, 0, Some(&[])),
+    ("1 in no letter", 1, 0, None),
 ];
 
 // The word of a number, if it is no longer.
@@ -85,42 +85,30 @@ fn short_word(
     }
 }
 
-// Whether the word of a number is this, if it is no longer.
+// Whether the word of a number in base 2 is this, if it is no longer.
 fn is_word(
     alloc: Global,
-    system: &System,
+    direction: Direction,
     number: u64,
     longest: u32,
     wanted: Option<&[u32]>,
 ) -> Result<bool, RowFault> {
-    Ok(short_word(alloc, system, number, longest)?.as_deref() == wanted)
-}
-
-// Asserts that each number is given its word in base 2, or none.
-fn expect_short_words(
-    rt: &impl Abort,
-    alloc: Global,
-    direction: Direction,
-    rows: &[(u64, u32, Option<&[u32]>)],
-) -> Result<(), RowFault> {
     let system = sealed(alloc, 2, direction, 1000)?;
-    for (number, longest, wanted) in rows {
-        assert!(rt;
-            is_word(alloc, &system, *number, *longest, *wanted)?,
-            "of {number}"
-        );
-    }
-    Ok(())
+    Ok(short_word(alloc, &system, number, longest)?.as_deref() == wanted)
 }
 
 #[test]
-fn longer_words_are_refused(rt: HostRuntime) -> Result<(), RowFault> {
-    expect_short_words(&rt, rt.alloc(), Direction::Msd, &WORDS)?;
-    expect_short_words(&rt, rt.alloc(), Direction::Lsd, &WORDS)
+fn longer_words_are_refused(rt: HostRuntime) {
+    for (row, number, longest, wanted) in &WORDS {
+        let msd = is_word(rt.alloc(), Direction::Msd, *number, *longest, *wanted);
+        expect_so(&rt, row, &msd);
+        let lsd = is_word(rt.alloc(), Direction::Lsd, *number, *longest, *wanted);
+        expect_so(&rt, row, &lsd);
+    }
 }
 
 // The automaton of a number in a base, under a limit, or why there is none.
-fn number_in(
+pub fn number_in(
     alloc: Global,
     base: u32,
     direction: Direction,
@@ -136,33 +124,24 @@ fn number_in(
 }
 
 // Bases, directions and numbers, and their automata.
-static NUMBERS: [(u32, Direction, u64, &str); 8] = [
-    (3, Direction::Msd, 5, "4 / 0>0 1>1/ 2>2/!"),
-    (3, Direction::Lsd, 5, "4 / 2>1/ 1>2/! 0>2"),
-    (2, Direction::Msd, 6, "5 / 0>0 1>1/ 1>2/ 0>3/!"),
-    (2, Direction::Lsd, 6, "5 / 0>1/ 1>2/ 1>3/! 0>3"),
-    (2, Direction::Msd, 0, "2 /! 0>0"),
-    (2, Direction::Lsd, 0, "2 /! 0>0"),
-    (10, Direction::Msd, 41, "4 / 0>0 4>1/ 1>2/!"),
-    (10, Direction::Lsd, 80, "4 / 0>1/ 8>2/! 0>2"),
+static NUMBERS: [(Call, &str); 8] = [
+    (Call::Number(3, Direction::Msd, 5), "4 / 0>0 1>1/ 2>2/!"),
+    (Call::Number(3, Direction::Lsd, 5), "4 / 2>1/ 1>2/! 0>2"),
+    (
+        Call::Number(2, Direction::Msd, 6),
+        "5 / 0>0 1>1/ 1>2/ 0>3/!",
+    ),
+    (
+        Call::Number(2, Direction::Lsd, 6),
+        "5 / 0>1/ 1>2/ 1>3/! 0>3",
+    ),
+    (Call::Number(2, Direction::Msd, 0), "2 /! 0>0"),
+    (Call::Number(2, Direction::Lsd, 0), "2 /! 0>0"),
+    (Call::Number(10, Direction::Msd, 41), "4 / 0>0 4>1/ 1>2/!"),
+    (Call::Number(10, Direction::Lsd, 80), "4 / 0>1/ 8>2/! 0>2"),
 ];
 
-// Asserts that the automaton of each number is made at its width, and not below.
-fn expect_numbers(
-    rt: &impl Abort,
-    alloc: Global,
-    rows: &[(u32, Direction, u64, &str)],
-) -> Result<(), RowFault> {
-    for (base, direction, number, wanted) in rows {
-        let made = number_in(alloc, *base, *direction, *number, width_of(wanted)?)?;
-        expect(rt, wanted, &made, wanted);
-        let narrow = number_in(alloc, *base, *direction, *number, below_width_of(wanted)?)?;
-        expect(rt, wanted, &narrow, "States");
-    }
-    Ok(())
-}
-
 #[test]
-fn single_numbers_are_those_worked_out(rt: HostRuntime) -> Result<(), RowFault> {
-    expect_numbers(&rt, rt.alloc(), &NUMBERS)
+fn single_numbers_are_those_worked_out(rt: HostRuntime) {
+    expect_widths(&rt, rt.alloc(), &NUMBERS);
 }

@@ -2,7 +2,8 @@
 
 ghost use Rattle.std.specs.Prelude.{◌≡◌, ◌<◌, length};
 
-use crate::products::have_languages;
+use crate::outcomes::{expect_so, expect_value};
+use crate::products::{Restriction, have_languages};
 use crate::row_fault::RowFault;
 use crate::sealed_systems::sealed;
 use crate::table_texts::{language, languages, line_of, table, table_of, tracked};
@@ -26,7 +27,6 @@ use product_op::joint_tracks::agree_on_shared;
 use product_op::languages::are_languages;
 use product_op::op::Op;
 use std::alloc::Global;
-use std::process::Abort;
 use std::rc::Rc;
 
 // A step on automata of lines.
@@ -35,12 +35,11 @@ enum Step {
     Read(&'static str),
     Reverse(&'static str),
     Pad(Direction, &'static str),
-    Valid(&'static [&'static str], &'static str),
+    Restricted(Restriction, &'static [&'static str], &'static str),
     Order(Direction, &'static str),
     /// Base 2.
     Const(Direction, u64),
     Product(Op, &'static str, &'static str),
-    Complement(&'static [&'static str], &'static str),
     Project(Direction, &'static str, &'static str),
 }
 
@@ -50,11 +49,10 @@ fn done(alloc: Global, step: Step, steps: &mut Steps) -> Result<String, RowFault
         Step::Read(line) => read(alloc, line, steps),
         Step::Reverse(line) => reverse(alloc, line, steps),
         Step::Pad(direction, line) => pad(alloc, direction, line, steps),
-        Step::Valid(valid, line) => valid_part(alloc, valid, line, steps),
+        Step::Restricted(way, valid, line) => restrict(alloc, way, valid, line, steps),
         Step::Order(direction, line) => order(alloc, direction, line, steps),
         Step::Const(direction, number) => number_in(alloc, direction, number, steps),
         Step::Product(op, a, b) => product(alloc, op, a, b, steps),
-        Step::Complement(valid, line) => complement(alloc, valid, line, steps),
         Step::Project(direction, track, line) => project(alloc, direction, track, line, steps),
     }
 }
@@ -95,26 +93,33 @@ fn pad(
     made_table(alloc, pad_step(alloc, &a, direction, steps))
 }
 
-fn valid_part(
+// The valid part or the complement of a line's automaton, if there is a language for each track.
+fn restrict(
     alloc: Global,
+    way: Restriction,
     valid: &[&str],
     line: &str,
     steps: &mut Steps,
 ) -> Result<String, RowFault> {
     let a = tracked(alloc, line)?;
     let languages = languages(alloc, valid)?;
-    valid_part_of(alloc, &a, &languages, steps)
+    restricted(alloc, way, &a, &languages, steps)
 }
 
-// The valid part, if there is a language for each track.
-fn valid_part_of(
+// The same of an automaton.
+fn restricted(
     alloc: Global,
+    way: Restriction,
     a: &Tracked,
     languages: &[Rc<Dfa>],
     steps: &mut Steps,
 ) -> Result<String, RowFault> {
     if are_languages(alloc, a.dfa().alphabet().sizes(), languages)? {
-        made_line(alloc, valid_step(alloc, a, languages, steps))
+        let made = match way {
+            Restriction::Complement => complement_step(alloc, a, languages, steps),
+            Restriction::ValidPart => valid_step(alloc, a, languages, steps),
+        };
+        made_line(alloc, made)
     } else {
         Err(RowFault::Form)
     }
@@ -168,31 +173,6 @@ fn joined(
 ) -> Result<String, RowFault> {
     if agree_on_shared(a, b) && have_languages(alloc, a, b, joining.op, joining.languages)? {
         made_line(alloc, join_step(alloc, a, b, joining, steps))
-    } else {
-        Err(RowFault::Form)
-    }
-}
-
-fn complement(
-    alloc: Global,
-    valid: &[&str],
-    line: &str,
-    steps: &mut Steps,
-) -> Result<String, RowFault> {
-    let a = tracked(alloc, line)?;
-    let languages = languages(alloc, valid)?;
-    complement_of(alloc, &a, &languages, steps)
-}
-
-// The complement, if there is a language for each track.
-fn complement_of(
-    alloc: Global,
-    a: &Tracked,
-    languages: &[Rc<Dfa>],
-    steps: &mut Steps,
-) -> Result<String, RowFault> {
-    if are_languages(alloc, a.dfa().alphabet().sizes(), languages)? {
-        made_line(alloc, complement_step(alloc, a, languages, steps))
     } else {
         Err(RowFault::Form)
     }
@@ -271,7 +251,7 @@ static ROWS: [Row; 12] = [
         made: "/ 1>1/! 0>1",
     },
     Row {
-        step: Step::Valid(&[SPARSE], ENDS),
+        step: Step::Restricted(Restriction::ValidPart, &[SPARSE], ENDS),
         kind: "valid",
         width: 4,
         size: 2,
@@ -306,7 +286,7 @@ static ROWS: [Row; 12] = [
         made: "x:2 = /! 0>0 1>1/! 0>2 1>0/ 0>2 1>0",
     },
     Row {
-        step: Step::Complement(&[SPARSE], ENDS),
+        step: Step::Restricted(Restriction::Complement, &[SPARSE], ENDS),
         kind: "complement",
         width: 4,
         size: 2,
@@ -345,17 +325,11 @@ fn is_made(alloc: Global, row: &Row) -> Result<bool, RowFault> {
     Ok(made.as_str() == row.made && is_line_of(&steps, row))
 }
 
-// Asserts that each step makes what it should, and has its line.
-fn expect_lines(rt: &impl Abort, alloc: Global, rows: &[Row]) -> Result<(), RowFault> {
-    for row in rows {
-        assert!(rt; is_made(alloc, row)?, "of {}: {}", row.kind, row.made);
-    }
-    Ok(())
-}
-
 #[test]
-fn steps_have_these_lines(rt: HostRuntime) -> Result<(), RowFault> {
-    expect_lines(&rt, rt.alloc(), &ROWS)
+fn steps_have_these_lines(rt: HostRuntime) {
+    for row in &ROWS {
+        expect_so(&rt, row.made, &is_made(rt.alloc(), row));
+    }
 }
 
 // Whether a step is done, or refused where it passes the limit, and then counts for none.
@@ -369,32 +343,48 @@ fn keeps_to_the_limit(alloc: Global, row: &Row, steps: &mut Steps) -> bool {
     }
 }
 
-// Asserts that the steps, one after the other, keep to one limit.
-fn expect_within(rt: &impl Abort, alloc: Global, limit: u32, rows: &[Row]) {
+// How many of the rows' steps, one after the other, keep to one limit until one does not.
+fn keeping(alloc: Global, limit: u32) -> usize {
     let mut steps = Steps::new(alloc, limit);
-    for row in rows {
-        assert!(rt;
-            keeps_to_the_limit(alloc, row, &mut steps),
-            "of {} under {limit}",
-            row.kind
-        );
+    let mut count: usize = 0;
+    for row in &ROWS {
+        if !keeps_to_the_limit(alloc, row, &mut steps) {
+            return count;
+        }
+        count = count.saturating_add(1);
     }
+    count
 }
+
+// Limits.
+static LIMITS: [(&str, u32); 6] = [
+    ("limit 2", 2),
+    ("limit 3", 3),
+    ("limit 4", 4),
+    ("limit 5", 5),
+    ("limit 6", 6),
+    ("limit 7", 7),
+];
 
 // Under one limit the steps that pass it are refused, and count for none.
 #[test]
-fn steps_past_the_limit_are_refused(rt: HostRuntime) -> Result<(), RowFault> {
-    for limit in 2..8 {
-        expect_within(&rt, rt.alloc(), limit, &ROWS);
+fn steps_past_the_limit_are_refused(rt: HostRuntime) {
+    for (row, limit) in &LIMITS {
+        expect_value(&rt, row, &keeping(rt.alloc(), *limit), &ROWS.len());
     }
-    Ok(())
 }
 
 // Steps over too many letters.
-static LARGE: [Step; 3] = [
-    Step::Product(Op::And, "x:257 = ()", "y:256 = ()"),
-    Step::Project(Direction::Msd, "z", "x:300 y:300 z:0 = /!"),
-    Step::Order(Direction::Msd, "x:300 = /! 0>0"),
+static LARGE: [(&str, Step); 3] = [
+    (
+        "product",
+        Step::Product(Op::And, "x:257 = ()", "y:256 = ()"),
+    ),
+    (
+        "project",
+        Step::Project(Direction::Msd, "z", "x:300 y:300 z:0 = /!"),
+    ),
+    ("order", Step::Order(Direction::Msd, "x:300 = /! 0>0")),
 ];
 
 // Whether a step is refused for its letters, and counts for none.
@@ -404,14 +394,9 @@ fn has_too_many_letters(alloc: Global, step: Step) -> bool {
     refused == Some(StepFault::Letters(1)) && steps.count() == 0
 }
 
-// Asserts that the steps are refused so.
-fn expect_too_many_letters(rt: &impl Abort, alloc: Global, steps: &[Step]) {
-    for step in steps {
-        assert!(rt; has_too_many_letters(alloc, *step));
-    }
-}
-
 #[test]
 fn letters_are_looked_at_before_the_limit(rt: HostRuntime) {
-    expect_too_many_letters(&rt, rt.alloc(), &LARGE);
+    for (row, step) in &LARGE {
+        expect_value(&rt, row, &has_too_many_letters(rt.alloc(), *step), &true);
+    }
 }

@@ -1,6 +1,6 @@
 //! Tables of states.
 
-use crate::outcomes::expect;
+use crate::outcomes::{expect, expect_so, expect_value};
 use crate::row_fault::RowFault;
 use crate::table_texts::{branches_of, listed, read_table, table_of};
 use digit_tuple::accepting_states::{accepting_flags, accepting_states};
@@ -11,7 +11,6 @@ use digit_tuple::faults::OpFault;
 use digit_tuple::no_words::{no_words, no_words_within};
 use digit_tuple::reversed::reversed;
 use std::alloc::Global;
-use std::process::Abort;
 
 // Where the first and the last state accept: the words with an even number of 1s, each 0 after an odd number of these.
 const BOTH: &str = "x:2 = /! 1>1/ 0>1 1>2/! 1>1";
@@ -43,39 +42,33 @@ fn is_kept(alloc: Global, line: &str, is_table: bool) -> Result<bool, RowFault> 
     Ok(text.is_empty() != is_table && line.ends_with(text.as_str()))
 }
 
-// Asserts that each line lists its table, or none.
-fn expect_kept(rt: &impl Abort, alloc: Global, rows: &[(&str, bool)]) -> Result<(), RowFault> {
-    for (line, is_table) in rows {
-        assert!(rt; is_kept(alloc, line, *is_table)?, "of {line}");
-    }
-    Ok(())
-}
-
 #[test]
-fn a_table_has_a_state_and_its_edges_in_order(rt: HostRuntime) -> Result<(), RowFault> {
-    expect_kept(&rt, rt.alloc(), &TABLES)
+fn a_table_has_a_state_and_its_edges_in_order(rt: HostRuntime) {
+    for (line, is_table) in &TABLES {
+        expect_so(&rt, line, &is_kept(rt.alloc(), line, *is_table));
+    }
 }
 
 // Words, and whether the automaton of `BOTH` accepts them.
-static WORDS: [(&[u32], bool); 5] = [
-    (&[], true),
-    (&[1, 0, 1], true),
-    (&[1, 0], false),
-    (&[0], false),
-    (&[2], false),
+static WORDS: [(&str, &[u32], bool); 5] = [
+    ("the empty word", &[], true),
+    ("101", &[1, 0, 1], true),
+    ("10", &[1, 0], false),
+    ("0", &[0], false),
+    ("2", &[2], false),
 ];
 
-// Asserts that an automaton accepts each word, or not.
-fn expect_accepted(rt: &impl Abort, dfa: &Dfa, rows: &[(&[u32], bool)]) {
-    for (word, wanted) in rows {
-        assert_eq!(rt; dfa.accepts(word), *wanted, "of {word:?}");
-    }
+// Whether the automaton of `BOTH` accepts a word.
+fn both_accepts(alloc: Global, word: &[u32]) -> Result<bool, RowFault> {
+    Ok(listed(alloc, BOTH)?.accepts(word))
 }
 
 #[test]
-fn a_table_accepts_where_its_path_ends(rt: HostRuntime) -> Result<(), RowFault> {
-    expect_accepted(&rt, &listed(rt.alloc(), BOTH)?, &WORDS);
-    Ok(())
+fn a_table_accepts_where_its_path_ends(rt: HostRuntime) {
+    for (row, word, wanted) in &WORDS {
+        let found = both_accepts(rt.alloc(), word).ok();
+        expect_value(&rt, row, &found, &Some(*wanted));
+    }
 }
 
 // The edges of the state 1, in place of what the row held.
@@ -99,11 +92,15 @@ fn is_row_to_two(row: &[Edge]) -> bool {
     }
 }
 
+// Whether that row is so of a copy of the automaton of `BOTH`.
+fn has_row_to_two(alloc: Global) -> Result<bool, RowFault> {
+    let made = listed(alloc, BOTH)?.copy(alloc)?;
+    Ok(is_row_to_two(&row_of(alloc, &made)?))
+}
+
 #[test]
-fn edges_of_a_state_are_written_into_a_row(rt: HostRuntime) -> Result<(), RowFault> {
-    let made = listed(rt.alloc(), BOTH)?.copy(rt.alloc())?;
-    assert!(rt; is_row_to_two(&row_of(rt.alloc(), &made)?));
-    Ok(())
+fn edges_of_a_state_are_written_into_a_row(rt: HostRuntime) {
+    expect_so(&rt, BOTH, &has_row_to_two(rt.alloc()));
 }
 
 // Whether the accepting states of a line's table have these flags and numbers.
@@ -121,11 +118,12 @@ fn begin_apart(alloc: Global, one: &str, other: &str) -> Result<bool, RowFault> 
 }
 
 #[test]
-fn states_are_compared_and_listed(rt: HostRuntime) -> Result<(), RowFault> {
-    assert!(rt; accept(rt.alloc(), BOTH, &[true, false, true], &[0, 2])?);
-    assert!(rt; accept(rt.alloc(), LAST, &[false, false, true], &[2])?);
-    assert!(rt; begin_apart(rt.alloc(), BOTH, LAST)?);
-    Ok(())
+fn states_are_compared_and_listed(rt: HostRuntime) {
+    let both = accept(rt.alloc(), BOTH, &[true, false, true], &[0, 2]);
+    expect_so(&rt, BOTH, &both);
+    let last = accept(rt.alloc(), LAST, &[false, false, true], &[2]);
+    expect_so(&rt, LAST, &last);
+    expect_so(&rt, "apart", &begin_apart(rt.alloc(), BOTH, LAST));
 }
 
 // The table with its edges turned round.
@@ -135,14 +133,9 @@ fn turned(alloc: Global, line: &str) -> Result<String, RowFault> {
 }
 
 #[test]
-fn edges_are_turned_round(rt: HostRuntime) -> Result<(), RowFault> {
-    expect(
-        &rt,
-        LAST,
-        &turned(rt.alloc(), LAST)?,
-        "/!/ 0>1 1>0 1>2/ 1>1",
-    );
-    Ok(())
+fn edges_are_turned_round(rt: HostRuntime) {
+    let found = turned(rt.alloc(), LAST);
+    expect(&rt, LAST, &found, "/!/ 0>1 1>0 1>2/ 1>1");
 }
 
 // The automaton of no words, and whether it is made under a limit.
@@ -160,9 +153,8 @@ fn nothing_table(alloc: Global) -> Result<String, RowFault> {
 }
 
 #[test]
-fn the_automaton_of_no_words_has_one_state(rt: HostRuntime) -> Result<(), RowFault> {
-    expect(&rt, "nothing", &nothing_table(rt.alloc())?, "/");
-    assert!(rt; nothing(rt.alloc(), 1)?);
-    assert!(rt; !nothing(rt.alloc(), 0)?);
-    Ok(())
+fn the_automaton_of_no_words_has_one_state(rt: HostRuntime) {
+    expect(&rt, "nothing", &nothing_table(rt.alloc()), "/");
+    expect_so(&rt, "limit 1", &nothing(rt.alloc(), 1));
+    expect_value(&rt, "limit 0", &nothing(rt.alloc(), 0).ok(), &Some(false));
 }

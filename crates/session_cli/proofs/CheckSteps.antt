@@ -4,6 +4,7 @@ use Rattle.session_cli.specs.declared.fault.Fault.{Fault}
 use Rattle.session_cli.specs.declared.fault.Fault.TheVariants as faults
 use Rattle.session_cli.specs.declared.plan.Made.{Made}
 use Rattle.session_cli.specs.declared.plan.Plan.{Plan}
+use Rattle.system_files.specs.SystemFiles.{Custom}
 use Rattle.session_cli.specs.Checks.{Check, Then, Fails}
 use Rattle.session_cli.specs.Accepting.{Success}
 use Rattle.session_cli.specs.Plans.{Makes, Plans}
@@ -44,6 +45,7 @@ fails_first first rest (faults.Number grammar at) refused = inl refused
 fails_first first rest (faults.Depth grammar at) refused = inl refused
 fails_first first rest (faults.Long bytes) refused = inl refused
 fails_first first rest (faults.SystemUnknown name) refused = inl refused
+fails_first first rest (faults.NotAdmitted name law) refused = inl refused
 fails_first first rest (faults.Direction one other) refused = inl refused
 fails_first first rest (faults.Letters step) refused = inl refused
 fails_first first rest (faults.States step) refused = inl refused
@@ -67,6 +69,7 @@ fails_after first rest y (faults.Number grammar at) passed refused = inr (y, pas
 fails_after first rest y (faults.Depth grammar at) passed refused = inr (y, passed, refused)
 fails_after first rest y (faults.Long bytes) passed refused = inr (y, passed, refused)
 fails_after first rest y (faults.SystemUnknown name) passed refused = inr (y, passed, refused)
+fails_after first rest y (faults.NotAdmitted name law) passed refused = inr (y, passed, refused)
 fails_after first rest y (faults.Direction one other) passed refused = inr (y, passed, refused)
 fails_after first rest y (faults.Letters step) passed refused = inr (y, passed, refused)
 fails_after first rest y (faults.States step) passed refused = inr (y, passed, refused)
@@ -81,14 +84,14 @@ fails_after first rest y (faults.WordGap of spelling) passed refused = inr (y, p
 fails_after first rest y (faults.Plain of) passed refused = inr (y, passed, refused)
 
 -- what the checks after the first make all of them make
-pub makes_after : {Y : Type 0} (first : Check Y) (rest : Y → Check Success) (y : Y) (shown : Bool) (r : Result Made Fault) → first.answers (Ok y) → Makes (rest y) shown r → Makes (Then first rest) shown r
-makes_after first rest y shown (Ok made) passed m = record { success = m.success; answers = (y, passed, m.answers); has_text = m.has_text; printed_is = m.printed_is }
-makes_after first rest y shown (Err f) passed refused = fails_after first rest y f passed refused
+pub makes_after : {Y : Type 0} (custom : Custom) (first : Check Y) (rest : Y → Check Success) (y : Y) (shown : Bool) (r : Result Made Fault) → first.answers (Ok y) → Makes custom (rest y) shown r → Makes custom (Then first rest) shown r
+makes_after custom first rest y shown (Ok made) passed m = record { success = m.success; answers = (y, passed, m.answers); has_text = m.has_text; printed_is = m.printed_is }
+makes_after custom first rest y shown (Err f) passed refused = fails_after first rest y f passed refused
 
-pub plans_after : {Y : Type 0} (first : Check Y) (rest : Y → Check Success) (y : Y) (shown : Bool) (r : Result Plan Fault) → first.answers (Ok y) → Plans (rest y) shown r → Plans (Then first rest) shown r
-plans_after first rest y shown (Ok plan) passed p = record {
+pub plans_after : {Y : Type 0} (custom : Custom) (first : Check Y) (rest : Y → Check Success) (y : Y) (shown : Bool) (r : Result Plan Fault) → first.answers (Ok y) → Plans custom (rest y) shown r → Plans custom (Then first rest) shown r
+plans_after custom first rest y shown (Ok plan) passed p = record {
   made = record { success = p.made.success; answers = (y, passed, p.made.answers); has_text = p.made.has_text; printed_is = p.made.printed_is };
   folder_is = p.folder_is;
   name_is = p.name_is;
 }
-plans_after first rest y shown (Err f) passed refused = fails_after first rest y f passed refused
+plans_after custom first rest y shown (Err f) passed refused = fails_after first rest y f passed refused

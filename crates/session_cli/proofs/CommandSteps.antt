@@ -1,5 +1,5 @@
 -- One command: from what its checks give and what the write did to its answer.
-use Rattle.std.proofs.Common.{◌≡◌, ℕ, ◌≤◌, Bool, false, List, [], Option, None, Some, IfSome, IsTrue, Result, Ok, Err, refl, sym, ap, ◌∙◌, subst, inl, inr, arith}
+use Rattle.std.proofs.Common.{◌≡◌, ℕ, Bool, false, List, [], Option, None, Some, IfSome, IsTrue, Result, Ok, Err, refl, sym, ap, ◌∙◌, subst, inl, inr, arith}
 use Rattle.std.specs.Option.{option_map}
 use Rattle.wal_outside.specs.Causes.{Rose}
 use Rattle.wal_outside.specs.Files.{Files, put}
@@ -10,13 +10,15 @@ use Rattle.session_cli.specs.declared.fault.Fault.{Fault}
 use Rattle.session_cli.specs.declared.fault.Fault.TheVariants as faults
 use Rattle.session_cli.specs.declared.plan.Plan.{Plan}
 use Rattle.session_cli.specs.Checks.{Fails}
-use Rattle.definitions.specs.Trees.{Bytes, Ledger, ledger_of}
+use Rattle.definitions.specs.Texts.{HasTextAt, Stores}
+use Rattle.definitions.specs.Trees.{Bytes, Ledger, ledger_of, custom_of}
+use Rattle.system_files.specs.SystemFiles.{Custom}
 use Rattle.session_cli.specs.Outcomes.{checks_of}
 use Rattle.session_cli.specs.Runs.{IsAnswer, IsKnownLedger, StoresTold, is_store_fault, failed_after}
 use Rattle.session_cli.specs.Plans.{IsPlan}
 use Rattle.session_cli.specs.Commands.{Stored, Commands, WritesPlan}
 use Rattle.session_cli.specs.StoreReads.{IsReadFault, HasRead}
-use Rattle.session_cli.specs.Texts.{HasTextAt, Stores}
+use Rattle.session_cli.proofs.StoreReads.{rises}
 
 -- where the ledger is the one by which a command is answered, it is so whatever the store tells
 pub own_ledger : (told : Option Files) (ledger : Ledger) → IsKnownLedger told ledger ledger
@@ -31,6 +33,7 @@ kept_failed old (faults.Number grammar at) other = refl
 kept_failed old (faults.Depth grammar at) other = refl
 kept_failed old (faults.Long bytes) other = refl
 kept_failed old (faults.SystemUnknown name) other = refl
+kept_failed old (faults.NotAdmitted name law) other = refl
 kept_failed old (faults.Direction first second) other = refl
 kept_failed old (faults.Letters step) other = refl
 kept_failed old (faults.States step) other = refl
@@ -47,8 +50,8 @@ kept_failed old (faults.WordGap of spelling) other = refl
 kept_failed old (faults.Plain of) other = refl
 
 -- and the store as it was
-pub kept_store : (store : StoreView) (fault : Fault) → is_store_fault fault ≡ false → Stored store (Err fault) store
-kept_store store fault other = record { files = refl; later = omega arith; cause = λ is. cc; failed = kept_failed store.failed fault other }
+pub kept_store : (custom : Custom) (store : StoreView) (fault : Fault) → is_store_fault fault ≡ false → Stored custom store (Err fault) store
+kept_store custom store fault other = record { files = refl; later = omega arith; cause = λ is. cc; failed = kept_failed store.failed fault other }
 
 -- a ledger by which a command over these files is answered: that of the files where they are told, and else that of what was found
 pub record IsAnswering (told : Option Files) (ledger : Ledger) (found : Files) : Type 0 where
@@ -56,13 +59,13 @@ pub record IsAnswering (told : Option Files) (ledger : Ledger) (found : Files) :
   known_is : IsKnownLedger told ledger known
   stores : Stores known found
 
-entry_stores : (folder : Folder) (found : Option (List ℕ)) → HasTextAt folder (option_map (λ (bytes : List ℕ). Bytes bytes) found) found
-entry_stores folder None = tt
-entry_stores folder (Some text) = (tt, refl)
+entry_stores : (custom : Custom) (folder : Folder) (found : Option (List ℕ)) → HasTextAt custom folder (option_map (λ (bytes : List ℕ). Bytes bytes) found) found
+entry_stores custom folder None = tt
+entry_stores custom folder (Some text) = (tt, refl)
 
 -- files store the ledger that has their texts
 pub files_store : (found : Files) → Stores (ledger_of found) found
-files_store found = λ folder name. entry_stores folder (found folder name)
+files_store found = λ folder name. entry_stores (custom_of (ledger_of found)) folder (found folder name)
 
 pub answering : (told : Option Files) (ledger : Ledger) (found : Files) → StoresTold ledger told → IfSome told (λ files. found ≡ files) → IsAnswering told ledger found
 answering None ledger found stores is = record { known = ledger_of found; known_is = tt; stores = files_store found }
@@ -89,6 +92,7 @@ refused_command limit ledger old new text shown fault found by refused read = re
     answer_of (faults.Depth grammar at) refused = refused
     answer_of (faults.Long bytes) refused = refused
     answer_of (faults.SystemUnknown name) refused = refused
+    answer_of (faults.NotAdmitted name law) refused = refused
     answer_of (faults.Direction first other) refused = refused
     answer_of (faults.Letters step) refused = refused
     answer_of (faults.States step) refused = refused
@@ -111,6 +115,7 @@ refused_command limit ledger old new text shown fault found by refused read = re
     cause_of (faults.Depth grammar at) read is = cc
     cause_of (faults.Long bytes) read is = cc
     cause_of (faults.SystemUnknown name) read is = cc
+    cause_of (faults.NotAdmitted name law) read is = cc
     cause_of (faults.Direction first other) read is = cc
     cause_of (faults.Letters step) read is = cc
     cause_of (faults.States step) read is = cc
@@ -133,6 +138,7 @@ refused_command limit ledger old new text shown fault found by refused read = re
     failed_of (faults.Depth grammar at) read = read
     failed_of (faults.Long bytes) read = read
     failed_of (faults.SystemUnknown name) read = read
+    failed_of (faults.NotAdmitted name law) read = read
     failed_of (faults.Direction first other) read = read
     failed_of (faults.Letters step) read = read
     failed_of (faults.States step) read = read
@@ -154,13 +160,9 @@ abbrev pub printed_by : Result (Unit {0}) Fault → List ℕ → List ℕ
 printed_by (Ok _) printed = printed
 printed_by (Err fault) printed = []
 
--- the count of faults rises over a read and a write
-rises : (before between after : ℕ) → before ≤ between → Rose between after → Rose before after
-rises before between after later rose = omega (arith, later, rose)
-
 -- a command whose text was to be stored, after its files were read
 pub planned_command : (limit : ℕ) (ledger : Ledger) (old mid new : StoreView) (text : List ℕ) (shown : Bool) (plan : Plan) (result : Result (Unit {0}) Fault) (found : Files) → IsAnswering old.files ledger found
-    → ((known : Ledger) → Stores known found → IsPlan (checks_of limit known text) shown plan) → HasRead {X = Plan} old (Ok plan) mid → WritesPlan mid (plan.folder, plan.name) plan.made.stored.items result new
+    → ((known : Ledger) → Stores known found → IsPlan (custom_of known) (checks_of limit known text) shown plan) → HasRead {X = Plan} old (Ok plan) mid → WritesPlan mid (plan.folder, plan.name) plan.made.stored.items result new
     → Commands limit ledger old text shown result (printed_by result plan.made.printed) new
 planned_command limit ledger old mid new text shown plan result found by plans read wrote = by_result result wrote
   where
@@ -205,6 +207,7 @@ planned_command limit ledger old mid new text shown plan result found by plans r
     by_result (Err (faults.Depth grammar at)) w = absurd w.cause
     by_result (Err (faults.Long bytes)) w = absurd w.cause
     by_result (Err (faults.SystemUnknown of)) w = absurd w.cause
+    by_result (Err (faults.NotAdmitted of law)) w = absurd w.cause
     by_result (Err (faults.Direction first other)) w = absurd w.cause
     by_result (Err (faults.Letters step)) w = absurd w.cause
     by_result (Err (faults.States step)) w = absurd w.cause

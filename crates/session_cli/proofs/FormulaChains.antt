@@ -2,7 +2,7 @@
 use Rattle.std.proofs.Common.{◌≡◌, ℕ, Bool, List, Result, Ok, Err, sym, ap, ◌∙◌}
 use Rattle.wal_outside.specs.Places.{Place}
 use Rattle.wal_outside.specs.declared.folder.Folder.{Folder}
-use Rattle.wal_outside.specs.declared.folder.Folder.TheVariants.{Bases}
+use Rattle.digit_tuple.specs.Steps.{StepLog}
 use Rattle.digit_tuple.specs.declared.steps.StepLine.{StepLine}
 use Rattle.command_head.specs.Heads.{NamedHead}
 use Rattle.command_head.specs.Grammar.{SpellsNamed}
@@ -15,11 +15,12 @@ use Rattle.session_cli.specs.declared.fault.Fault.TheVariants as faults
 use Rattle.session_cli.specs.declared.plan.Made.{Made}
 use Rattle.session_cli.specs.declared.plan.Plan.{Plan}
 use Rattle.session_cli.specs.Checks.{Pure, Fails}
-use Rattle.definitions.specs.Trees.{Variable, Ledger}
+use Rattle.definitions.specs.Trees.{Variable, Ledger, custom_of}
 use Rattle.dfa_loading.specs.declared.loaded.Loaded.{Loaded}
 use Rattle.session_cli.specs.Accepting.{Success}
 use Rattle.session_cli.specs.HeadAnswers.{HeadAnswers}
-use Rattle.session_cli.specs.FormulaOutcomes.{FormulaAnswers, LoadedAnswers, loaded, SystemsAnswers, ResolvedAnswers, BuiltAnswers, VariablesAnswers, bindings_now, after_variables, after_steps, after_resolution, after_systems, after_tables, after_formula, after_named_head, formula_checks}
+use Rattle.session_cli.specs.FormulaOutcomes.{FormulaAnswers, LoadedAnswers, loaded, mentioned_systems, ResolvedAnswers, BuiltAnswers, VariablesAnswers, bindings_now, after_variables, after_steps, after_resolution, after_systems, after_tables, after_formula, after_named_head, formula_checks}
+use Rattle.session_cli.specs.SystemChecks.{SystemsAnswers, systems_known}
 use Rattle.session_cli.specs.Plans.{Makes, Plans}
 use Rattle.session_cli.proofs.CheckSteps.{fails_first, fails_after, makes_after, plans_after}
 
@@ -36,63 +37,64 @@ record IsAt (folder : Folder) (head : NamedHead) (success : Success) : Type 0 wh
   name_is : head.name ≡ success.name
 
 stands_at : (limit : ℕ) (ledger : Ledger) (folder : Folder) (head : NamedHead) (success : Success) → (after_named_head limit ledger folder head).answers (Ok success) → IsAt folder head success
-stands_at limit ledger folder head success (formula, reads, (tables, files, (known, systems, (done, resolves, (lines, builds, (variables, are, (verdict, says, (is, text)))))))) = record {
+stands_at limit ledger folder head success (formula, reads, (tables, files, (admitted, systems, (done, resolves, (lines, builds, (variables, are, (verdict, says, (is, text)))))))) = record {
   folder_is = sym (ap (λ (s : Success). s.folder) is);
   name_is = sym (ap (λ (s : Success). s.name) is);
 }
 
 -- a command whose head is this one
 pub named_planned : (word : List ℕ) (folder : Folder) (limit : ℕ) (ledger : Ledger) (text : List ℕ) (shown : Bool) (head : NamedHead) (plan : Plan) → HasHead (SpellsNamed word) (λ (h : NamedHead). h) text (Ok head) → plan.folder ≡ folder → plan.name ≡ head.name
-    → Makes (after_named_head limit ledger folder head) shown (Ok plan.made) → Plans (formula_checks word folder limit ledger text) shown (Ok plan)
+    → Makes (custom_of ledger) (after_named_head limit ledger folder head) shown (Ok plan.made) → Plans (custom_of ledger) (formula_checks word folder limit ledger text) shown (Ok plan)
 named_planned word folder limit ledger text shown head plan spells folder_is name_is made =
     let at : IsAt folder head made.success = stands_at limit ledger folder head made.success made.answers in
-    plans_after (Pure (HeadAnswers (SpellsNamed word) text)) (λ h. after_named_head limit ledger folder h) head shown (Ok plan) spells (record { made = made; folder_is = folder_is ∙ at.folder_is; name_is = name_is ∙ at.name_is })
+    plans_after (custom_of ledger) (Pure (HeadAnswers (SpellsNamed word) text)) (λ h. after_named_head limit ledger folder h) head shown (Ok plan) spells (record { made = made; folder_is = folder_is ∙ at.folder_is; name_is = name_is ∙ at.name_is })
 
 pub named_failed : (word : List ℕ) (folder : Folder) (limit : ℕ) (ledger : Ledger) (text : List ℕ) (shown : Bool) (head : NamedHead) (fault : Fault) → HasHead (SpellsNamed word) (λ (h : NamedHead). h) text (Ok head)
-    → Fails (after_named_head limit ledger folder head) fault → Plans (formula_checks word folder limit ledger text) shown (Err fault)
-named_failed word folder limit ledger text shown head fault spells refused = plans_after (Pure (HeadAnswers (SpellsNamed word) text)) (λ h. after_named_head limit ledger folder h) head shown (Err fault) spells refused
+    → Fails (after_named_head limit ledger folder head) fault → Plans (custom_of ledger) (formula_checks word folder limit ledger text) shown (Err fault)
+named_failed word folder limit ledger text shown head fault spells refused = plans_after (custom_of ledger) (Pure (HeadAnswers (SpellsNamed word) text)) (λ h. after_named_head limit ledger folder h) head shown (Err fault) spells refused
 
 -- the formula breaks its grammar
 pub head_unparsed : (limit : ℕ) (ledger : Ledger) (folder : Folder) (head : NamedHead) (fault : Fault) → Fails (Pure (FormulaAnswers head.body)) fault → Fails (after_named_head limit ledger folder head) fault
 head_unparsed limit ledger folder head fault refused = fails_first (Pure (FormulaAnswers head.body)) (λ f. after_formula limit ledger (folder, head.name) f) fault refused
 
 -- what is made of a formula that was read
-pub head_parsed : (limit : ℕ) (ledger : Ledger) (folder : Folder) (head : NamedHead) (formula : trees.Formula) (shown : Bool) (result : Result Made Fault) → FormulaAnswers head.body (Ok formula) → Makes (after_formula limit ledger (folder, head.name) formula) shown result → Makes (after_named_head limit ledger folder head) shown result
-head_parsed limit ledger folder head formula shown result reads makes = makes_after (Pure (FormulaAnswers head.body)) (λ f. after_formula limit ledger (folder, head.name) f) formula shown result reads makes
+pub head_parsed : (limit : ℕ) (ledger : Ledger) (folder : Folder) (head : NamedHead) (formula : trees.Formula) (shown : Bool) (result : Result Made Fault) → FormulaAnswers head.body (Ok formula) → Makes (custom_of ledger) (after_formula limit ledger (folder, head.name) formula) shown result → Makes (custom_of ledger) (after_named_head limit ledger folder head) shown result
+head_parsed limit ledger folder head formula shown result reads makes = makes_after (custom_of ledger) (Pure (FormulaAnswers head.body)) (λ f. after_formula limit ledger (folder, head.name) f) formula shown result reads makes
 
 -- its files are not loaded
 pub formula_unloaded : (limit : ℕ) (ledger : Ledger) (place : Place) (formula : trees.Formula) (fault : Fault) → Fails (loaded ledger formula) fault → Fails (after_formula limit ledger place formula) fault
 formula_unloaded limit ledger place formula fault refused = fails_first (loaded ledger formula) (λ tables. after_tables limit ledger place formula tables) fault refused
 
 -- what is made of it where they are
-pub formula_loaded : (limit : ℕ) (ledger : Ledger) (place : Place) (formula : trees.Formula) (tables : List Loaded) (shown : Bool) (result : Result Made Fault) → LoadedAnswers ledger formula (Ok tables) → Makes (after_tables limit ledger place formula tables) shown result
-    → Makes (after_formula limit ledger place formula) shown result
-formula_loaded limit ledger place formula tables shown result there makes = makes_after (loaded ledger formula) (λ ts. after_tables limit ledger place formula ts) tables shown result there makes
+pub formula_loaded : (limit : ℕ) (ledger : Ledger) (place : Place) (formula : trees.Formula) (tables : List Loaded) (shown : Bool) (result : Result Made Fault) → LoadedAnswers ledger formula (Ok tables) → Makes (custom_of ledger) (after_tables limit ledger place formula tables) shown result
+    → Makes (custom_of ledger) (after_formula limit ledger place formula) shown result
+formula_loaded limit ledger place formula tables shown result there makes = makes_after (custom_of ledger) (loaded ledger formula) (λ ts. after_tables limit ledger place formula ts) tables shown result there makes
 
--- it names a system that is not known
-pub tables_unknown : (limit : ℕ) (ledger : Ledger) (place : Place) (formula : trees.Formula) (tables : List Loaded) (fault : Fault) → Fails (Pure (SystemsAnswers (ledger Bases) tables formula)) fault → Fails (after_tables limit ledger place formula tables) fault
-tables_unknown limit ledger place formula tables fault refused = fails_first (Pure (SystemsAnswers (ledger Bases) tables formula)) (λ known. after_systems limit ledger place tables formula) fault refused
+-- a system that it mentions is refused
+pub tables_refused : (limit : ℕ) (ledger : Ledger) (place : Place) (formula : trees.Formula) (tables : List Loaded) (fault : Fault) → Fails (systems_known limit (custom_of ledger) (mentioned_systems tables formula)) fault → Fails (after_tables limit ledger place formula tables) fault
+tables_refused limit ledger place formula tables fault refused = fails_first (systems_known limit (custom_of ledger) (mentioned_systems tables formula)) (λ admitted. after_systems ledger place tables formula admitted) fault refused
 
 -- what is made of it where its systems are known
-pub tables_known : (limit : ℕ) (ledger : Ledger) (place : Place) (formula : trees.Formula) (tables : List Loaded) (shown : Bool) (result : Result Made Fault) → SystemsAnswers (ledger Bases) tables formula (Ok tt) → Makes (after_systems limit ledger place tables formula) shown result
-    → Makes (after_tables limit ledger place formula tables) shown result
-tables_known limit ledger place formula tables shown result known makes = makes_after (Pure (SystemsAnswers (ledger Bases) tables formula)) (λ done. after_systems limit ledger place tables formula) tt shown result known makes
+pub tables_known : (limit : ℕ) (ledger : Ledger) (place : Place) (formula : trees.Formula) (tables : List Loaded) (admitted : StepLog) (shown : Bool) (result : Result Made Fault) → SystemsAnswers limit (custom_of ledger) (mentioned_systems tables formula) (Ok admitted)
+    → Makes (custom_of ledger) (after_systems ledger place tables formula admitted) shown result → Makes (custom_of ledger) (after_tables limit ledger place formula tables) shown result
+tables_known limit ledger place formula tables admitted shown result known makes =
+    makes_after (custom_of ledger) (systems_known limit (custom_of ledger) (mentioned_systems tables formula)) (λ log. after_systems ledger place tables formula log) admitted shown result known makes
 
 -- it has no resolution
-pub systems_unresolved : (limit : ℕ) (ledger : Ledger) (place : Place) (tables : List Loaded) (formula : trees.Formula) (fault : Fault) → Fails (Pure (ResolvedAnswers tables formula)) fault → Fails (after_systems limit ledger place tables formula) fault
-systems_unresolved limit ledger place tables formula fault refused = fails_first (Pure (ResolvedAnswers tables formula)) (λ done. after_resolution limit ledger place tables formula) fault refused
+pub systems_unresolved : (admitted : StepLog) (ledger : Ledger) (place : Place) (tables : List Loaded) (formula : trees.Formula) (fault : Fault) → Fails (Pure (ResolvedAnswers tables formula)) fault → Fails (after_systems ledger place tables formula admitted) fault
+systems_unresolved admitted ledger place tables formula fault refused = fails_first (Pure (ResolvedAnswers tables formula)) (λ done. after_resolution admitted ledger place tables formula) fault refused
 
 -- a step passes a limit
-pub resolved_unbuilt : (limit : ℕ) (ledger : Ledger) (place : Place) (tables : List Loaded) (formula : trees.Formula) (fault : Fault) → ResolvedAnswers tables formula (Ok tt) → Fails (Pure (BuiltAnswers limit (ledger Bases) tables formula)) fault → Fails (after_systems limit ledger place tables formula) fault
-resolved_unbuilt limit ledger place tables formula fault resolves refused =
-    fails_after (Pure (ResolvedAnswers tables formula)) (λ done. after_resolution limit ledger place tables formula) tt fault resolves
-    (fails_first (Pure (BuiltAnswers limit (ledger Bases) tables formula)) (λ lines. after_steps ledger place tables formula lines) fault refused)
+pub resolved_unbuilt : (admitted : StepLog) (ledger : Ledger) (place : Place) (tables : List Loaded) (formula : trees.Formula) (fault : Fault) → ResolvedAnswers tables formula (Ok tt) → Fails (Pure (BuiltAnswers admitted (custom_of ledger) tables formula)) fault → Fails (after_systems ledger place tables formula admitted) fault
+resolved_unbuilt admitted ledger place tables formula fault resolves refused =
+    fails_after (Pure (ResolvedAnswers tables formula)) (λ done. after_resolution admitted ledger place tables formula) tt fault resolves
+    (fails_first (Pure (BuiltAnswers admitted (custom_of ledger) tables formula)) (λ lines. after_steps ledger place tables formula lines) fault refused)
 
 -- what is made of it where its steps were done
-pub steps_made : (limit : ℕ) (ledger : Ledger) (place : Place) (tables : List Loaded) (formula : trees.Formula) (variables : List Variable) (lines : List StepLine) (shown : Bool) (result : Result Made Fault) → ResolvedAnswers tables formula (Ok tt)
-    → BuiltAnswers limit (ledger Bases) tables formula (Ok lines) → VariablesAnswers (ledger Bases) tables formula (Ok variables) → Makes (after_variables place (bindings_now ledger formula) formula lines variables) shown result
-    → Makes (after_systems limit ledger place tables formula) shown result
-steps_made limit ledger place tables formula variables lines shown result resolves builds are makes =
-    makes_after (Pure (ResolvedAnswers tables formula)) (λ done. after_resolution limit ledger place tables formula) tt shown result resolves
-    (makes_after (Pure (BuiltAnswers limit (ledger Bases) tables formula)) (λ ls. after_steps ledger place tables formula ls) lines shown result builds
-    (makes_after (Pure (VariablesAnswers (ledger Bases) tables formula)) (λ vs. after_variables place (bindings_now ledger formula) formula lines vs) variables shown result are makes))
+pub steps_made : (admitted : StepLog) (ledger : Ledger) (place : Place) (tables : List Loaded) (formula : trees.Formula) (variables : List Variable) (lines : List StepLine) (shown : Bool) (result : Result Made Fault) → ResolvedAnswers tables formula (Ok tt)
+    → BuiltAnswers admitted (custom_of ledger) tables formula (Ok lines) → VariablesAnswers (custom_of ledger) tables formula (Ok variables) → Makes (custom_of ledger) (after_variables (custom_of ledger) place (bindings_now ledger formula) formula lines variables) shown result
+    → Makes (custom_of ledger) (after_systems ledger place tables formula admitted) shown result
+steps_made admitted ledger place tables formula variables lines shown result resolves builds are makes =
+    makes_after (custom_of ledger) (Pure (ResolvedAnswers tables formula)) (λ done. after_resolution admitted ledger place tables formula) tt shown result resolves
+    (makes_after (custom_of ledger) (Pure (BuiltAnswers admitted (custom_of ledger) tables formula)) (λ ls. after_steps ledger place tables formula ls) lines shown result builds
+    (makes_after (custom_of ledger) (Pure (VariablesAnswers (custom_of ledger) tables formula)) (λ vs. after_variables (custom_of ledger) place (bindings_now ledger formula) formula lines vs) variables shown result are makes))

@@ -1,5 +1,5 @@
 -- What is known of a formula whose files are loaded: what resolving it, reading its tables and building it ask for, and what its names mean.
-use Rattle.std.proofs.Common.{◌≡◌, ℕ, List, None}
+use Rattle.std.proofs.Common.{◌≡◌, ℕ, List, None, sym, subst}
 use Rattle.wal_outside.specs.Files.{Files}
 use Rattle.digit_tuple.specs.Steps.{StepLog}
 use Rattle.dfa_loading.specs.Headers.{headers_of}
@@ -19,8 +19,8 @@ use Rattle.formula_build.specs.Libraries.{NamedSystem, AreSealed, meanings_of}
 use Rattle.formula_build.specs.Resolved.{AreWays, plan_headers}
 use Rattle.formula_build.specs.Solutions.{way_named}
 use Rattle.formula_build.specs.TrackSystems.{Fits}
-use Rattle.definitions.specs.Trees.{Ledger}
-use Rattle.definitions.specs.Named.{Custom}
+use Rattle.definitions.specs.Trees.{Ledger, custom_of}
+use Rattle.system_files.specs.SystemFiles.{Custom}
 use Rattle.definitions.specs.TreeMeanings.{meanings_in}
 use Rattle.definitions.proofs.TextMeanings.{text_means}
 use Rattle.definitions.proofs.FileTables.{file_is_table}
@@ -31,7 +31,7 @@ use Rattle.session_cli.specs.FormulaPlans.{HasSystems}
 use Rattle.session_cli.specs.FormulaSteps.{AreMeant}
 use Rattle.session_cli.specs.TableReads.{TableRead, AreTablesRead, library_with}
 use Rattle.session_cli.specs.TableReading.{AreReadable}
-use Rattle.session_cli.specs.Texts.{no_custom, Stores}
+use Rattle.definitions.specs.Texts.{Stores}
 use Rattle.session_cli.proofs.ReadableTables.{tables_readable}
 use Rattle.session_cli.proofs.TableFiles.{files_apart}
 use Rattle.session_cli.proofs.TableFits.{tables_fit, files_known}
@@ -44,15 +44,15 @@ module _ (formula : trees.Formula) (tables : List Loaded) (files : Files) (liste
   pub ground_ways : AreWays (headers_of tables) way_named
   ground_ways = table_ways files (first_files (mentions formula)) tables listed
 
-  module _ (systems : List NamedSystem) (sealed : AreSealed systems) (meant : (custom : Custom) → AreMeant custom systems) (resolves : fault_of (headers_of tables) formula ≡ None) (has : HasSystems (first_systems (headers_of tables) (mentions formula)) systems) where
+  module _ (systems : List NamedSystem) (sealed : AreSealed systems) (custom : Custom) (meant : AreMeant custom systems) (resolves : fault_of (headers_of tables) formula ≡ None) (has : HasSystems (first_systems (headers_of tables) (mentions formula)) systems) where
     -- the tables can be read
     pub ground_readable : AreReadable systems tables
-    ground_readable = tables_readable file_is_table systems files tables formula (first_once (mentions formula)) listed resolves has meant
+    ground_readable = tables_readable file_is_table systems files tables formula (first_once (mentions formula)) listed resolves has custom meant
 
     module _ (reads : List TableRead) (old new : StepLog) (made : AreTablesRead systems old tables reads new) where
       -- what they make stands over the systems of their headers
       pub ground_fits : Fits (library_with reads systems) (plan_headers (headers_of tables)) way_named
-      ground_fits = tables_fit table_holds systems sealed no_custom tables reads old new (meant no_custom) (files_apart files (first_files (mentions formula)) tables (first_once (mentions formula)) listed) ground_readable made
+      ground_fits = tables_fit table_holds systems sealed custom tables reads old new meant (files_apart files (first_files (mentions formula)) tables (first_once (mentions formula)) listed) ground_readable made
 
       -- each name of the formula stands for something
       pub ground_known : ((text : List ℕ) × Reads (tokens (spots text)) formula) → AreKnownIn (library_with reads systems) formula
@@ -60,6 +60,7 @@ module _ (formula : trees.Formula) (tables : List Loaded) (files : Files) (liste
           read_known (library_with reads systems) (headers_of tables) text formula spelled (files_known systems files (first_files (mentions formula)) tables reads old new listed made) has.default has.mentioned
 
       -- and for what it is bound to now
-      pub ground_means : (ledger : Ledger) → Stores ledger files → MeanTheSame (meanings_of (library_with reads systems)) (meanings_in no_custom (bindings_now ledger formula))
-      ground_means ledger stores =
-          tables_mean_the_same (record { texts = text_means; words = word_text_means; tables = table_holds; letters = words_have_file_letters }) ledger files systems stores sealed (meant no_custom) (first_files (mentions formula)) tables reads old new (first_once (mentions formula)) listed ground_readable made
+      pub ground_means : (ledger : Ledger) → Stores ledger files → custom_of ledger ≡ custom → MeanTheSame (meanings_of (library_with reads systems)) (meanings_in (custom_of ledger) (bindings_now ledger formula))
+      ground_means ledger stores same =
+          let are : AreMeant (custom_of ledger) systems = subst (λ (c : Custom). AreMeant c systems) (sym same) meant in
+          tables_mean_the_same (record { texts = text_means; words = word_text_means; tables = table_holds; letters = words_have_file_letters }) ledger files systems stores sealed are (first_files (mentions formula)) tables reads old new (first_once (mentions formula)) listed ground_readable made

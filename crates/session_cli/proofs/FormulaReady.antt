@@ -1,5 +1,5 @@
 -- What resolving and building a formula asks for, of the systems that a session keeps.
-use Rattle.std.proofs.Common.{◌≡◌, ◌⊎◌, ℕ, List, None, Result, Ok, inl, inr, refl, sym, ap, ◌∙◌, subst}
+use Rattle.std.proofs.Common.{◌≡◌, ◌⊎◌, List, None, Result, Ok, inl, inr, refl, sym, ap, ◌∙◌, subst}
 use Rattle.dfa_loading.specs.Headers.{headers_of}
 use Rattle.dfa_loading.specs.declared.loaded.Loaded.{Loaded}
 use Rattle.digit_tuple.specs.Steps.{StepLog}
@@ -23,11 +23,11 @@ use Rattle.formula_build.specs.VariableTracks.{IsOverVariables}
 use Rattle.formula_build.specs.declared.names.Names.{Names}
 use Rattle.formula_build.specs.declared.resolving.Resolved.{Resolved}
 use Rattle.number_relations.specs.Relations.{RelationValue}
-use Rattle.definitions.specs.Named.{Custom}
+use Rattle.system_files.specs.SystemFiles.{Custom}
 use Rattle.session_cli.specs.FormulaOutcomes.{ResolvedAnswers}
 use Rattle.session_cli.specs.declared.read_fault.ReadFault.{ReadFault}
 use Rattle.session_cli.specs.declared.read_fault.ReadFault.TheVariants.{Step, Gap}
-use Rattle.session_cli.specs.FormulaSteps.{AreMeant, no_steps, IsReadingStopped, IsLetterMissing, AreFormulaSteps}
+use Rattle.session_cli.specs.FormulaSteps.{AreMeant, IsReadingStopped, IsLetterMissing, AreFormulaSteps}
 use Rattle.session_cli.specs.TableReads.{TableRead, AreTablesRead, read_of, library_with}
 use Rattle.session_cli.specs.TableReading.{IsReadingFault}
 
@@ -70,9 +70,9 @@ module _ (r : Resolved) (read : ReadValue) (reads : List TableRead) (formula : t
   variables_here planned = planned.variables ∙ (λ i. free_variables (all_occurrences (up.headers i) (up.formula_is i)))
 
   -- the steps were done, or stopped, after the tables were read
-  pub steps_here : (limit : ℕ) (custom : Custom) (reading new : StepLog) (result : Result RelationValue StepFault) → AreSealed systems → AreMeant custom systems → AreTablesRead systems (no_steps limit) tables reads reading
-      → BuildsFormula reading (resolved_library r read) (formula_plan (headers_in r) (formula_of r)) result new → AreFormulaSteps limit custom tables formula result new.lines
-  steps_here limit custom reading new result are_sealed meant tables_read builds =
+  pub steps_here : (admitted : StepLog) (custom : Custom) (reading new : StepLog) (result : Result RelationValue StepFault) → AreSealed systems → AreMeant custom systems → AreTablesRead systems admitted tables reads reading
+      → BuildsFormula reading (resolved_library r read) (formula_plan (headers_in r) (formula_of r)) result new → AreFormulaSteps admitted custom tables formula result new.lines
+  steps_here admitted custom reading new result are_sealed meant tables_read builds =
       let two = subst (λ (l : LibraryValue). BuildsFormula reading l (formula_plan (headers_in r) (formula_of r)) result new) up.library builds in
       let three = subst (λ (h : Headers). BuildsFormula reading (library_with reads systems) (formula_plan h (formula_of r)) result new) up.headers two in
       record {
@@ -87,23 +87,13 @@ module _ (r : Resolved) (read : ReadValue) (reads : List TableRead) (formula : t
         lines_are = refl;
       }
 
--- tables that were read from the first step on
-pub reading_here : (systems named : List NamedSystem) (limit : ℕ) (old new : StepLog) (tables : List Loaded) (reads : List TableRead) → named ≡ systems → old ≡ no_steps limit → AreTablesRead named old tables reads new → AreTablesRead systems (no_steps limit) tables reads new
-reading_here systems named limit old new tables reads same first made =
-    subst (λ (o : StepLog). AreTablesRead systems o tables reads new) first (subst (λ (ss : List NamedSystem). AreTablesRead ss old tables reads new) same made)
-
 -- why tables are not read: memory ran out, or a step passes a limit, or a letter is missing
-abbrev pub IsUnread : ℕ → Custom → List Loaded → ReadFault → Type 0
-IsUnread limit custom tables (Step fault) = (fault ≡ step_faults.Memory) ⊎ IsReadingStopped limit custom tables fault
-IsUnread limit custom tables (Gap name spelling) = IsLetterMissing limit custom tables name spelling
+abbrev pub IsUnread : StepLog → Custom → List Loaded → ReadFault → Type 0
+IsUnread admitted custom tables (Step fault) = (fault ≡ step_faults.Memory) ⊎ IsReadingStopped admitted custom tables fault
+IsUnread admitted custom tables (Gap name spelling) = IsLetterMissing admitted custom tables name spelling
 
--- tables that were not read from the first step on
-unread_by : (systems : List NamedSystem) (limit : ℕ) (custom : Custom) (tables : List Loaded) (fault : ReadFault) → AreSealed systems → AreMeant custom systems → IsReadingFault systems (no_steps limit) tables fault → IsUnread limit custom tables fault
-unread_by systems limit custom tables (Step fault) sealed meant (inl memory) = inl memory
-unread_by systems limit custom tables (Step fault) sealed meant (inr refused) = inr (record { systems = systems; sealed = sealed; meant = meant; refused = refused })
-unread_by systems limit custom tables (Gap name spelling) sealed meant gap = record { systems = systems; sealed = sealed; meant = meant; gap = gap }
-
-pub stopped_here : (systems named : List NamedSystem) (limit : ℕ) (custom : Custom) (old : StepLog) (tables : List Loaded) (fault : ReadFault) → AreSealed systems → AreMeant custom systems → named ≡ systems → old ≡ no_steps limit
-    → IsReadingFault named old tables fault → IsUnread limit custom tables fault
-stopped_here systems named limit custom old tables fault sealed meant same first stops =
-    unread_by systems limit custom tables fault sealed meant (subst (λ (o : StepLog). IsReadingFault systems o tables fault) first (subst (λ (ss : List NamedSystem). IsReadingFault ss old tables fault) same stops))
+-- tables that were not read
+pub stopped_here : (systems : List NamedSystem) (admitted : StepLog) (custom : Custom) (tables : List Loaded) (fault : ReadFault) → AreSealed systems → AreMeant custom systems → IsReadingFault systems admitted tables fault → IsUnread admitted custom tables fault
+stopped_here systems admitted custom tables (Step fault) sealed meant (inl memory) = inl memory
+stopped_here systems admitted custom tables (Step fault) sealed meant (inr refused) = inr (record { systems = systems; sealed = sealed; meant = meant; refused = refused })
+stopped_here systems admitted custom tables (Gap name spelling) sealed meant gap = record { systems = systems; sealed = sealed; meant = meant; gap = gap }

@@ -1,15 +1,9 @@
 -- The relation that was built of a formula, as what its text says.
-use Rattle.std.proofs.Common.{◌≡◌, ◌≢◌, ◌↔◌, ℕ, Bool, true, false, List, [], ◌∷◌, length, map, Some, IsTrue, if◌then◌else◌, refl, sym, ap, ◌∙◌, subst, arith}
+use Rattle.std.proofs.Common.{◌≡◌, ◌≢◌, ◌↔◌, ℕ, Bool, List, [], ◌∷◌, length, map, IsTrue, refl, sym, ap, ◌∙◌, subst, arith}
 use Rattle.std.specs.List.{AllByRecursion}
-use Rattle.std.specs.Str.{bytes_eq}
 use Rattle.std.proofs.lemmas.List.{length-map}
-use Rattle.std.proofs.lemmas.Option.{none-some}
-use Rattle.std.proofs.lemmas.Slice.Eq.{bytes_eq-Decides}
 use Rattle.digit_tuple.specs.Names.{AreDistinct}
 use Rattle.digit_tuple.specs.Systems.{IsDigitCount}
-use Rattle.system_names.specs.Names.{IsSystemKind}
-use Rattle.system_names.specs.declared.system_kind.SystemKind.{SystemKind}
-use Rattle.system_names.specs.declared.system_kind.SystemKind.TheVariants.{Base, Fibonacci}
 use Rattle.digit_tuple.specs.declared.direction.Direction.{Direction}
 use Rattle.digit_tuple.specs.declared.header.Header.TheVariants as headers
 use Rattle.digit_tuple.specs.declared.systems.SystemTrack.{SystemTrack}
@@ -19,27 +13,27 @@ use Rattle.num_system.specs.Sealed as sealed
 use Rattle.num_system.specs.Sealed.{SystemValue}
 use Rattle.num_system.specs.Tracks as relations
 use Rattle.num_system.specs.Tracks.{HaveOneWay}
-use Rattle.number_relations.specs.Relations.{RelationValue, RelationHolds, IsRelation}
+use Rattle.number_relations.specs.Relations.{RelationValue, RelationHolds}
 use Rattle.num_system.proofs.HoldLemmas.{holds_same}
 use Rattle.formula_parse.specs.Trees as trees
 use Rattle.formula_resolve.specs.declared.variable.Variable as resolved
 use Rattle.formula_truth.specs.Truth.{Holds}
 use Rattle.formula_truth.proofs.MeaningLemmas.{MeanTheSame, meanings_matter}
-use Rattle.formula_build.specs.Libraries.{NamedSystem, LibraryValue, IsSystemIn, system_named, meanings_of}
+use Rattle.formula_build.specs.Libraries.{LibraryValue, meanings_of}
 use Rattle.formula_build.specs.Solutions.{IsSolution}
 use Rattle.formula_build.specs.VariableTracks.{AreSystemsOf, IsOverVariables}
 use Rattle.dfa_text.specs.RelationText.{relation_text}
 use Rattle.definitions.specs.Tracks.{systems_of, header_tracks, track_of}
 use Rattle.definitions.specs.Trees.{Variable, Bindings}
-use Rattle.definitions.specs.Named.{Custom, IsSystemNamed, AreNamed, built_in_system}
+use Rattle.system_files.specs.SystemFiles.{Custom}
+use Rattle.definitions.specs.Named.{IsSystemNamed, AreNamed}
 use Rattle.definitions.specs.FormulaTexts.{IsSolvedBy, named_systems, IsSolutionText, HasTruth}
 use Rattle.definitions.specs.TreeMeanings.{assigned, meanings_in}
-use Rattle.session_cli.specs.Texts.{no_custom}
 use Rattle.session_cli.specs.FormulaSteps.{AreMeant}
 use Rattle.session_cli.specs.FormulaOutcomes.{AreVariables}
 use Rattle.session_cli.specs.FormulaPlans.{tracks_over, automaton_text}
 use Rattle.session_cli.specs.VariablesOver.{variable_over, variables_over}
-use Rattle.session_cli.proofs.MeantNames.{found_meant}
+use Rattle.session_cli.proofs.MeantNames.{found_meant, named_digits}
 use Rattle.definitions.proofs.AssignedLemmas.{names_of_variables, assigned_numbers}
 
 -- the variables stand over the systems that their names mean
@@ -86,12 +80,12 @@ over_ways way (v ∷ found) [] ways = tt
 over_ways way (v ∷ found) (s ∷ ss) ways = (ways.0, over_ways way found ss ways.1)
 
 -- each variable's system is the one that its name means
-over_named : (way : Direction) (found : List resolved.Variable) (ss : List SystemValue) → AreVariables no_custom found (variables_over found ss) → AllByRecursion (λ (s : SystemValue). s.way ≡ way) ss → AreNamed no_custom way (named_systems (variables_over found ss))
-over_named way [] ss are ways = tt
-over_named way (v ∷ found) [] are ways = tt
-over_named way (v ∷ found) (s ∷ ss) are ways = (subst (λ (w : Direction). IsSystemNamed no_custom v.system w (sealed.system_of s)) ways.0 are.0.means, over_named way found ss are.1 ways.1)
+over_named : (custom : Custom) (way : Direction) (found : List resolved.Variable) (ss : List SystemValue) → AreVariables custom found (variables_over found ss) → AllByRecursion (λ (s : SystemValue). s.way ≡ way) ss → AreNamed custom way (named_systems (variables_over found ss))
+over_named custom way [] ss are ways = tt
+over_named custom way (v ∷ found) [] are ways = tt
+over_named custom way (v ∷ found) (s ∷ ss) are ways = (subst (λ (w : Direction). IsSystemNamed custom v.system w (sealed.system_of s)) ways.0 are.0.means, over_named custom way found ss are.1 ways.1)
 
-module _ (l : LibraryValue) (bindings : Bindings) (means : MeanTheSame (meanings_of l) (meanings_in no_custom bindings)) (meant : AreMeant no_custom l.systems) (formula : trees.Formula) (found : List resolved.Variable) (r : RelationValue) (solution : IsSolution l formula r) (over : IsOverVariables l found r) where
+module _ (custom : Custom) (l : LibraryValue) (bindings : Bindings) (means : MeanTheSame (meanings_of l) (meanings_in custom bindings)) (meant : AreMeant custom l.systems) (formula : trees.Formula) (found : List resolved.Variable) (r : RelationValue) (solution : IsSolution l formula r) (over : IsOverVariables l found r) where
   abbrev variables : List Variable
   variables = variables_over found r.systems
 
@@ -99,29 +93,29 @@ module _ (l : LibraryValue) (bindings : Bindings) (means : MeanTheSame (meanings
   own_names = over_names l found r.systems over.systems_are ∙ sym over.names_are
 
   -- the relation holds of numbers for which the formula is true
-  solves : (ns : List ℕ) → length ns ≡ length variables → RelationHolds r ns ↔ IsSolvedBy no_custom bindings variables formula ns
+  solves : (ns : List ℕ) → length ns ≡ length variables → RelationHolds r ns ↔ IsSolvedBy custom bindings variables formula ns
   solves ns count =
       let a : List ℕ → ℕ = assigned variables ns in
       let own : map a r.names ≡ ns = ap (λ (names : List (List ℕ)). map a names) (sym own_names) ∙ assigned_numbers variables ns (subst AreDistinct (sym own_names) solution.relation.tracked.distinct) count in
       let says : RelationHolds r (map a r.names) ↔ Holds (meanings_of l) formula a = solution.holds a in
-      let same : Holds (meanings_of l) formula a ↔ Holds (meanings_in no_custom bindings) formula a = meanings_matter (meanings_of l) (meanings_in no_custom bindings) means formula a in
+      let same : Holds (meanings_of l) formula a ↔ Holds (meanings_in custom bindings) formula a = meanings_matter (meanings_of l) (meanings_in custom bindings) means formula a in
       ((λ holds. same.0 (says.0 (subst (RelationHolds r) (sym own) holds))), (λ holds. subst (RelationHolds r) own (says.1 (same.1 holds))))
 
   -- its automaton accepts the spellings of these numbers
-  solution_holds : HoldsOf (relations.way_of r.systems) (systems_of (named_systems variables)) (IsSolvedBy no_custom bindings variables formula) r.automaton
+  solution_holds : HoldsOf (relations.way_of r.systems) (systems_of (named_systems variables)) (IsSolvedBy custom bindings variables formula) r.automaton
   solution_holds =
       let way : Direction = relations.way_of r.systems in
       let sizes : systems_of (named_systems variables) ≡ relations.systems_of r.systems = over_systems l found r.systems over.systems_are in
       let closed : HoldsOf way (systems_of (named_systems variables)) (RelationHolds r) r.automaton = subst (λ (ss : List System). HoldsOf way ss (RelationHolds r) r.automaton) (sym sizes) solution.relation.closed in
-      holds_same way (systems_of (named_systems variables)) (RelationHolds r) (IsSolvedBy no_custom bindings variables formula) r.automaton
+      holds_same way (systems_of (named_systems variables)) (RelationHolds r) (IsSolvedBy custom bindings variables formula) r.automaton
       (λ ns count. solves ns (count ∙ ap length sizes ∙ length-map r.systems sealed.system_of ∙ sym (over_count l found r.systems over.systems_are))) closed
 
   -- the text of the automaton is that of the formula
-  pub solution_text : IsSolutionText no_custom bindings variables formula (automaton_text found r)
+  pub solution_text : IsSolutionText custom bindings variables formula (automaton_text found r)
   solution_text = record {
     way = relations.way_of r.systems;
     read = over_ways (relations.way_of r.systems) found r.systems solution.relation.one_way;
-    named = over_named (relations.way_of r.systems) found r.systems (are_variables no_custom l found r.systems meant over.systems_are) solution.relation.one_way;
+    named = over_named custom (relations.way_of r.systems) found r.systems (are_variables custom l found r.systems meant over.systems_are) solution.relation.one_way;
     automaton = r.automaton;
     canonical = solution.relation.tracked.canonical;
     holds = solution_holds;
@@ -139,23 +133,16 @@ module _ (l : LibraryValue) (bindings : Bindings) (means : MeanTheSame (meanings
   pub some_variables : r.names ≢ [] → variables ≢ []
   some_variables some none = some (sym own_names ∙ ap names_of_variables none)
 
-  pub sentence_truth : r.names ≡ [] → (truth : Bool) → (IsTrue truth ↔ RelationHolds r []) → HasTruth no_custom bindings formula truth
+  pub sentence_truth : r.names ≡ [] → (truth : Bool) → (IsTrue truth ↔ RelationHolds r []) → HasTruth custom bindings formula truth
   sentence_truth none truth is =
       let empty : variables ≡ [] = no_variables none in
-      let says : RelationHolds r [] ↔ IsSolvedBy no_custom bindings variables formula [] = solves [] (sym (ap length empty)) in
-      let there : RelationHolds r [] ↔ IsSolvedBy no_custom bindings [] formula [] = subst (λ (vs : List Variable). RelationHolds r [] ↔ IsSolvedBy no_custom bindings vs formula []) empty says in
+      let says : RelationHolds r [] ↔ IsSolvedBy custom bindings variables formula [] = solves [] (sym (ap length empty)) in
+      let there : RelationHolds r [] ↔ IsSolvedBy custom bindings [] formula [] = subst (λ (vs : List Variable). RelationHolds r [] ↔ IsSolvedBy custom bindings vs formula []) empty says in
       ((λ holds. there.0 (is.0 holds)), (λ holds. is.1 (there.1 holds)))
 
--- a built-in system has as many digits as a track may have
-meant_digits : (custom : Custom) (name : List ℕ) (s : SystemValue) → IsSystemNamed custom name s.way (sealed.system_of s) → IsDigitCount s.digits
-meant_digits custom name s (kind, named, is) = subst IsDigitCount (sym (ap (λ (x : System). x.digits) is)) (by_kind kind named.0)
-  where
-    by_kind : (k : SystemKind) → IsSystemKind k → IsDigitCount (built_in_system k).digits
-    by_kind (Base k) base = record { some = omega (arith, base.least); small = omega (arith, base.most) }
-    by_kind Fibonacci fib = record { some = omega arith; small = omega arith }
-
+-- each system has as many digits as a track may have
 pub over_digits : (custom : Custom) (l : LibraryValue) (found : List resolved.Variable) (ss : List SystemValue) → AreMeant custom l.systems → AreSystemsOf l found ss → AllByRecursion (λ (s : SystemValue). IsDigitCount s.digits) ss
 over_digits custom l [] [] are over = tt
 over_digits custom l [] (s ∷ ss) are over = absurd over
 over_digits custom l (v ∷ found) [] are over = absurd over
-over_digits custom l (v ∷ found) (s ∷ ss) are over = (meant_digits custom v.system s (found_meant custom l.systems v.system s are over.0), over_digits custom l found ss are over.1)
+over_digits custom l (v ∷ found) (s ∷ ss) are over = (named_digits custom v.system s.way (sealed.system_of s) (found_meant custom l.systems v.system s are over.0), over_digits custom l found ss are over.1)

@@ -1,9 +1,10 @@
--- Systems that were found, one after another.
-use Rattle.std.proofs.Common.{◌≡◌, ◌⊎◌, ℕ, zero, suc, ◌+◌, ◌<◌, ◌≤◌, List, [], ◌∷◌, ◌++◌, length, map, take, get_or, inl, inr, refl, sym, ap, ◌∙◌, subst, arith}
+-- Systems that are known, and systems of tracks, one after another.
+use Rattle.std.proofs.Common.{◌≡◌, ◌⊎◌, ℕ, zero, suc, ◌+◌, ◌<◌, ◌≤◌, List, [], ◌∷◌, ◌++◌, length, take, get_or, inl, inr, refl, sym, ap, ◌∙◌, subst, arith}
 use Rattle.std.specs.List.{All, AllByRecursion}
 use Rattle.std.proofs.lemmas.Bool.{cases_lt}
-use Rattle.std.proofs.lemmas.List.{get_or_append_left, get_or_push, get_or-map, length-append, length-map}
+use Rattle.std.proofs.lemmas.List.{take_more, get_or_append_left, get_or_push, length-append, length-map}
 use Rattle.digit_tuple.specs.Deterministic.{Automaton}
+use Rattle.digit_tuple.specs.Systems.{IsDigitCount}
 use Rattle.digit_tuple.specs.declared.direction.Direction.{Direction}
 use Rattle.digit_tuple.specs.declared.systems.SystemTrack.{SystemTrack}
 use Rattle.minimise.specs.Canonical.{IsCanonical}
@@ -14,52 +15,56 @@ use Rattle.numeration.specs.Relations.{IsLanguageOf}
 use Rattle.number_order.proofs.KeptLemmas.{language_kept}
 use Rattle.reg_steps.specs.Relations.{IsSystemLanguage, AreSystemLanguages}
 use Rattle.system_names.specs.declared.system_kind.SystemKind.TheVariants as kinds
-use Rattle.system_names.specs.Names.{IsBuiltInName}
-use Rattle.definitions.specs.Tracks.{NamedSystem, names_of, systems_of, track_of, header_tracks}
-use Rattle.definitions.specs.Named.{Custom, IsSystemNamed, IsOf, IsKnown, AreNamed, IsFirstWithout}
+use Rattle.formula_build.specs.Libraries as libraries
+use Rattle.definitions.specs.Tracks.{names_of, systems_of, track_of, header_tracks}
+use Rattle.system_files.specs.SystemFiles.{Custom}
+use Rattle.definitions.specs.Named.{IsBuiltInSystem, IsSystemNamed, IsOf, IsKnown, AreNamed, IsFirstWithout}
 use Rattle.session_cli.specs.HeadTracks.{AreSystemsOf, PartInDirection}
-use Rattle.command_head.specs.Heads as heads
 use Rattle.session_cli.specs.declared.known_system.KnownSystem.{KnownSystem}
 use Rattle.session_cli.specs.declared.known_system.KnownSystem.TheVariants.{Base, Fibonacci}
+use Rattle.session_cli.specs.declared.track_system.Meaning.{Meaning}
+use Rattle.session_cli.specs.declared.track_system.TrackSystem.{TrackSystem}
 use Rattle.session_cli.specs.declared.track_systems.TrackSystems.{TrackSystems}
-use Rattle.session_cli.specs.declared.fault.Fault.{Fault}
-use Rattle.session_cli.specs.declared.fault.Fault.TheVariants as faults
-use Rattle.session_cli.specs.Checks.{Pure, Fails}
-use Rattle.session_cli.specs.RegOutcomes.{TracksAnswers}
-use Rattle.session_cli.specs.KnownSystems.{system_of, way_of, known_is_system, name_of}
-use Rattle.session_cli.specs.TrackSystems.{named_of, named_in, AreTrackSystems, AreTrackSystemsOf, IsIn, IsUnknown, IsFirstApart}
-use Rattle.definitions.proofs.NameLemmas.{one_direction, known_of, of_known, first_so}
-
--- the name of a system that is known is that of a system that is built in
-built_in_name : (s : KnownSystem) → IsBuiltInName (name_of s)
-built_in_name (Base s) = (s.direction, kinds.Base s.base, (record { least = s.at_least; most = s.at_most }, refl))
-built_in_name (Fibonacci s) = (s.direction, kinds.Fibonacci, (tt, refl))
-
-pub built_in_names : (systems : List KnownSystem) → AllByRecursion IsBuiltInName (map name_of systems)
-built_in_names [] = tt
-built_in_names (s ∷ systems) = (built_in_name s, built_in_names systems)
-
-pub names_known : (custom : Custom) (systems : List KnownSystem) → AllByRecursion (IsKnown custom) (map name_of systems)
-names_known custom [] = tt
-names_known custom (s ∷ systems) = (known_of custom (name_of s) (built_in_name s), names_known custom systems)
-
--- systems have the names under which they stand
-pub names_in : (systems : List KnownSystem) → map name_of systems ≡ names_of (named_in systems)
-names_in [] = refl
-names_in (s ∷ systems) = ap (λ (ns : List (List ℕ)). name_of s ∷ ns) (names_in systems)
+use Rattle.session_cli.specs.FormulaSteps.{AreMeant}
+use Rattle.session_cli.specs.KnownSystems as known
+use Rattle.session_cli.specs.KnownSystems.{known_is_system, name_of}
+use Rattle.session_cli.specs.TrackSystems.{system_of, way_of, named_of, named_in, names_in, AreNamesOf, AreTrackSystemsOf, IsIn, IsNameOf, IsFirstApart}
+use Rattle.definitions.proofs.NameLemmas.{one_direction}
+use Rattle.session_cli.proofs.MeantNames.{named_digits}
 
 -- what the name of a system that is known means
-pub its_name_means : (custom : Custom) (s : KnownSystem) → IsSystemNamed custom (name_of s) (way_of s) (system_of s)
-its_name_means custom (Base s) = (kinds.Base s.base, (record { least = s.at_least; most = s.at_most }, refl), refl)
-its_name_means custom (Fibonacci s) = (kinds.Fibonacci, (tt, refl), refl)
+pub its_name_means : (s : KnownSystem) → IsBuiltInSystem (name_of s) (known.way_of s) (known.system_of s)
+its_name_means (Base s) = (kinds.Base s.base, (record { least = s.at_least; most = s.at_most }, refl), refl)
+its_name_means (Fibonacci s) = (kinds.Fibonacci, (tt, refl), refl)
 
-known_named : (custom : Custom) (way : Direction) (s : KnownSystem) → IsIn way s → IsSystemNamed custom (name_of s) way (system_of s)
-known_named custom way s is = let P : Direction → Type 0 = λ d. IsSystemNamed custom (name_of s) d (system_of s) in subst P is (its_name_means custom s)
+-- the canonical language of a system that is known
+pub known_language : (s : KnownSystem) (d e : Automaton) → IsLanguageOf (known.way_of s) (known.system_of s) d → e.sizes ≡ d.sizes → SameLanguage d e → IsCanonical e → IsSystemLanguage (known.way_of s) (known.system_of s) e
+known_language s d e language sizes same canonical = record { of_system = language_kept (known.way_of s) (known.system_of s) d e (known_is_system s) language sizes same canonical; canonical = canonical }
+
+-- the systems of tracks have these names
+pub names_so : (systems : List TrackSystem) → names_in systems ≡ names_of (named_in systems)
+names_so [] = refl
+names_so (s ∷ systems) = ap (λ (ns : List (List ℕ)). s.name ∷ ns) (names_so systems)
+
+-- each system of a track is what its name means
+abbrev pub AreTheirs : Custom → List TrackSystem → Type 0
+AreTheirs custom systems = AllByRecursion (λ (s : TrackSystem). IsSystemNamed custom s.name (way_of s) (system_of s)) systems
+
+pub are_theirs : (custom : Custom) (users : List libraries.NamedSystem) (systems : List TrackSystem) → AreMeant custom users → AllByRecursion (λ (s : TrackSystem). IsNameOf users s.name s.meaning) systems → AreTheirs custom systems
+are_theirs custom users [] meant are = tt
+are_theirs custom users (s ∷ systems) meant are = (are.0 custom meant, are_theirs custom users systems meant are.1)
+
+theirs_known : (custom : Custom) (systems : List TrackSystem) → AreTheirs custom systems → AllByRecursion (IsKnown custom) (names_in systems)
+theirs_known custom [] are = tt
+theirs_known custom (s ∷ systems) are = ((way_of s, (system_of s, are.0)), theirs_known custom systems are.1)
+
+named_so : (custom : Custom) (way : Direction) (s : TrackSystem) → IsIn way s → IsSystemNamed custom s.name (way_of s) (system_of s) → IsSystemNamed custom s.name way (system_of s)
+named_so custom way s is means = let P : Direction → Type 0 = λ d. IsSystemNamed custom s.name d (system_of s) in subst P is means
 
 -- systems in one direction are what their names mean
-pub all_named : (custom : Custom) (way : Direction) (systems : List KnownSystem) → All (IsIn way) systems → AreNamed custom way (named_in systems)
-all_named custom way [] all = tt
-all_named custom way (s ∷ systems) all = (known_named custom way s (all 0 s (omega arith)), all_named custom way systems (λ i d within. all (suc i) d (omega (arith, within))))
+pub all_named : (custom : Custom) (way : Direction) (systems : List TrackSystem) → All (IsIn way) systems → AreTheirs custom systems → AreNamed custom way (named_in systems)
+all_named custom way [] all are = tt
+all_named custom way (s ∷ systems) all are = (named_so custom way s (all 0 s (omega arith)) are.0, all_named custom way systems (λ i d within. all (suc i) d (omega (arith, within))) are.1)
 
 -- one language more
 pub languages_push : (direction : Direction) (ss : List System) (languages : List Automaton) (s : System) (d : Automaton) → AreSystemLanguages direction ss languages → IsSystemLanguage direction s d → AreSystemLanguages direction (ss ++ s ∷ []) (languages ++ d ∷ [])
@@ -79,78 +84,79 @@ languages_push direction ss languages s d are last = record {
         let two : language_at (languages ++ d ∷ []) track ≡ d = get_or_push languages d no_language track (are.count ∙ at) in
         subst (λ (y : System). IsSystemLanguage direction y (language_at (languages ++ d ∷ []) track)) (sym one) (subst (λ (e : Automaton). IsSystemLanguage direction s e) (sym two) last)
 
-pub systems_push : (systems : List KnownSystem) (s : KnownSystem) → systems_of (named_in (systems ++ s ∷ [])) ≡ systems_of (named_in systems) ++ system_of s ∷ []
+pub systems_push : (systems : List TrackSystem) (s : TrackSystem) → systems_of (named_in (systems ++ s ∷ [])) ≡ systems_of (named_in systems) ++ system_of s ∷ []
 systems_push [] s = refl
 systems_push (x ∷ systems) s = ap (λ (ss : List System). system_of x ∷ ss) (systems_push systems s)
 
--- the canonical language of a system
-pub known_language : (direction : Direction) (s : KnownSystem) (d e : Automaton) → IsIn direction s → IsLanguageOf (way_of s) (system_of s) d → e.sizes ≡ d.sizes → SameLanguage d e → IsCanonical e → IsSystemLanguage direction (system_of s) e
-known_language direction s d e is language sizes same canonical =
-    let kept : IsLanguageOf (way_of s) (system_of s) e = language_kept (way_of s) (system_of s) d e (known_is_system s) language sizes same canonical in
-    record { of_system = subst (λ (x : Direction). IsLanguageOf x (system_of s) e) is kept; canonical = canonical }
+-- the language of a system that is read in this direction
+pub language_in : (direction : Direction) (s : TrackSystem) (d : Automaton) → IsIn direction s → IsSystemLanguage (way_of s) (system_of s) d → IsSystemLanguage direction (system_of s) d
+language_in direction s d is language = subst (λ (x : Direction). IsSystemLanguage x (system_of s) d) is language
 
 -- the first system of another direction has the first name of the other direction
-first_apart : (custom : Custom) (d : Direction) (systems : List KnownSystem) (j : ℕ) (other : List ℕ) → j < length systems → All (IsIn d) (take j systems) → ((x : KnownSystem) → ¬ IsIn d (get_or systems j x)) → other ≡ get_or (map name_of systems) j other
-    → IsFirstWithout (IsOf custom d) (map name_of systems) other
-first_apart custom d [] j other within all apart is = absurd (omega (arith, within))
-first_apart custom d (s ∷ systems) zero other within all apart is =
-    inl ((λ of. apart s (one_direction custom (way_of s) d (name_of s) (system_of s, known_named custom (way_of s) s refl) of)), is)
-first_apart custom d (s ∷ systems) (suc j) other within all apart is =
-    inr ((system_of s, known_named custom d s (all 0 s (omega arith))), first_apart custom d systems j other (omega (arith, within)) (λ i x inside. all (suc i) x (omega (arith, inside))) apart is)
+first_apart : (custom : Custom) (d : Direction) (systems : List TrackSystem) (j : ℕ) (other : List ℕ) → AreTheirs custom systems → j < length systems → All (IsIn d) (take j systems) → ((x : TrackSystem) → ¬ IsIn d (get_or systems j x)) → other ≡ get_or (names_in systems) j other
+    → IsFirstWithout (IsOf custom d) (names_in systems) other
+first_apart custom d [] j other are within all apart is = absurd (omega (arith, within))
+first_apart custom d (s ∷ systems) zero other are within all apart is =
+    inl ((λ of. apart s (one_direction custom (way_of s) d s.name (system_of s, are.0) of)), is)
+first_apart custom d (s ∷ systems) (suc j) other are within all apart is =
+    inr ((system_of s, named_so custom d s (all 0 s (omega arith)) are.0), first_apart custom d systems j other are.1 (omega (arith, within)) (λ i x inside. all (suc i) x (omega (arith, inside))) apart is)
 
-pub parted : (custom : Custom) (names : List (List ℕ)) (systems : List KnownSystem) (d : Direction) (place : ℕ) (first other : List ℕ) → names ≡ map name_of systems → ((x : KnownSystem) → IsIn d (get_or systems 0 x)) → IsFirstApart d systems place
+pub parted : (custom : Custom) (names : List (List ℕ)) (systems : List TrackSystem) (d : Direction) (place : ℕ) (first other : List ℕ) → AreTheirs custom systems → names ≡ names_in systems → ((x : TrackSystem) → IsIn d (get_or systems 0 x)) → IsFirstApart d systems place
     → first ≡ get_or names 0 first → other ≡ get_or names place other → PartInDirection custom names first other
-parted custom names [] d place first other named head apart is is' = absurd (omega (arith, apart.within))
-parted custom names (s ∷ systems) d zero first other named head apart is is' = absurd (apart.apart s (head s))
-parted custom names (s ∷ systems) d (suc j) first other named head apart is is' = record {
-  known = subst (AllByRecursion (IsKnown custom)) (sym named) (names_known custom (s ∷ systems));
+parted custom names [] d place first other are named head apart is is' = absurd (omega (arith, apart.within))
+parted custom names (s ∷ systems) d zero first other are named head apart is is' = absurd (apart.apart s (head s))
+parted custom names (s ∷ systems) d (suc j) first other are named head apart is is' = record {
+  known = subst (AllByRecursion (IsKnown custom)) (sym named) (theirs_known custom (s ∷ systems) are);
   way = d;
-  rest = map name_of systems;
-  names_are = named ∙ ap (λ (n : List ℕ). n ∷ map name_of systems) (sym firsts);
-  first_of = (system_of s, let P : List ℕ → Type 0 = λ n. IsSystemNamed custom n d (system_of s) in subst P (sym firsts) (known_named custom d s (head s)));
-  other_is = first_apart custom d systems j other (omega (arith, apart.within)) (λ i x inside. apart.before (suc i) x (omega (arith, inside))) apart.apart (is' ∙ ap (λ (ns : List (List ℕ)). get_or ns (suc j) other) named);
+  rest = names_in systems;
+  names_are = named ∙ ap (λ (n : List ℕ). n ∷ names_in systems) (sym firsts);
+  first_of = (system_of s, let P : List ℕ → Type 0 = λ n. IsSystemNamed custom n d (system_of s) in subst P (sym firsts) (named_so custom d s (head s) are.0));
+  other_is = first_apart custom d systems j other are.1 (omega (arith, apart.within)) (λ i x inside. apart.before (suc i) x (omega (arith, inside))) apart.apart (is' ∙ ap (λ (ns : List (List ℕ)). get_or ns (suc j) other) named);
 }
   where
-    firsts : first ≡ name_of s
+    firsts : first ≡ s.name
     firsts = is ∙ ap (λ (ns : List (List ℕ)). get_or ns 0 first) named
 
+-- each has as many digits as a track may have
+pub digits_at : (custom : Custom) (way : Direction) (systems : List TrackSystem) (i : ℕ) (s : TrackSystem) → i < length systems → s ≡ get_or systems i s → AreNamed custom way (named_in systems) → IsDigitCount (system_of s).digits
+digits_at custom way [] i s within is are = absurd (omega (arith, within))
+digits_at custom way (x ∷ systems) zero s within is are = named_digits custom s.name way (system_of s) (subst (λ (t : TrackSystem). IsSystemNamed custom t.name way (system_of t)) (sym is) are.0)
+digits_at custom way (x ∷ systems) (suc i) s within is are = digits_at custom way systems i s (omega (arith, within)) is are.1
+
 -- one track more
-pub tracks_push : (systems : List KnownSystem) (s : KnownSystem) → header_tracks (named_in (systems ++ s ∷ [])) ≡ header_tracks (named_in systems) ++ (record { name = name_of s; digits = (system_of s).digits }) ∷ []
+pub tracks_push : (systems : List TrackSystem) (s : TrackSystem) → header_tracks (named_in (systems ++ s ∷ [])) ≡ header_tracks (named_in systems) ++ (record { name = s.name; digits = (system_of s).digits }) ∷ []
 tracks_push [] s = refl
 tracks_push (x ∷ systems) s = ap (λ (ts : List SystemTrack). track_of (named_of x) ∷ ts) (tracks_push systems s)
 
--- the name of a system at a place
-pub name_at : (systems : List KnownSystem) (place : ℕ) (s : KnownSystem) (d : List ℕ) → place < length systems → s ≡ get_or systems place s → get_or (names_of (named_in systems)) place d ≡ name_of s
-name_at systems place s d within is =
-    ap (λ (ns : List (List ℕ)). get_or ns place d) (sym (names_in systems)) ∙ (get_or-map name_of systems place s d within ∙ ap name_of (sym is))
+-- one system more of these names
+pub names_push : (systems : List TrackSystem) (s : TrackSystem) → names_in (systems ++ s ∷ []) ≡ names_in systems ++ s.name ∷ []
+names_push [] s = refl
+names_push (x ∷ systems) s = ap (λ (ns : List (List ℕ)). x.name ∷ ns) (names_push systems s)
+
+are_push : (users : List libraries.NamedSystem) (systems : List TrackSystem) (s : TrackSystem) → AllByRecursion (λ (t : TrackSystem). IsNameOf users t.name t.meaning) systems → IsNameOf users s.name s.meaning → AllByRecursion (λ (t : TrackSystem). IsNameOf users t.name t.meaning) (systems ++ s ∷ [])
+are_push users [] s are is = (is, tt)
+are_push users (x ∷ systems) s are is = (are.0, are_push users systems s are.1 is)
+
+-- the system of one name more
+pub names_more : (users : List libraries.NamedSystem) (names : List (List ℕ)) (i : ℕ) (name copy : List ℕ) (meaning : Meaning) (systems more : List TrackSystem) → i < length names → name ≡ get_or names i name → copy ≡ name → AreNamesOf users (take i names) systems → IsNameOf users name meaning
+    → more ≡ systems ++ (record { name = copy; meaning = meaning }) ∷ [] → AreNamesOf users (take (i + 1) names) more
+names_more users names i name copy meaning systems more within is same are means more_is =
+    let s : TrackSystem = record { name = copy; meaning = meaning } in
+    let front : take (i + 1) names ≡ take i names ++ name ∷ [] = take_more names i name within ∙ ap (λ (n : List ℕ). take i names ++ n ∷ []) (sym is) in
+    let named : AreNamesOf users (take (i + 1) names) (systems ++ s ∷ []) = record {
+      names_are = front ∙ ((λ j. are.names_are j ++ sym same j ∷ []) ∙ sym (names_push systems s));
+      are = are_push users systems s are.are (subst (λ (n : List ℕ). IsNameOf users n meaning) (sym same) means);
+    } in
+    subst (AreNamesOf users (take (i + 1) names)) (sym more_is) named
 
 -- the systems of tracks are those that their names mean
-pub named_so : (custom : Custom) (t : TrackSystems) (names : List (List ℕ)) → AreTrackSystemsOf names t → AreSystemsOf custom names t.direction (named_in t.systems.items)
-named_so custom t names (kept, are) = record { names_are = sym kept ∙ are.names_are; are = are.are custom; some = subst (λ (ns : List (List ℕ)). 0 < length ns) kept are.some }
-
--- a name that is not known is so whatever users defined
-pub unknown_named : (custom : Custom) (names : List (List ℕ)) (fault : Fault) → IsUnknown names fault → Fails (Pure (TracksAnswers custom (heads.Systems names))) fault
-unknown_named custom names (faults.SystemUnknown name) first = first_so IsBuiltInName (IsKnown custom) names name (known_of custom) (of_known custom) first
-unknown_named custom names faults.Memory refused = tt
-unknown_named custom names faults.Command refused = absurd refused
-unknown_named custom names (faults.Syntax grammar at) refused = absurd refused
-unknown_named custom names (faults.Number grammar at) refused = absurd refused
-unknown_named custom names (faults.Depth grammar at) refused = absurd refused
-unknown_named custom names (faults.Long bytes) refused = absurd refused
-unknown_named custom names (faults.Direction first second) refused = absurd refused
-unknown_named custom names (faults.Letters step) refused = absurd refused
-unknown_named custom names (faults.States step) refused = absurd refused
-unknown_named custom names (faults.Store folder name) refused = absurd refused
-unknown_named custom names faults.ScriptLimit refused = absurd refused
-unknown_named custom names (faults.MixedChain byte) refused = absurd refused
-unknown_named custom names (faults.NotLinear byte) refused = absurd refused
-unknown_named custom names (faults.Unknown of file) refused = absurd refused
-unknown_named custom names (faults.File of file flaw) refused = absurd refused
-unknown_named custom names (faults.Arity of tracks given) refused = absurd refused
-unknown_named custom names (faults.Clash of one two) refused = absurd refused
-unknown_named custom names (faults.WordGap of spelling) refused = absurd refused
-unknown_named custom names (faults.Plain of) refused = absurd refused
+pub tracks_so : (custom : Custom) (users : List libraries.NamedSystem) (t : TrackSystems) (names : List (List ℕ)) → AreMeant custom users → AreTrackSystemsOf users names t → AreSystemsOf custom names t.direction (named_in t.systems.items)
+tracks_so custom users t names meant of = record {
+  names_are = of.named.names_are ∙ names_so t.systems.items;
+  are = all_named custom t.direction t.systems.items of.directions (are_theirs custom users t.systems.items meant of.named.are);
+  some = subst (λ (ns : List (List ℕ)). 0 < length ns) (sym of.named.names_are) (omega (arith, of.some, length-map t.systems.items (λ (s : TrackSystem). s.name)));
+}
 
 -- there is a system for each track, so one at least
-pub some_named : (t : TrackSystems) → AreTrackSystems t → 0 < length (named_in t.systems.items)
-some_named t are = subst (λ (n : ℕ). 0 < n) (ap length are.names_are ∙ length-map (named_in t.systems.items) (λ (s : NamedSystem). s.name)) are.some
+pub some_named : (systems : List TrackSystem) → 0 < length systems → 0 < length (named_in systems)
+some_named systems some = omega (arith, some, length-map systems named_of)

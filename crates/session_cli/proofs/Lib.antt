@@ -3,10 +3,12 @@ pub mod StepLines
 pub mod SpellingSends
 pub mod CheckSteps
 pub mod WordSteps
-pub mod CommandSteps
 pub mod StoreReads
+pub mod TextReads
+pub mod CommandSteps
 pub mod ReadingChecks
 pub mod LoadedFiles
+pub mod FilesElsewhere
 pub mod StoredEntries
 pub mod RunSteps
 pub mod Standing
@@ -32,6 +34,7 @@ pub mod KnownSteps
 pub mod RegexPlans
 pub mod RegSteps
 pub mod SealedLemmas
+pub mod UserSteps
 pub mod TrackLists
 pub mod FormulaSolutions
 pub mod FormulaReady
@@ -39,6 +42,7 @@ pub mod FormulaGround
 pub mod FormulaRefusals
 pub mod FormulaChains
 pub mod FormulaPlanning
+pub mod FormulaMaking
 pub mod OneLimits
 pub mod ClapTurns
 pub mod ClapWalks
@@ -48,6 +52,7 @@ pub mod OneTexts
 pub mod OneReadings
 pub mod OneTableReadings
 pub mod OneLoadings
+pub mod OneSystems
 pub mod OneBuildings
 pub mod OneFormulas
 pub mod OneOutcomes

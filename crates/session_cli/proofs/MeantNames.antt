@@ -1,16 +1,22 @@
--- Systems under the names that mean them: each has the direction that its name tells.
-use Rattle.std.proofs.Common.{◌≡◌, ℕ, Bool, true, false, List, [], ◌∷◌, Some, if◌then◌else◌, refl, sym, ap, ◌∙◌, subst}
+-- Systems under the names that mean them: each has the direction that its name tells, and no more digits than a track may have.
+use Rattle.std.proofs.Common.{◌≡◌, ℕ, Bool, true, false, List, [], ◌∷◌, Some, if◌then◌else◌, refl, sym, ap, ◌∙◌, subst, inl, inr, arith}
 use Rattle.std.specs.Str.{bytes_eq}
 use Rattle.std.proofs.lemmas.Option.{none-some}
 use Rattle.std.proofs.lemmas.Slice.Eq.{bytes_eq-Decides}
 use Rattle.digit_tuple.specs.declared.direction.Direction.{Direction}
 use Rattle.digit_tuple.specs.declared.direction.Direction.TheVariants.{Msd, Lsd}
-use Rattle.system_names.specs.Names.{system_name}
+use Rattle.digit_tuple.specs.Systems.{IsDigitCount}
+use Rattle.numeration.specs.Systems.{System}
+use Rattle.system_names.specs.Names.{IsSystemKind, system_name}
+use Rattle.system_names.specs.UserNames.{user_name}
 use Rattle.system_names.specs.declared.system_kind.SystemKind.{SystemKind}
+use Rattle.system_names.specs.declared.system_kind.SystemKind.TheVariants.{Base, Fibonacci}
 use Rattle.num_system.specs.Sealed.{SystemValue, system_of}
 use Rattle.formula_build.specs.Libraries.{NamedSystem, system_named}
 use Rattle.formula_build.specs.Solutions.{way_named}
-use Rattle.definitions.specs.Named.{Custom, IsSystemNamed}
+use Rattle.system_files.specs.SystemFiles.{Custom}
+use Rattle.definitions.specs.Named.{built_in_system, IsSystemNamed}
+use Rattle.definitions.proofs.UserDigits.{user_digits}
 use Rattle.session_cli.specs.FormulaSteps.{AreMeant}
 
 -- a system that is found is what its name means
@@ -30,9 +36,23 @@ way_of_name Msd kind = refl
 way_of_name Lsd kind = refl
 
 -- a name tells the direction of its system
+way_of_part : (way : Direction) (part : List ℕ) → way_named (user_name way part) ≡ way
+way_of_part Msd part = refl
+way_of_part Lsd part = refl
+
 pub meant_way : (custom : Custom) (name : List ℕ) (s : SystemValue) → IsSystemNamed custom name s.way (system_of s) → s.way ≡ way_named name
-meant_way custom name s (kind, named, is) = sym (ap way_named named.1 ∙ way_of_name s.way kind)
+meant_way custom name s (inl (kind, named, is)) = sym (ap way_named named.1 ∙ way_of_name s.way kind)
+meant_way custom name s (inr user) = sym (ap way_named user.is_name.1 ∙ way_of_part s.way user.part)
 
 -- and of the system that is found under it
 pub found_way : (custom : Custom) (systems : List NamedSystem) (name : List ℕ) (s : SystemValue) → AreMeant custom systems → system_named systems name ≡ Some s → s.way ≡ way_named name
 found_way custom systems name s are found = meant_way custom name s (found_meant custom systems name s are found)
+
+-- what a name means has as many digits as a track may have
+pub named_digits : (custom : Custom) (name : List ℕ) (way : Direction) (s : System) → IsSystemNamed custom name way s → IsDigitCount s.digits
+named_digits custom name way s (inl (kind, named, is)) = subst IsDigitCount (sym (ap (λ (x : System). x.digits) is)) (by_kind kind named.0)
+  where
+    by_kind : (k : SystemKind) → IsSystemKind k → IsDigitCount (built_in_system k).digits
+    by_kind (Base k) base = record { some = omega (arith, base.least); small = omega (arith, base.most) }
+    by_kind Fibonacci fib = record { some = omega arith; small = omega arith }
+named_digits custom name way s (inr user) = user_digits custom name way s user

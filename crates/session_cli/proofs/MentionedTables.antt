@@ -55,7 +55,7 @@ of_one P (first ∷ seen) name there all = by (bytes_eq first name) refl there (
     by false apart rest among = among rest
 
 -- what holds of some names, each once, holds of all
-all_once : (P : Name → Type 0) (seen more : List Name) → AllByRecursion P (fold (with_new bytes_eq) seen more) → AllByRecursion P seen × AllByRecursion P more
+pub all_once : (P : Name → Type 0) (seen more : List Name) → AllByRecursion P (fold (with_new bytes_eq) seen more) → AllByRecursion P seen × AllByRecursion P more
 all_once P seen [] all = (all, tt)
 all_once P seen (name ∷ more) all =
     let rest = all_once P (with_new bytes_eq seen name) more all in

@@ -1,15 +1,13 @@
 -- Names tell their systems, and checks of names have one first fault.
-use Rattle.std.proofs.Common.{◌≡◌, ℕ, zero, suc, ◌<◌, List, [], ◌∷◌, length, take, drop, get_or, inl, inr, refl, sym, ap, ◌∙◌, subst, arith}
+use Rattle.std.proofs.Common.{◌≡◌, ℕ, ◌<◌, List, [], ◌∷◌, length, drop, get_or, sym, ap, ◌∙◌, subst, arith}
 use Rattle.std.specs.List.{AllByRecursion}
 use Rattle.std.proofs.lemmas.List.{length-map}
 use Rattle.digit_tuple.specs.declared.direction.Direction.{Direction}
-use Rattle.numeration.specs.Systems.{System}
-use Rattle.system_names.specs.Names.{IsBuiltInName}
-use Rattle.system_names.proofs.OneSystem.{one_system}
 use Rattle.definitions.specs.Tracks.{NamedSystem, names_of}
-use Rattle.definitions.specs.Named.{Custom, built_in_system, IsSystemNamed, IsOf, IsKnown, AreKnown, IsFirstWithout, AreNamed}
+use Rattle.system_files.specs.SystemFiles.{Custom}
+use Rattle.definitions.specs.Named.{IsOf, IsFirstWithout}
 use Rattle.session_cli.specs.HeadTracks.{AreSystemsOf, PartInDirection}
-use Rattle.definitions.proofs.NameLemmas.{one_direction, one_first, no_first, named_of_direction, named_known, same_list, same_way}
+use Rattle.definitions.proofs.NameLemmas.{one_direction, one_first, no_first, named_of_direction, same_list, same_way}
 
 -- names tell the systems of tracks
 pub one_list_of_systems : (custom : Custom) (names : List (List ℕ)) (way other : Direction) (named also : List NamedSystem) → AreSystemsOf custom names way named → AreSystemsOf custom names other also → (way ≡ other) × (named ≡ also)
@@ -18,12 +16,7 @@ one_list_of_systems custom names way other named also one two =
     let some : 0 < length named = omega (arith, one.some, ap length one.names_are, length-map named (λ (s : NamedSystem). s.name)) in
     (same_way custom way other named also some one.are two.are same, same_list custom way other named also one.are two.are same)
 
--- names of systems in one direction are known, and none is of the other
-pub not_unknown : (custom : Custom) (names : List (List ℕ)) (way : Direction) (named : List NamedSystem) (unknown : List ℕ) → AreSystemsOf custom names way named → IsFirstWithout (IsKnown custom) names unknown → ⊥
-not_unknown custom names way named unknown are first =
-    let P : List (List ℕ) → Type 0 = λ ns. IsFirstWithout (IsKnown custom) ns unknown in
-    no_first (IsKnown custom) (names_of named) unknown (named_known custom way named are.are) (subst P are.names_are first)
-
+-- none of the names of systems in one direction is of the other
 pub not_parted : (custom : Custom) (names : List (List ℕ)) (way : Direction) (named : List NamedSystem) (first other : List ℕ) → AreSystemsOf custom names way named → PartInDirection custom names first other → ⊥
 not_parted custom names way named first other are part = by_all (let P : List (List ℕ) → Type 0 = λ xs. AllByRecursion (IsOf custom way) xs in subst P (sym are.names_are ∙ part.names_are) (named_of_direction custom way named are.are))
   where

@@ -1,14 +1,11 @@
 -- An `eval` or a `def` has one outcome.
-use Rattle.std.proofs.Common.{◌≡◌, ◌≢◌, ℕ, Bool, List, [], ◌∷◌, ◌⊎◌, Option, None, Some, Result, Ok, Err, inl, inr, refl, sym, ap, ◌∙◌, subst}
+use Rattle.std.proofs.Common.{◌≡◌, ℕ, Bool, List, [], ◌∷◌, ◌⊎◌, Option, None, Some, Result, Ok, Err, inl, inr, refl, sym, ap, ◌∙◌, subst}
 use Rattle.wal_outside.specs.declared.folder.Folder.{Folder}
-use Rattle.wal_outside.specs.declared.folder.Folder.TheVariants.{Bases}
 use Rattle.command_head.specs.Grammar.{SpellsNamed}
 use Rattle.command_head.proofs.NamedHeads.{one_named}
 use Rattle.command_head.proofs.OneFault.{one_head}
 use Rattle.formula_parse.specs.Trees as trees
-use Rattle.formula_resolve.specs.FirstMentions.{first_systems}
 use Rattle.formula_resolve.specs.FreeVariables.{free_variables}
-use Rattle.formula_resolve.specs.Mentions.{mentions}
 use Rattle.formula_resolve.specs.Occurrences.{all_occurrences}
 use Rattle.formula_resolve.specs.Resolving as resolving
 use Rattle.formula_resolve.specs.declared.fault.ResolveFault.{ResolveFault}
@@ -17,60 +14,25 @@ use Rattle.formula_resolve.specs.declared.variable.Variable as resolved
 use Rattle.session_cli.specs.declared.fault.Fault.{Fault}
 use Rattle.session_cli.specs.declared.fault.Fault.TheVariants as faults
 use Rattle.session_cli.specs.Checks.{Pure}
-use Rattle.definitions.specs.Trees.{Variable, Bindings, Ledger}
-use Rattle.definitions.specs.Named.{Custom, IsSystemNamed, IsKnown, AreKnown, IsFirstWithout}
+use Rattle.definitions.specs.Trees.{Variable, Bindings, Ledger, custom_of}
+use Rattle.system_files.specs.SystemFiles.{Custom}
+use Rattle.definitions.specs.Named.{IsSystemNamed}
 use Rattle.session_cli.specs.FormulaFaults.{fault_of_resolution}
 use Rattle.session_cli.specs.HeadAnswers.{HeadAnswers}
 use Rattle.dfa_loading.specs.Headers.{headers_of}
 use Rattle.dfa_loading.specs.declared.loaded.Loaded.{Loaded}
-use Rattle.session_cli.specs.Texts.{no_custom}
 use Rattle.session_cli.specs.Accepting.{stored}
-use Rattle.session_cli.specs.FormulaOutcomes.{FormulaAnswers, loaded, SystemsAnswers, IsVariable, AreVariables, ResolvedAnswers, BuiltAnswers, VariablesAnswers, VerdictAnswers, bindings_now, formula_success, after_variables, after_steps, after_resolution, after_systems, after_tables, after_formula, after_named_head, formula_checks}
+use Rattle.session_cli.specs.FormulaOutcomes.{FormulaAnswers, loaded, mentioned_systems, IsVariable, AreVariables, ResolvedAnswers, BuiltAnswers, VariablesAnswers, VerdictAnswers, bindings_now, formula_success, after_variables, after_steps, after_resolution, after_systems, after_tables, after_formula, after_named_head, formula_checks}
+use Rattle.session_cli.specs.SystemChecks.{systems_known}
 use Rattle.session_cli.proofs.CheckSteps.{IsSingle, then_single}
-use Rattle.definitions.proofs.NameLemmas.{one_meaning, one_first, no_first}
+use Rattle.definitions.proofs.NameLemmas.{one_meaning}
 use Rattle.definitions.proofs.OneTexts.{one_verdict}
 use Rattle.session_cli.proofs.OneLoadings.{loaded_single}
 use Rattle.session_cli.proofs.OneBuildings.{built_single}
 use Rattle.session_cli.proofs.OneHeads.{head_single}
 use Rattle.session_cli.proofs.OneTexts.{stored_single}
 use Rattle.session_cli.proofs.OneReadings.{reading_single}
-
--- all systems are known, or one is the first that is not
-abbrev NamesUnknown : Custom → List (List ℕ) → Result (Unit {0}) Fault → Type 0
-NamesUnknown custom names r = (AreKnown custom names × (r ≡ Ok tt)) ⊎ ((name : List ℕ) × IsFirstWithout (IsKnown custom) names name × (r ≡ Err (faults.SystemUnknown name)))
-
-systems_is : (custom : Custom) (tables : List Loaded) (formula : trees.Formula) (r : Result (Unit {0}) Fault) → SystemsAnswers custom tables formula r → NamesUnknown custom (first_systems (headers_of tables) (mentions formula)) r
-systems_is custom tables formula (Ok known) a = inl (a, refl)
-systems_is custom tables formula (Err (faults.SystemUnknown name)) a = inr (name, a, refl)
-systems_is custom tables formula (Err faults.Command) a = absurd a
-systems_is custom tables formula (Err (faults.Syntax grammar at)) a = absurd a
-systems_is custom tables formula (Err (faults.MixedChain byte)) a = absurd a
-systems_is custom tables formula (Err (faults.Number grammar at)) a = absurd a
-systems_is custom tables formula (Err (faults.NotLinear byte)) a = absurd a
-systems_is custom tables formula (Err (faults.Depth grammar at)) a = absurd a
-systems_is custom tables formula (Err (faults.Long bytes)) a = absurd a
-systems_is custom tables formula (Err (faults.Unknown folder name)) a = absurd a
-systems_is custom tables formula (Err (faults.File folder name flaw)) a = absurd a
-systems_is custom tables formula (Err (faults.Arity name tracks given)) a = absurd a
-systems_is custom tables formula (Err (faults.Clash name first other)) a = absurd a
-systems_is custom tables formula (Err (faults.Direction first other)) a = absurd a
-systems_is custom tables formula (Err (faults.Letters step)) a = absurd a
-systems_is custom tables formula (Err (faults.States step)) a = absurd a
-systems_is custom tables formula (Err (faults.WordGap name spelling)) a = absurd a
-systems_is custom tables formula (Err (faults.Plain name)) a = absurd a
-systems_is custom tables formula (Err (faults.Store folder name)) a = absurd a
-systems_is custom tables formula (Err faults.Memory) a = absurd a
-systems_is custom tables formula (Err faults.ScriptLimit) a = absurd a
-
-by_unknown : (custom : Custom) (names : List (List ℕ)) (r s : Result (Unit {0}) Fault) → NamesUnknown custom names r → NamesUnknown custom names s → r ≡ s
-by_unknown custom names r s (inl (known, is)) (inl (known', is')) = is ∙ sym is'
-by_unknown custom names r s (inl (known, is)) (inr (name, first, is')) = absurd (no_first (IsKnown custom) names name known first)
-by_unknown custom names r s (inr (name, first, is)) (inl (known, is')) = absurd (no_first (IsKnown custom) names name known first)
-by_unknown custom names r s (inr (name, first, is)) (inr (name', first', is')) =
-    is ∙ (ap (λ (n : List ℕ). let x : Result (Unit {0}) Fault = Err (faults.SystemUnknown n) in x) (one_first (IsKnown custom) names name name' first first') ∙ sym is')
-
-systems_single : (custom : Custom) (tables : List Loaded) (formula : trees.Formula) → IsSingle (Pure (SystemsAnswers custom tables formula))
-systems_single custom tables formula r s a b = by_unknown custom (first_systems (headers_of tables) (mentions formula)) r s (systems_is custom tables formula r a) (systems_is custom tables formula s b)
+use Rattle.session_cli.proofs.OneSystems.{systems_single}
 
 -- a variable over the system of a name is one
 one_variable : (custom : Custom) (x : resolved.Variable) (v w : Variable) → IsVariable custom x v → IsVariable custom x w → v ≡ w
@@ -115,6 +77,7 @@ resolved_is tables formula (Err (faults.Long bytes)) a = absurd a
 resolved_is tables formula (Err (faults.Unknown folder name)) a = absurd a
 resolved_is tables formula (Err (faults.File folder name flaw)) a = absurd a
 resolved_is tables formula (Err (faults.SystemUnknown name)) a = absurd a
+resolved_is tables formula (Err (faults.NotAdmitted name law)) a = absurd a
 resolved_is tables formula (Err (faults.Letters step)) a = absurd a
 resolved_is tables formula (Err (faults.States step)) a = absurd a
 resolved_is tables formula (Err (faults.Store folder name)) a = absurd a
@@ -145,24 +108,26 @@ variables_single custom tables formula r s a b =
     one.2 ∙ (ap (λ (vs : List Variable). let x : Result (List Variable) Fault = Ok vs in x) (one_list_of_variables custom (free_variables (all_occurrences (headers_of tables) formula)) one.0 other.0 one.1 other.1) ∙ sym other.2)
 
 -- the verdict
-verdict_is : (bindings : Bindings) (variables : List Variable) (formula : trees.Formula) (r : Result (Option Bool) Fault) → VerdictAnswers bindings variables formula r → (verdict : Option Bool) × VerdictAnswers bindings variables formula (Ok verdict) × (r ≡ Ok verdict)
-verdict_is bindings variables formula (Ok verdict) a = (verdict, a, refl)
-verdict_is bindings variables formula (Err fault) a = absurd a
+verdict_is : (custom : Custom) (bindings : Bindings) (variables : List Variable) (formula : trees.Formula) (r : Result (Option Bool) Fault) → VerdictAnswers custom bindings variables formula r
+    → (verdict : Option Bool) × VerdictAnswers custom bindings variables formula (Ok verdict) × (r ≡ Ok verdict)
+verdict_is custom bindings variables formula (Ok verdict) a = (verdict, a, refl)
+verdict_is custom bindings variables formula (Err fault) a = absurd a
 
-verdict_single : (bindings : Bindings) (variables : List Variable) (formula : trees.Formula) → IsSingle (Pure (VerdictAnswers bindings variables formula))
-verdict_single bindings variables formula r s a b =
-    let one = verdict_is bindings variables formula r a in
-    let other = verdict_is bindings variables formula s b in
-    one.2 ∙ (ap (λ (v : Option Bool). let x : Result (Option Bool) Fault = Ok v in x) (one_verdict no_custom bindings variables formula one.0 other.0 one.1 other.1) ∙ sym other.2)
+verdict_single : (custom : Custom) (bindings : Bindings) (variables : List Variable) (formula : trees.Formula) → IsSingle (Pure (VerdictAnswers custom bindings variables formula))
+verdict_single custom bindings variables formula r s a b =
+    let one = verdict_is custom bindings variables formula r a in
+    let other = verdict_is custom bindings variables formula s b in
+    one.2 ∙ (ap (λ (v : Option Bool). let x : Result (Option Bool) Fault = Ok v in x) (one_verdict custom bindings variables formula one.0 other.0 one.1 other.1) ∙ sym other.2)
 
 pub formula_single : (word : List ℕ) (folder : Folder) (limit : ℕ) (ledger : Ledger) (text : List ℕ) → IsSingle (formula_checks word folder limit ledger text)
 formula_single word folder limit ledger text =
+    let custom : Custom = custom_of ledger in
     then_single (Pure (HeadAnswers (SpellsNamed word) text)) (λ head. after_named_head limit ledger folder head) (head_single (SpellsNamed word) (one_head (SpellsNamed word) (one_named word)) text) (λ head spells.
     then_single (Pure (FormulaAnswers head.body)) (λ formula. after_formula limit ledger (folder, head.name) formula) (reading_single head.body) (λ formula reads.
     then_single (loaded ledger formula) (λ tables. after_tables limit ledger (folder, head.name) formula tables) (loaded_single ledger formula) (λ tables there.
-    then_single (Pure (SystemsAnswers (ledger Bases) tables formula)) (λ known. after_systems limit ledger (folder, head.name) tables formula) (systems_single (ledger Bases) tables formula) (λ done known.
-    then_single (Pure (ResolvedAnswers tables formula)) (λ done. after_resolution limit ledger (folder, head.name) tables formula) (resolved_single tables formula) (λ done resolves.
-    then_single (Pure (BuiltAnswers limit (ledger Bases) tables formula)) (λ lines. after_steps ledger (folder, head.name) tables formula lines) (built_single limit (ledger Bases) tables formula there.0 there.2) (λ lines built.
-    then_single (Pure (VariablesAnswers (ledger Bases) tables formula)) (λ variables. after_variables (folder, head.name) (bindings_now ledger formula) formula lines variables) (variables_single (ledger Bases) tables formula) (λ variables are.
-    then_single (Pure (VerdictAnswers (bindings_now ledger formula) variables formula)) (λ verdict. stored (formula_success (folder, head.name) (bindings_now ledger formula) variables formula lines verdict)) (verdict_single (bindings_now ledger formula) variables formula) (λ verdict has.
-    stored_single (formula_success (folder, head.name) (bindings_now ledger formula) variables formula lines verdict)))))))))
+    then_single (systems_known limit custom (mentioned_systems tables formula)) (λ admitted. after_systems ledger (folder, head.name) tables formula admitted) (systems_single limit custom (mentioned_systems tables formula)) (λ admitted known.
+    then_single (Pure (ResolvedAnswers tables formula)) (λ done. after_resolution admitted ledger (folder, head.name) tables formula) (resolved_single tables formula) (λ done resolves.
+    then_single (Pure (BuiltAnswers admitted custom tables formula)) (λ lines. after_steps ledger (folder, head.name) tables formula lines) (built_single admitted custom tables formula there.0 there.2) (λ lines built.
+    then_single (Pure (VariablesAnswers custom tables formula)) (λ variables. after_variables custom (folder, head.name) (bindings_now ledger formula) formula lines variables) (variables_single custom tables formula) (λ variables are.
+    then_single (Pure (VerdictAnswers custom (bindings_now ledger formula) variables formula)) (λ verdict. stored custom (formula_success (folder, head.name) (bindings_now ledger formula) variables formula lines verdict)) (verdict_single custom (bindings_now ledger formula) variables formula) (λ verdict has.
+    stored_single custom (formula_success (folder, head.name) (bindings_now ledger formula) variables formula lines verdict)))))))))

@@ -40,6 +40,7 @@ head_is grammar text (Err (faults.Unknown folder name)) a = absurd a
 head_is grammar text (Err (faults.File folder name flaw)) a = absurd a
 head_is grammar text (Err (faults.Arity name tracks given)) a = absurd a
 head_is grammar text (Err (faults.SystemUnknown name)) a = absurd a
+head_is grammar text (Err (faults.NotAdmitted name law)) a = absurd a
 head_is grammar text (Err (faults.Clash name first other)) a = absurd a
 head_is grammar text (Err (faults.Direction first other)) a = absurd a
 head_is grammar text (Err (faults.Letters step)) a = absurd a

@@ -1,6 +1,5 @@
 -- The files that a formula names give one list of tables, or one fault.
 use Rattle.std.proofs.Common.{◌≡◌, ℕ, List, [], ◌∷◌, ◌⊎◌, Option, None, Some, Result, Ok, Err, inl, inr, refl, sym, ap, ◌∙◌, subst, arith}
-use Rattle.std.specs.List.{AllZip}
 use Rattle.wal_outside.specs.Files.{Files}
 use Rattle.wal_outside.specs.declared.folder.Folder.{Folder}
 use Rattle.dfa_loading.specs.Loading.{AreListedBy, FirstRefuses}
@@ -14,27 +13,28 @@ use Rattle.formula_parse.specs.Trees as trees
 use Rattle.formula_resolve.specs.FirstMentions.{first_files}
 use Rattle.formula_resolve.specs.Mentions.{mentions}
 use Rattle.formula_resolve.specs.declared.file.File.{File}
-use Rattle.definitions.specs.Trees.{Entry, Ledger}
+use Rattle.definitions.specs.Texts.{HasTextAt, Stores}
+use Rattle.definitions.specs.Trees.{Entry, Ledger, custom_of}
+use Rattle.definitions.proofs.OneTexts.{one_text_of}
+use Rattle.system_files.specs.SystemFiles.{Custom}
 use Rattle.session_cli.specs.declared.fault.Fault.{Fault}
 use Rattle.session_cli.specs.declared.fault.Fault.TheVariants as faults
 use Rattle.session_cli.specs.FormulaFaults.{fault_of_loading}
 use Rattle.session_cli.specs.FormulaOutcomes.{LoadedAnswers, loaded}
-use Rattle.session_cli.specs.Texts.{HasTextAt, Stores}
 use Rattle.session_cli.proofs.CheckSteps.{IsSingle}
-use Rattle.session_cli.proofs.OneTexts.{one_text}
 
 -- files that are the texts of one ledger have the same texts
-same_text_at : (folder : Folder) (entry : Option Entry) (text other : Option (List ℕ)) → HasTextAt folder entry text → HasTextAt folder entry other → text ≡ other
-same_text_at folder None None None a b = refl
-same_text_at folder None None (Some other) a b = absurd b
-same_text_at folder None (Some text) other a b = absurd a
-same_text_at folder (Some entry) None other a b = absurd a
-same_text_at folder (Some entry) (Some text) None a b = absurd b
-same_text_at folder (Some entry) (Some text) (Some other) a b = ap Some (one_text entry text other a.1 b.1)
+same_text_at : (custom : Custom) (folder : Folder) (entry : Option Entry) (text other : Option (List ℕ)) → HasTextAt custom folder entry text → HasTextAt custom folder entry other → text ≡ other
+same_text_at custom folder None None None a b = refl
+same_text_at custom folder None None (Some other) a b = absurd b
+same_text_at custom folder None (Some text) other a b = absurd a
+same_text_at custom folder (Some entry) None other a b = absurd a
+same_text_at custom folder (Some entry) (Some text) None a b = absurd b
+same_text_at custom folder (Some entry) (Some text) (Some other) a b = ap Some (one_text_of custom entry text other a.1 b.1)
 
 module _ (ledger : Ledger) (files others : Files) (stores : Stores ledger files) (also : Stores ledger others) where
   same_there : (folder : Folder) (name : List ℕ) → files folder name ≡ others folder name
-  same_there folder name = same_text_at folder (ledger folder name) (files folder name) (others folder name) (stores folder name) (also folder name)
+  same_there folder name = same_text_at (custom_of ledger) folder (ledger folder name) (files folder name) (others folder name) (stores folder name) (also folder name)
 
   -- a file has one text
   one_at : (file : File) (text other : List ℕ) → files (place_of file).0 (place_of file).1 ≡ Some text → others (place_of file).0 (place_of file).1 ≡ Some other → text ≡ other
@@ -122,6 +122,7 @@ loaded_is ledger formula (Err (faults.Depth grammar at)) a = absurd a
 loaded_is ledger formula (Err (faults.Long bytes)) a = absurd a
 loaded_is ledger formula (Err (faults.Arity name tracks given)) a = absurd a
 loaded_is ledger formula (Err (faults.SystemUnknown name)) a = absurd a
+loaded_is ledger formula (Err (faults.NotAdmitted name law)) a = absurd a
 loaded_is ledger formula (Err (faults.Clash name first other)) a = absurd a
 loaded_is ledger formula (Err (faults.Direction first other)) a = absurd a
 loaded_is ledger formula (Err (faults.Letters step)) a = absurd a

@@ -1,6 +1,7 @@
 -- A command has one proper outcome.
-use Rattle.std.proofs.Common.{◌≡◌, ◌≢◌, ℕ, ◌<◌, ◌≤◌, ◌⊎◌, List, ℤ, length, get_or, None, Result, Ok, Err, refl, sym, ap, ◌∙◌, inl, inr, arith}
-use Rattle.wal_outside.specs.declared.folder.Folder.TheVariants.{Automata, Results, Bases}
+use Rattle.std.proofs.Common.{◌≡◌, ◌≢◌, ℕ, ◌+◌, ◌<◌, ◌≤◌, ◌⊎◌, List, ℤ, length, get_or, Result, Ok, Err, refl, sym, ap, ◌∙◌, inl, inr, arith}
+use Rattle.wal_outside.specs.declared.folder.Folder.TheVariants.{Automata, Results}
+use Rattle.digit_tuple.specs.Steps.{StepLog}
 use Rattle.digit_tuple.specs.declared.direction.Direction.{Direction}
 use Rattle.digit_tuple.specs.declared.steps.StepLine.{StepLine}
 use Rattle.command_head.specs.Heads as heads
@@ -19,65 +20,67 @@ use Rattle.session_cli.specs.declared.fault.Fault.TheVariants as faults
 use Rattle.session_cli.specs.declared.command_word.CommandWord.{CommandWord}
 use Rattle.session_cli.specs.declared.command_word.CommandWord.TheVariants as words
 use Rattle.session_cli.specs.Checks.{Check, Pure}
-use Rattle.definitions.specs.Trees.{Regex, Defined, Ledger}
+use Rattle.definitions.specs.Trees.{Ledger, custom_of}
 use Rattle.definitions.specs.Tracks.{NamedSystem, Tracks, OverSets, OverSystems, letter_sets}
-use Rattle.definitions.specs.Named.{Custom, IsKnown}
+use Rattle.system_files.specs.SystemFiles.{Custom}
 use Rattle.session_cli.specs.HeadTracks.{AreTracksOf}
 use Rattle.session_cli.specs.HeadAnswers.{HeadAnswers}
 use Rattle.session_cli.specs.Accepting.{Answer, stored}
-use Rattle.session_cli.specs.RegOutcomes.{TracksAnswers, ParsedAnswers, StepsAnswers, after_expression, after_tracks, after_head, reg_checks}
+use Rattle.session_cli.specs.RegOutcomes.{systems_named, TracksAnswers, ParsedAnswers, StepsAnswers, regex_success, after_expression, after_tracks, after_admission, after_head, reg_checks}
+use Rattle.session_cli.specs.SystemChecks.{systems_known}
 use Rattle.session_cli.specs.Outcomes.{LengthAnswers, WordAnswers, word_text, checks_by, after_length, Outcome}
 use Rattle.session_cli.proofs.CheckSteps.{IsSingle, then_single}
 use Rattle.session_cli.proofs.TrackWidths.{one_lines, done_not_letters, done_not_states, letters_not_states, one_excess}
-use Rattle.definitions.proofs.NameLemmas.{one_first, no_first}
-use Rattle.session_cli.proofs.NameLemmas.{one_list_of_systems, not_unknown, not_parted, same_part}
+use Rattle.session_cli.proofs.NameLemmas.{one_list_of_systems, not_parted, same_part}
 use Rattle.session_cli.proofs.OneHeads.{head_single}
 use Rattle.session_cli.proofs.OneTexts.{stored_single}
 use Rattle.session_cli.proofs.OneFormulas.{formula_single}
+use Rattle.session_cli.proofs.OneSystems.{systems_single}
 
 -- an answer is that of one function of what was read
 single_by : {Y : Type 0} (c : Check Y) (value : Result Y Fault) → ((r : Result Y Fault) → c.answers r → r ≡ value) → IsSingle c
 single_by c value is = λ r s a b. is r a ∙ sym (is s b)
 
 -- the steps are within the limits, or one of them is the first to pass one
-steps_is : (limit : ℕ) (tracks : Tracks) (e : Expression (List ℤ)) (r : Result (List StepLine) Fault) → StepsAnswers limit tracks e r
-    → ((lines : List StepLine) × StepsAnswers limit tracks e (Ok lines) × (r ≡ Ok lines)) ⊎ ((StepsAnswers limit tracks e (Err (faults.Letters 1)) × (r ≡ Err (faults.Letters 1))) ⊎ ((step : ℕ) × StepsAnswers limit tracks e (Err (faults.States step)) × (r ≡ Err (faults.States step))))
-steps_is limit tracks e (Ok lines) a = inl (lines, a, refl)
-steps_is limit tracks e (Err (faults.Letters step)) (is, passes) = inr (inl ((refl, passes), ap (λ (n : ℕ). let x : Result (List StepLine) Fault = Err (faults.Letters n) in x) is))
-steps_is limit tracks e (Err (faults.States step)) a = inr (inr (step, a, refl))
-steps_is limit tracks e (Err faults.Command) a = absurd a
-steps_is limit tracks e (Err (faults.Syntax grammar at)) a = absurd a
-steps_is limit tracks e (Err (faults.Number grammar at)) a = absurd a
-steps_is limit tracks e (Err (faults.Depth grammar at)) a = absurd a
-steps_is limit tracks e (Err (faults.Long bytes)) a = absurd a
-steps_is limit tracks e (Err (faults.SystemUnknown name)) a = absurd a
-steps_is limit tracks e (Err (faults.Direction first other)) a = absurd a
-steps_is limit tracks e (Err (faults.Store folder name)) a = absurd a
-steps_is limit tracks e (Err faults.Memory) a = absurd a
-steps_is limit tracks e (Err faults.ScriptLimit) a = absurd a
-steps_is limit tracks e (Err (faults.MixedChain byte)) a = absurd a
-steps_is limit tracks e (Err (faults.NotLinear byte)) a = absurd a
-steps_is limit tracks e (Err (faults.Unknown of file)) a = absurd a
-steps_is limit tracks e (Err (faults.File of file flaw)) a = absurd a
-steps_is limit tracks e (Err (faults.Arity of count given)) a = absurd a
-steps_is limit tracks e (Err (faults.Clash of one two)) a = absurd a
-steps_is limit tracks e (Err (faults.WordGap of spelling)) a = absurd a
-steps_is limit tracks e (Err (faults.Plain of)) a = absurd a
+steps_is : (admitted : StepLog) (tracks : Tracks) (e : Expression (List ℤ)) (r : Result (List StepLine) Fault) → StepsAnswers admitted tracks e r
+    → ((lines : List StepLine) × StepsAnswers admitted tracks e (Ok lines) × (r ≡ Ok lines)) ⊎ ((StepsAnswers admitted tracks e (Err (faults.Letters (length admitted.lines + 1))) × (r ≡ Err (faults.Letters (length admitted.lines + 1)))) ⊎ ((step : ℕ) × StepsAnswers admitted tracks e (Err (faults.States step)) × (r ≡ Err (faults.States step))))
+steps_is admitted tracks e (Ok lines) a = inl (lines, a, refl)
+steps_is admitted tracks e (Err (faults.Letters step)) (is, passes) = inr (inl ((refl, passes), ap (λ (n : ℕ). let x : Result (List StepLine) Fault = Err (faults.Letters n) in x) is))
+steps_is admitted tracks e (Err (faults.States step)) a = inr (inr (step, a, refl))
+steps_is admitted tracks e (Err faults.Command) a = absurd a
+steps_is admitted tracks e (Err (faults.Syntax grammar at)) a = absurd a
+steps_is admitted tracks e (Err (faults.Number grammar at)) a = absurd a
+steps_is admitted tracks e (Err (faults.Depth grammar at)) a = absurd a
+steps_is admitted tracks e (Err (faults.Long bytes)) a = absurd a
+steps_is admitted tracks e (Err (faults.SystemUnknown name)) a = absurd a
+steps_is admitted tracks e (Err (faults.NotAdmitted name law)) a = absurd a
+steps_is admitted tracks e (Err (faults.Direction first other)) a = absurd a
+steps_is admitted tracks e (Err (faults.Store folder name)) a = absurd a
+steps_is admitted tracks e (Err faults.Memory) a = absurd a
+steps_is admitted tracks e (Err faults.ScriptLimit) a = absurd a
+steps_is admitted tracks e (Err (faults.MixedChain byte)) a = absurd a
+steps_is admitted tracks e (Err (faults.NotLinear byte)) a = absurd a
+steps_is admitted tracks e (Err (faults.Unknown of file)) a = absurd a
+steps_is admitted tracks e (Err (faults.File of file flaw)) a = absurd a
+steps_is admitted tracks e (Err (faults.Arity of count given)) a = absurd a
+steps_is admitted tracks e (Err (faults.Clash of one two)) a = absurd a
+steps_is admitted tracks e (Err (faults.WordGap of spelling)) a = absurd a
+steps_is admitted tracks e (Err (faults.Plain of)) a = absurd a
 
-steps_single : (limit : ℕ) (tracks : Tracks) (e : Expression (List ℤ)) → IsSingle (Pure (StepsAnswers limit tracks e))
-steps_single limit tracks e r s a b = by_step (steps_is limit tracks e r a) (steps_is limit tracks e s b)
+steps_single : (admitted : StepLog) (tracks : Tracks) (e : Expression (List ℤ)) → IsSingle (Pure (StepsAnswers admitted tracks e))
+steps_single admitted tracks e r s a b = by_step (steps_is admitted tracks e r a) (steps_is admitted tracks e s b)
   where
-    by_step : ((lines : List StepLine) × StepsAnswers limit tracks e (Ok lines) × (r ≡ Ok lines)) ⊎ ((StepsAnswers limit tracks e (Err (faults.Letters 1)) × (r ≡ Err (faults.Letters 1))) ⊎ ((step : ℕ) × StepsAnswers limit tracks e (Err (faults.States step)) × (r ≡ Err (faults.States step))))
-        → ((lines : List StepLine) × StepsAnswers limit tracks e (Ok lines) × (s ≡ Ok lines)) ⊎ ((StepsAnswers limit tracks e (Err (faults.Letters 1)) × (s ≡ Err (faults.Letters 1))) ⊎ ((step : ℕ) × StepsAnswers limit tracks e (Err (faults.States step)) × (s ≡ Err (faults.States step)))) → r ≡ s
-    by_step (inl (lines, done, is)) (inl (other, done', is')) = is ∙ (ap (λ (ls : List StepLine). let x : Result (List StepLine) Fault = Ok ls in x) (one_lines limit tracks e lines other done done') ∙ sym is')
-    by_step (inl (lines, done, is)) (inr (inl (passes, is'))) = absurd (done_not_letters limit tracks e lines done passes.1)
-    by_step (inl (lines, done, is)) (inr (inr (step, above, is'))) = absurd (done_not_states limit tracks e lines step done above)
-    by_step (inr (inl (passes, is))) (inl (lines, done, is')) = absurd (done_not_letters limit tracks e lines done passes.1)
+    by_step : ((lines : List StepLine) × StepsAnswers admitted tracks e (Ok lines) × (r ≡ Ok lines)) ⊎ ((StepsAnswers admitted tracks e (Err (faults.Letters (length admitted.lines + 1))) × (r ≡ Err (faults.Letters (length admitted.lines + 1)))) ⊎ ((step : ℕ) × StepsAnswers admitted tracks e (Err (faults.States step)) × (r ≡ Err (faults.States step))))
+        → ((lines : List StepLine) × StepsAnswers admitted tracks e (Ok lines) × (s ≡ Ok lines)) ⊎ ((StepsAnswers admitted tracks e (Err (faults.Letters (length admitted.lines + 1))) × (s ≡ Err (faults.Letters (length admitted.lines + 1)))) ⊎ ((step : ℕ) × StepsAnswers admitted tracks e (Err (faults.States step)) × (s ≡ Err (faults.States step)))) → r ≡ s
+    by_step (inl (lines, done, is)) (inl (other, done', is')) = is ∙ (ap (λ (ls : List StepLine). let x : Result (List StepLine) Fault = Ok ls in x) (one_lines admitted tracks e lines other done done') ∙ sym is')
+    by_step (inl (lines, done, is)) (inr (inl (passes, is'))) = absurd (done_not_letters admitted tracks e lines done passes.1)
+    by_step (inl (lines, done, is)) (inr (inr (step, above, is'))) = absurd (done_not_states admitted tracks e lines step done above)
+    by_step (inr (inl (passes, is))) (inl (lines, done, is')) = absurd (done_not_letters admitted tracks e lines done passes.1)
     by_step (inr (inl (passes, is))) (inr (inl (passes', is'))) = is ∙ sym is'
-    by_step (inr (inl (passes, is))) (inr (inr (step, above, is'))) = absurd (letters_not_states limit tracks e step passes.1 above)
-    by_step (inr (inr (step, above, is))) (inl (lines, done, is')) = absurd (done_not_states limit tracks e lines step done above)
-    by_step (inr (inr (step, above, is))) (inr (inl (passes, is'))) = absurd (letters_not_states limit tracks e step passes.1 above)
-    by_step (inr (inr (step, above, is))) (inr (inr (step', above', is'))) = is ∙ (ap (λ (n : ℕ). let x : Result (List StepLine) Fault = Err (faults.States n) in x) (one_excess limit tracks e step step' above above') ∙ sym is')
+    by_step (inr (inl (passes, is))) (inr (inr (step, above, is'))) = absurd (letters_not_states admitted tracks e step passes.1 above)
+    by_step (inr (inr (step, above, is))) (inl (lines, done, is')) = absurd (done_not_states admitted tracks e lines step done above)
+    by_step (inr (inr (step, above, is))) (inr (inl (passes, is'))) = absurd (letters_not_states admitted tracks e step passes.1 above)
+    by_step (inr (inr (step, above, is))) (inr (inr (step', above', is'))) = is ∙ (ap (λ (n : ℕ). let x : Result (List StepLine) Fault = Err (faults.States n) in x) (one_excess admitted tracks e step step' above above') ∙ sym is')
 
 -- the fault of an expression
 abbrev of_parse : Result Pattern RegexFault → Result Pattern Fault
@@ -107,6 +110,7 @@ parsed_is sets body (Err (faults.Depth grammars.Formula at)) a = absurd a
 parsed_is sets body (Err faults.Command) a = absurd a
 parsed_is sets body (Err (faults.Long bytes)) a = absurd a
 parsed_is sets body (Err (faults.SystemUnknown name)) a = absurd a
+parsed_is sets body (Err (faults.NotAdmitted name law)) a = absurd a
 parsed_is sets body (Err (faults.Direction first other)) a = absurd a
 parsed_is sets body (Err (faults.Letters step)) a = absurd a
 parsed_is sets body (Err (faults.States step)) a = absurd a
@@ -131,19 +135,19 @@ parsed_single sets body r s a b =
 -- what names of systems give
 abbrev IsNames : Custom → List (List ℕ) → Result Tracks Fault → Type 0
 IsNames custom names x = ((way : Direction) × (named : List NamedSystem) × AreTracksOf custom (heads.Systems names) (OverSystems way named) × (x ≡ Ok (OverSystems way named)))
-    ⊎ (((name : List ℕ) × TracksAnswers custom (heads.Systems names) (Err (faults.SystemUnknown name)) × (x ≡ Err (faults.SystemUnknown name)))
-    ⊎ ((first : List ℕ) × (other : List ℕ) × TracksAnswers custom (heads.Systems names) (Err (faults.Direction first other)) × (x ≡ Err (faults.Direction first other))))
+    ⊎ ((first : List ℕ) × (other : List ℕ) × TracksAnswers custom (heads.Systems names) (Err (faults.Direction first other)) × (x ≡ Err (faults.Direction first other)))
 
 names_is : (custom : Custom) (names : List (List ℕ)) (x : Result Tracks Fault) → TracksAnswers custom (heads.Systems names) x → IsNames custom names x
 names_is custom names (Ok (OverSets others)) a = absurd a
 names_is custom names (Ok (OverSystems way named)) a = inl (way, named, a, refl)
-names_is custom names (Err (faults.SystemUnknown name)) a = inr (inl (name, a, refl))
-names_is custom names (Err (faults.Direction first other)) a = inr (inr (first, other, a, refl))
+names_is custom names (Err (faults.Direction first other)) a = inr (first, other, a, refl)
 names_is custom names (Err faults.Command) a = absurd a
 names_is custom names (Err (faults.Syntax grammar at)) a = absurd a
 names_is custom names (Err (faults.Number grammar at)) a = absurd a
 names_is custom names (Err (faults.Depth grammar at)) a = absurd a
 names_is custom names (Err (faults.Long bytes)) a = absurd a
+names_is custom names (Err (faults.SystemUnknown name)) a = absurd a
+names_is custom names (Err (faults.NotAdmitted name law)) a = absurd a
 names_is custom names (Err (faults.Letters step)) a = absurd a
 names_is custom names (Err (faults.States step)) a = absurd a
 names_is custom names (Err (faults.Store folder name)) a = absurd a
@@ -162,15 +166,9 @@ by_names : (custom : Custom) (names : List (List ℕ)) (r s : Result Tracks Faul
 by_names custom names r s (inl (way, named, are, is)) (inl (way', named', are', is')) =
     let same = one_list_of_systems custom names way way' named named' are are' in
     is ∙ ((λ i. let x : Result Tracks Fault = Ok (OverSystems (same.0 i) (same.1 i)) in x) ∙ sym is')
-by_names custom names r s (inl (way, named, are, is)) (inr (inl (name, first, is'))) = absurd (not_unknown custom names way named name are first)
-by_names custom names r s (inl (way, named, are, is)) (inr (inr (first, other, part, is'))) = absurd (not_parted custom names way named first other are part)
-by_names custom names r s (inr (inl (name, first, is))) (inl (way, named, are, is')) = absurd (not_unknown custom names way named name are first)
-by_names custom names r s (inr (inl (name, first, is))) (inr (inl (name', first', is'))) =
-    is ∙ (ap (λ (n : List ℕ). let x : Result Tracks Fault = Err (faults.SystemUnknown n) in x) (one_first (IsKnown custom) names name name' first first') ∙ sym is')
-by_names custom names r s (inr (inl (name, first, is))) (inr (inr (x, y, part, is'))) = absurd (no_first (IsKnown custom) names name part.known first)
-by_names custom names r s (inr (inr (x, y, part, is))) (inl (way, named, are, is')) = absurd (not_parted custom names way named x y are part)
-by_names custom names r s (inr (inr (x, y, part, is))) (inr (inl (name, first, is'))) = absurd (no_first (IsKnown custom) names name part.known first)
-by_names custom names r s (inr (inr (x, y, part, is))) (inr (inr (x', y', part', is'))) =
+by_names custom names r s (inl (way, named, are, is)) (inr (first, other, part, is')) = absurd (not_parted custom names way named first other are part)
+by_names custom names r s (inr (x, y, part, is)) (inl (way, named, are, is')) = absurd (not_parted custom names way named x y are part)
+by_names custom names r s (inr (x, y, part, is)) (inr (x', y', part', is')) =
     let same = same_part custom names x y x' y' part part' in
     is ∙ ((λ i. let z : Result Tracks Fault = Err (faults.Direction (same.0 i) (same.1 i)) in z) ∙ sym is')
 
@@ -187,6 +185,7 @@ tracks_single custom (heads.Sets sets) r s a b = single_by (Pure (TracksAnswers 
     is (Err (faults.Depth grammar at)) a = absurd a
     is (Err (faults.Long bytes)) a = absurd a
     is (Err (faults.SystemUnknown name)) a = absurd a
+    is (Err (faults.NotAdmitted name law)) a = absurd a
     is (Err (faults.Direction first other)) a = absurd a
     is (Err (faults.Letters step)) a = absurd a
     is (Err (faults.States step)) a = absurd a
@@ -206,11 +205,13 @@ tracks_single custom (heads.Systems names) r s a b = by_names custom names r s (
 -- a `reg` has one outcome
 reg_single : (limit : ℕ) (ledger : Ledger) (text : List ℕ) → IsSingle (reg_checks limit ledger text)
 reg_single limit ledger text =
-    then_single (Pure (HeadAnswers SpellsReg text)) (λ head. after_head limit (ledger Bases) head) (head_single SpellsReg (one_head SpellsReg one_reg) text) (λ head spells.
-    then_single (Pure (TracksAnswers (ledger Bases) head.alphabets)) (λ tracks. after_tracks limit head.name head.body tracks) (tracks_single (ledger Bases) head.alphabets) (λ tracks means.
-    then_single (Pure (ParsedAnswers (letter_sets tracks) head.body)) (λ (pattern : Pattern). after_expression limit head.name tracks pattern.tree) (parsed_single (letter_sets tracks) head.body) (λ pattern parses.
-    then_single (Pure (StepsAnswers limit tracks pattern.tree)) (λ lines. stored (record { folder = Automata; name = head.name; entry = Defined (Regex tracks pattern.tree); lines = lines; verdict = None })) (steps_single limit tracks pattern.tree) (λ lines steps.
-    stored_single (record { folder = Automata; name = head.name; entry = Defined (Regex tracks pattern.tree); lines = lines; verdict = None })))))
+    let custom : Custom = custom_of ledger in
+    then_single (Pure (HeadAnswers SpellsReg text)) (λ head. after_head limit custom head) (head_single SpellsReg (one_head SpellsReg one_reg) text) (λ head spells.
+    then_single (systems_known limit custom (systems_named head.alphabets)) (λ admitted. after_admission custom head admitted) (systems_single limit custom (systems_named head.alphabets)) (λ admitted known.
+    then_single (Pure (TracksAnswers custom head.alphabets)) (λ tracks. after_tracks admitted custom head.name head.body tracks) (tracks_single custom head.alphabets) (λ tracks means.
+    then_single (Pure (ParsedAnswers (letter_sets tracks) head.body)) (λ (pattern : Pattern). after_expression admitted custom head.name tracks pattern.tree) (parsed_single (letter_sets tracks) head.body) (λ pattern parses.
+    then_single (Pure (StepsAnswers admitted tracks pattern.tree)) (λ lines. stored custom (regex_success head.name tracks pattern.tree lines)) (steps_single admitted tracks pattern.tree) (λ lines steps.
+    stored_single custom (regex_success head.name tracks pattern.tree lines))))))
 
 -- the length, and the first word
 length_single : (text : List ℕ) → IsSingle (Pure (LengthAnswers text))
@@ -224,6 +225,7 @@ length_single text r s a b = by_length (length_is r a) (length_is s b)
     length_is (Err (faults.Number grammar at)) a = absurd a
     length_is (Err (faults.Depth grammar at)) a = absurd a
     length_is (Err (faults.SystemUnknown name)) a = absurd a
+    length_is (Err (faults.NotAdmitted name law)) a = absurd a
     length_is (Err (faults.Direction first other)) a = absurd a
     length_is (Err (faults.Letters step)) a = absurd a
     length_is (Err (faults.States step)) a = absurd a
@@ -271,6 +273,7 @@ word_single text r s a b = by_word (word_is r a) (word_is s b)
     word_is (Err (faults.Number grammar at)) a = absurd a
     word_is (Err (faults.Depth grammar at)) a = absurd a
     word_is (Err (faults.SystemUnknown name)) a = absurd a
+    word_is (Err (faults.NotAdmitted name law)) a = absurd a
     word_is (Err (faults.Direction first other)) a = absurd a
     word_is (Err (faults.Letters step)) a = absurd a
     word_is (Err (faults.States step)) a = absurd a

@@ -106,6 +106,7 @@ reading_is text (Err (faults.Unknown folder name)) a = absurd a
 reading_is text (Err (faults.File folder name flaw)) a = absurd a
 reading_is text (Err (faults.Arity name tracks given)) a = absurd a
 reading_is text (Err (faults.SystemUnknown name)) a = absurd a
+reading_is text (Err (faults.NotAdmitted name law)) a = absurd a
 reading_is text (Err (faults.Clash name first other)) a = absurd a
 reading_is text (Err (faults.Direction first other)) a = absurd a
 reading_is text (Err (faults.Letters step)) a = absurd a

@@ -12,7 +12,8 @@ use Rattle.session_cli.specs.declared.fault.Grammar.TheVariants as grammars
 use Rattle.session_cli.specs.declared.fault.Fault.TheVariants as faults
 use Rattle.session_cli.specs.declared.status.Status.{Status}
 use Rattle.session_cli.specs.declared.status.Status.TheVariants as status
-use Rattle.definitions.specs.Trees.{Ledger}
+use Rattle.definitions.specs.Trees.{Ledger, custom_of}
+use Rattle.system_files.specs.SystemFiles.{Custom}
 use Rattle.session_cli.specs.Accepting.{Answer, after}
 use Rattle.session_cli.specs.Outcomes.{checks_of, Outcome, OpenOutcome}
 use Rattle.wal_outside.specs.Views.{SourceView, SinkView, StoreView}
@@ -23,7 +24,7 @@ use Rattle.session_cli.specs.Laws.{IsClean, EndAlike, store_faults}
 use Rattle.session_cli.specs.Words.{GivesLimit}
 use Rattle.session_cli.proofs.WholeSteps.{usage_or_memory}
 use Rattle.session_cli.proofs.OneLimits.{one_limit}
-use Rattle.session_cli.proofs.OneTexts.{one_text}
+use Rattle.definitions.proofs.OneTexts.{one_text_of}
 use Rattle.session_cli.proofs.OneOutcomes.{one_answer}
 
 -- the count of store faults
@@ -58,6 +59,7 @@ proper limit ledger text (Err (faults.Number grammar at)) is store memory = is
 proper limit ledger text (Err (faults.Depth grammar at)) is store memory = is
 proper limit ledger text (Err (faults.Long bytes)) is store memory = is
 proper limit ledger text (Err (faults.SystemUnknown name)) is store memory = is
+proper limit ledger text (Err (faults.NotAdmitted name law)) is store memory = is
 proper limit ledger text (Err (faults.Direction first other)) is store memory = is
 proper limit ledger text (Err (faults.Letters step)) is store memory = is
 proper limit ledger text (Err (faults.States step)) is store memory = is
@@ -70,6 +72,7 @@ open_is text (Err (faults.Syntax grammars.Regex at)) is = absurd is
 open_is text (Err (faults.Syntax grammars.Formula at)) is = absurd is
 open_is text (Err (faults.Depth grammar at)) is = absurd is
 open_is text (Err (faults.SystemUnknown name)) is = absurd is
+open_is text (Err (faults.NotAdmitted name law)) is = absurd is
 open_is text (Err (faults.Direction first other)) is = absurd is
 open_is text (Err (faults.Letters step)) is = absurd is
 open_is text (Err (faults.States step)) is = absurd is
@@ -104,9 +107,9 @@ known_same None files ledger known is same = cc
 known_same (Some others) files ledger known is same = same
 
 -- and they stay told
-still_told : (answer : Answer) (old new : Option Files) (files : Files) → old ≡ Some files → Changes old answer new → (after : Files) × (new ≡ Some after)
-still_told (Ok success) old new files is (stored, has, new_is) = (put files success.folder success.name stored, new_is ∙ ap (λ (o : Option Files). option_map (λ fs. put fs success.folder success.name stored) o) is)
-still_told (Err fault) old new files is new_is = (files, new_is ∙ is)
+still_told : (custom : Custom) (answer : Answer) (old new : Option Files) (files : Files) → old ≡ Some files → Changes custom old answer new → (after : Files) × (new ≡ Some after)
+still_told custom (Ok success) old new files is (stored, has, new_is) = (put files success.folder success.name stored, new_is ∙ ap (λ (o : Option Files). option_map (λ fs. put fs success.folder success.name stored) o) is)
+still_told custom (Err fault) old new files is new_is = (files, new_is ∙ is)
 
 -- an item has one answer that is neither the store's nor memory's
 same_item : (limit : ℕ) (ended : Ended) (ledger : Ledger) (text : List ℕ) (answer other : Answer) → IsAnswerOf limit ended ledger text answer → IsAnswerOf limit ended ledger text other
@@ -116,12 +119,12 @@ same_item limit Unterminated ledger text answer other a b s m s' m' = same_open 
 same_item limit PastLimit ledger text answer other a b s m s' m' = a ∙ sym b
 
 -- one answer changes the same files in one way
-same_changes : (answer : Answer) (old old' new new' : Option Files) → old ≡ old' → Changes old answer new → Changes old' answer new' → new ≡ new'
-same_changes (Ok success) old old' new new' same (stored, has, is) (stored', has', is') =
-    let texts : stored ≡ stored' = one_text success.entry stored stored' has has' in
+same_changes : (custom : Custom) (answer : Answer) (old old' new new' : Option Files) → old ≡ old' → Changes custom old answer new → Changes custom old' answer new' → new ≡ new'
+same_changes custom (Ok success) old old' new new' same (stored, has, is) (stored', has', is') =
+    let texts : stored ≡ stored' = one_text_of custom success.entry stored stored' has has' in
     let middle : option_map (λ files. put files success.folder success.name stored) old ≡ option_map (λ files. put files success.folder success.name stored') old' = λ i. option_map (λ files. put files success.folder success.name (texts i)) (same i) in
     is ∙ (middle ∙ sym is')
-same_changes (Err fault) old old' new new' same is is' = is ∙ (same ∙ sym is')
+same_changes custom (Err fault) old old' new new' same is is' = is ∙ (same ∙ sym is')
 
 none_first : (v w : Bool) → (v || w) ≡ false → v ≡ false
 none_first true w is = cc
@@ -162,9 +165,11 @@ same_answers limit (item ∷ items) (a ∷ answers) (b ∷ others) ledger last l
     (subst (λ (l : Ledger). IsAnswerOf limit item.ended l item.text b) (known_same old'.files files ledger run'.1.known told' run'.1.known_is) run'.1.answered)
     (none_first (of_fault is_store_fault a) (some_of (of_fault is_store_fault) answers) are.store) (none_first (of_fault is_memory_fault a) (some_of (of_fault is_memory_fault) answers) are.memory)
     (none_first (of_fault is_store_fault b) (some_of (of_fault is_store_fault) others) are'.store) (none_first (of_fault is_memory_fault b) (some_of (of_fault is_memory_fault) others) are'.memory) in
-    let P : Answer → Type 0 = λ x. Changes old'.files x run'.0.files in
-    let mids : run.0.files ≡ run'.0.files = same_changes a old.files old'.files run.0.files run'.0.files (told ∙ sym told') run.1.files (subst P (sym first) run'.1.files) in
-    let more = still_told a old.files run.0.files files told run.1.files in
+    let mine : Changes (custom_of ledger) old.files a run.0.files = subst (λ (l : Ledger). Changes (custom_of l) old.files a run.0.files) (known_same old.files files ledger run.1.known told run.1.known_is) run.1.files in
+    let theirs : Changes (custom_of ledger) old'.files b run'.0.files = subst (λ (l : Ledger). Changes (custom_of l) old'.files b run'.0.files) (known_same old'.files files ledger run'.1.known told' run'.1.known_is) run'.1.files in
+    let P : Answer → Type 0 = λ x. Changes (custom_of ledger) old'.files x run'.0.files in
+    let mids : run.0.files ≡ run'.0.files = same_changes (custom_of ledger) a old.files old'.files run.0.files run'.0.files (told ∙ sym told') mine (subst P (sym first) theirs) in
+    let more = still_told (custom_of ledger) a old.files run.0.files files told mine in
     let Q : Answer → Type 0 = λ x. Run limit (after ledger x) run'.0 items others last' new' in
     let rest : SameEnd answers others new new' = same_answers limit items answers others (after ledger a) last last' run.0 run'.0 new new' more.0 more.1 (sym mids ∙ more.1) run.2 (subst Q (sym first) run'.2) (proper_rest a answers are) (proper_rest b others are') in
     record { answers_are = λ i. first i ∷ rest.answers_are i; files = rest.files }

@@ -2,21 +2,19 @@
 use Rattle.std.proofs.Common.{◌≡◌, ℕ, Bool, true, false, List, [], ◌∷◌, Some, if◌then◌else◌, refl, sym, ap, ◌∙◌, subst}
 use Rattle.std.specs.Str.{bytes_eq}
 use Rattle.std.proofs.lemmas.Slice.Eq.{bytes_eq-Decides}
-use Rattle.digit_tuple.specs.Deterministic.{Automaton, letters_of, accepts_of}
-use Rattle.digit_tuple.specs.Letters.{IsWord, product}
-use Rattle.digit_tuple.specs.Paddings.{in_order}
+use Rattle.digit_tuple.specs.Deterministic.{Automaton}
 use Rattle.digit_tuple.specs.declared.direction.Direction.{Direction}
 use Rattle.minimise.specs.Canonical.{IsCanonical}
 use Rattle.minimise.proofs.CanonicalLemmas.{canonical_forms}
 use Rattle.numeration.specs.Systems.{System}
-use Rattle.numeration.specs.Spelling.{Spells, letters_in}
-use Rattle.numeration.specs.Relations.{HoldsOf, IsLanguageOf, IsAdderOf, IsEqualityOf, IsOrderOf, IsZeroOf, IsSum, IsEqual, IsLess, IsZero}
+use Rattle.numeration.specs.Relations.{IsLanguageOf, IsAdderOf, IsEqualityOf, IsOrderOf, IsZeroOf, IsSum, IsEqual, IsLess, IsZero}
 use Rattle.num_system.specs.Sealed.{SystemValue, system_of, IsSealed}
 use Rattle.num_system.specs.Successor.{IsSuccessorOf, IsNext}
 use Rattle.definitions.proofs.OneTexts.{one_holding}
 use Rattle.formula_build.specs.Libraries.{NamedSystem, system_named, AreSealed}
 use Rattle.formula_build.specs.OneBuilding.{Agree}
-use Rattle.definitions.specs.Named.{Custom, IsSystemNamed}
+use Rattle.system_files.specs.SystemFiles.{Custom}
+use Rattle.definitions.specs.Named.{IsSystemNamed}
 use Rattle.session_cli.specs.FormulaSteps.{AreMeant, library_of}
 use Rattle.definitions.proofs.NameLemmas.{one_meaning}
 

@@ -11,13 +11,11 @@ use Rattle.formula_resolve.specs.declared.file.File.TheVariants.{Automaton, Word
 use Rattle.formula_build.specs.Libraries.{NamedRelation, NamedWord, NamedSystem, AreSealed}
 use Rattle.num_system.specs.Sealed.{SystemValue}
 use Rattle.num_system.specs.Tracks.{HaveOneWay}
-use Rattle.number_relations.specs.Relations.{RelationValue}
 use Rattle.word_output.specs.Laws.{WordReadingsHaveOneOutcome}
 use Rattle.word_output.specs.WordReadings.{IsWordDone, PassesWord, HasWordGap}
-use Rattle.word_output.specs.declared.word_fault.WordFault.{WordFault}
 use Rattle.word_output.specs.declared.word_fault.WordFault.TheVariants as words
 use Rattle.definitions.specs.TableSteps.{AreTableSteps, PassesTable}
-use Rattle.definitions.specs.TableLaws.{AreTableSystems, HasOneTable, TablesHaveOneOutcome}
+use Rattle.definitions.specs.TableLaws.{HasOneTable, TablesHaveOneOutcome}
 use Rattle.session_cli.specs.declared.read_fault.ReadFault.{ReadFault}
 use Rattle.session_cli.specs.declared.read_fault.ReadFault.TheVariants.{Step, Gap}
 use Rattle.session_cli.specs.TableReads.{TableRead, ARelation, AWord, AreSystemsUnder, IsRelationRead, IsWordRead, IsTableRead, PassesFile, IsTableRefused, IsTableGap, AreTablesRead, IsReadingRefused, IsReadingGap}

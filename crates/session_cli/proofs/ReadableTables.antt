@@ -19,7 +19,7 @@ use Rattle.formula_resolve.specs.declared.file.File.{File}
 use Rattle.formula_build.specs.Libraries.{NamedSystem, system_named}
 use Rattle.formula_build.specs.Resolved as resolved
 use Rattle.formula_build.specs.Solutions.{way_named}
-use Rattle.definitions.specs.Named.{Custom}
+use Rattle.system_files.specs.SystemFiles.{Custom}
 use Rattle.definitions.specs.TableLaws.{FilesAreTables}
 use Rattle.session_cli.specs.FormulaPlans.{HasSystems}
 use Rattle.session_cli.specs.FormulaSteps.{AreMeant}
@@ -41,11 +41,11 @@ tracks_under systems [] has = ([], tt)
 tracks_under systems (name ∷ names) has = let rest = tracks_under systems names has.1 in (has.0.0 ∷ rest.0, (has.0.1, rest.1))
 
 -- each system has the direction that its name tells
-under_ways : (systems : List NamedSystem) (names : List Name) (tracks : List SystemValue) (way : Direction) → AreMeant (λ _. None) systems → AllByRecursion (λ name. way_named name ≡ way) names → AreUnder systems names tracks → AllByRecursion (λ (s : SystemValue). s.way ≡ way) tracks
-under_ways systems [] [] way are ways under = tt
-under_ways systems [] (s ∷ tracks) way are ways under = absurd under
-under_ways systems (name ∷ names) [] way are ways under = absurd under
-under_ways systems (name ∷ names) (s ∷ tracks) way are ways under = (found_way (λ _. None) systems name s are under.0 ∙ ways.0, under_ways systems names tracks way are ways.1 under.1)
+under_ways : (custom : Custom) (systems : List NamedSystem) (names : List Name) (tracks : List SystemValue) (way : Direction) → AreMeant custom systems → AllByRecursion (λ name. way_named name ≡ way) names → AreUnder systems names tracks → AllByRecursion (λ (s : SystemValue). s.way ≡ way) tracks
+under_ways custom systems [] [] way are ways under = tt
+under_ways custom systems [] (s ∷ tracks) way are ways under = absurd under
+under_ways custom systems (name ∷ names) [] way are ways under = absurd under
+under_ways custom systems (name ∷ names) (s ∷ tracks) way are ways under = (found_way custom systems name s are under.0 ∙ ways.0, under_ways custom systems names tracks way are ways.1 under.1)
 
 -- names of one direction have that of the first
 as_first : (names : List Name) (way : Direction) → ((i : ℕ) → i < length names → way_named (get_or names i []) ≡ way) → AllByRecursion (λ name. way_named name ≡ way) names
@@ -53,17 +53,17 @@ as_first [] way each = tt
 as_first (name ∷ names) way each = (each 0 (omega arith), as_first names way (λ i within. each (suc i) (omega (arith, within))))
 
 -- so systems under names of one direction have one direction
-pub under_one_way : (systems : List NamedSystem) (names : List Name) (tracks : List SystemValue) → AreMeant (λ _. None) systems → resolved.HaveOneWay way_named names → AreUnder systems names tracks → HaveOneWay tracks
-under_one_way systems [] [] are one under = tt
-under_one_way systems [] (s ∷ tracks) are one under = absurd under
-under_one_way systems (name ∷ names) [] are one under = absurd under
-under_one_way systems (name ∷ names) (s ∷ tracks) are one under =
-    let ways : AllByRecursion (λ n. way_named n ≡ s.way) (name ∷ names) = as_first (name ∷ names) s.way (λ i within. one i 0 within (omega arith) ∙ sym (found_way (λ _. None) systems name s are under.0)) in
-    under_ways systems (name ∷ names) (s ∷ tracks) s.way are ways under
+pub under_one_way : (custom : Custom) (systems : List NamedSystem) (names : List Name) (tracks : List SystemValue) → AreMeant custom systems → resolved.HaveOneWay way_named names → AreUnder systems names tracks → HaveOneWay tracks
+under_one_way custom systems [] [] are one under = tt
+under_one_way custom systems [] (s ∷ tracks) are one under = absurd under
+under_one_way custom systems (name ∷ names) [] are one under = absurd under
+under_one_way custom systems (name ∷ names) (s ∷ tracks) are one under =
+    let ways : AllByRecursion (λ n. way_named n ≡ s.way) (name ∷ names) = as_first (name ∷ names) s.way (λ i within. one i 0 within (omega arith) ∙ sym (found_way custom systems name s are under.0)) in
+    under_ways custom systems (name ∷ names) (s ∷ tracks) s.way are ways under
 
 -- a table is readable whose systems are there
-readable : (systems : List NamedSystem) (table : Loaded) → AreMeant (λ _. None) systems → IsListedTable table → IsNotOverSets table → IsOneWay table → AllByRecursion (HasSystemIn systems) (known (systems_in table.listed.header)) → IsReadable systems table
-readable systems table are listed plain one has = by table.listed.header refl one has
+readable : (custom : Custom) (systems : List NamedSystem) (table : Loaded) → AreMeant custom systems → IsListedTable table → IsNotOverSets table → IsOneWay table → AllByRecursion (HasSystemIn systems) (known (systems_in table.listed.header)) → IsReadable systems table
+readable custom systems table are listed plain one has = by table.listed.header refl one has
   where
     made : (header : Header) (tracks : List SystemValue) → table.listed.header ≡ header → AreSystemsUnder systems header tracks → HaveOneWay tracks → IsReadable systems table
     made header tracks is over one_way = record {
@@ -76,23 +76,23 @@ readable systems table are listed plain one has = by table.listed.header refl on
 
     by : (header : Header) → table.listed.header ≡ header → resolved.HaveOneWay way_named (known (systems_in header)) → AllByRecursion (HasSystemIn systems) (known (systems_in header)) → IsReadable systems table
     by (Truth value) is ways under = made (Truth value) [] is refl tt
-    by (Systems names) is ways under = let tracks = tracks_under systems names under in made (Systems names) tracks.0 is tracks.1 (under_one_way systems names tracks.0 are ways tracks.1)
+    by (Systems names) is ways under = let tracks = tracks_under systems names under in made (Systems names) tracks.0 is tracks.1 (under_one_way custom systems names tracks.0 are ways tracks.1)
     by (Sets sets) is ways under = absurd (plain sets is)
 
-all_readable : (systems : List NamedSystem) (tables : List Loaded) (h : Headers) → AreMeant (λ _. None) systems → AllByRecursion IsListedTable tables
+all_readable : (custom : Custom) (systems : List NamedSystem) (tables : List Loaded) (h : Headers) → AreMeant custom systems → AllByRecursion IsListedTable tables
     → AllByRecursion (IsKeptIn h) tables → AllByRecursion IsNotOverSets tables → AllByRecursion IsOneWay tables → AllByRecursion (λ (t : Loaded). AllByRecursion (HasSystemIn systems) (file_tracks h t.file)) tables → AreReadable systems tables
-all_readable systems [] h are listed own plain one has = tt
-all_readable systems (table ∷ tables) h are listed own plain one has =
+all_readable custom systems [] h are listed own plain one has = tt
+all_readable custom systems (table ∷ tables) h are listed own plain one has =
     let under : AllByRecursion (HasSystemIn systems) (known (systems_in table.listed.header)) = subst (AllByRecursion (HasSystemIn systems)) (tracks_kept h table own.0) has.0 in
-    (readable systems table are listed.0 plain.0 one.0 under, all_readable systems tables h are listed.1 own.1 plain.1 one.1 has.1)
+    (readable custom systems table are listed.0 plain.0 one.0 under, all_readable custom systems tables h are listed.1 own.1 plain.1 one.1 has.1)
 
 -- the tables of a formula without fault are readable by the systems that it mentions
 pub tables_readable : FilesAreTables → (systems : List NamedSystem) (files : Files) (tables : List Loaded) (formula : trees.Formula) → IsOnce (first_files (mentions formula)) → AreListedBy files (first_files (mentions formula)) tables
-    → fault_of (headers_of tables) formula ≡ None → HasSystems (first_systems (headers_of tables) (mentions formula)) systems → ((custom : Custom) → AreMeant custom systems) → AreReadable systems tables
-tables_readable law systems files tables formula once listed none has meant =
+    → fault_of (headers_of tables) formula ≡ None → HasSystems (first_systems (headers_of tables) (mentions formula)) systems → (custom : Custom) → AreMeant custom systems → AreReadable systems tables
+tables_readable law systems files tables formula once listed none has custom meant =
     let h : Headers = headers_of tables in
     let named : List File = first_files (mentions formula) in
-    all_readable systems tables h (meant (λ _. None)) (tables_listed law files named tables listed)
+    all_readable custom systems tables h meant (tables_listed law files named tables listed)
     (headers_kept tables (files_apart files named tables once listed))
     (none_over_sets law files tables formula once listed none)
     (tables_one_way files named tables listed)

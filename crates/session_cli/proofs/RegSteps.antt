@@ -1,6 +1,7 @@
 -- From the head of a `reg` to what it stores.
 use Rattle.std.proofs.Common.{◌≡◌, ℕ, ◌≤◌, Bool, List, length, Result, Ok, Err, sym, ◌∙◌, ap, arith}
-use Rattle.wal_outside.specs.declared.folder.Folder.TheVariants.{Automata, Bases}
+use Rattle.wal_outside.specs.declared.folder.Folder.TheVariants.{Automata}
+use Rattle.digit_tuple.specs.Steps.{StepLog}
 use Rattle.command_head.specs.Heads.{RegHead, AtWord, reg_at}
 use Rattle.command_head.specs.Parts.{parts_of, texts_of}
 use Rattle.command_head.specs.Grammar.{SpellsReg}
@@ -14,15 +15,16 @@ use Rattle.session_cli.specs.declared.fault.Fault.TheVariants as faults
 use Rattle.session_cli.specs.declared.plan.Made.{Made}
 use Rattle.session_cli.specs.declared.plan.Plan.{Plan}
 use Rattle.session_cli.specs.Checks.{Pure, Fails}
-use Rattle.definitions.specs.Trees.{Ledger}
+use Rattle.definitions.specs.Trees.{Ledger, custom_of}
 use Rattle.definitions.specs.Tracks.{Tracks}
-use Rattle.definitions.specs.Named.{Custom}
+use Rattle.system_files.specs.SystemFiles.{Custom}
 use Rattle.session_cli.specs.HeadTracks.{AreTracksOf}
 use Rattle.session_cli.specs.Accepting.{Success}
 use Rattle.session_cli.specs.HeadAnswers.{HeadAnswers}
-use Rattle.session_cli.specs.RegOutcomes.{TracksAnswers, after_tracks, after_head, reg_checks}
+use Rattle.session_cli.specs.RegOutcomes.{systems_named, TracksAnswers, after_tracks, after_admission, after_head, reg_checks}
+use Rattle.session_cli.specs.SystemChecks.{SystemsAnswers, systems_known}
 use Rattle.session_cli.specs.Plans.{Makes, Plans}
-use Rattle.session_cli.proofs.CheckSteps.{fails_first, makes_after, plans_after}
+use Rattle.session_cli.proofs.CheckSteps.{fails_first, fails_after, makes_after, plans_after}
 
 -- what is read of a text is what its parts spell, or where they break the grammar
 spelled : (text : List ℕ) (head : RegHead) → reg_at text ≡ Ok head → SpellsReg (texts_of (parts_of text)) head
@@ -30,17 +32,26 @@ unfolding reg_at
 spelled text head read = reg_spelled (texts_of (parts_of text)) head (run_goes (length text) AtWord (parts_of text) head read)
 
 pub head_syntax : (limit : ℕ) (ledger : Ledger) (text : List ℕ) (at : ℕ) → length text ≤ 65536 → reg_at text ≡ Err (head_faults.Syntax at) → Fails (reg_checks limit ledger text) (faults.Syntax grammars.Command at)
-head_syntax limit ledger text at short read = fails_first (Pure (HeadAnswers SpellsReg text)) (λ head. after_head limit (ledger Bases) head) (faults.Syntax grammars.Command at) (syntax_breaks text at (omega (arith, short)) read)
+head_syntax limit ledger text at short read = fails_first (Pure (HeadAnswers SpellsReg text)) (λ head. after_head limit (custom_of ledger) head) (faults.Syntax grammars.Command at) (syntax_breaks text at (omega (arith, short)) read)
 
 pub head_number : (limit : ℕ) (ledger : Ledger) (text : List ℕ) (at : ℕ) → length text ≤ 65536 → reg_at text ≡ Err (head_faults.Number at) → Fails (reg_checks limit ledger text) (faults.Number grammars.Command at)
-head_number limit ledger text at short read = fails_first (Pure (HeadAnswers SpellsReg text)) (λ head. after_head limit (ledger Bases) head) (faults.Number grammars.Command at) (number_breaks text at (omega (arith, short)) read)
+head_number limit ledger text at short read = fails_first (Pure (HeadAnswers SpellsReg text)) (λ head. after_head limit (custom_of ledger) head) (faults.Number grammars.Command at) (number_breaks text at (omega (arith, short)) read)
 
--- what is made over the tracks of a head
-pub tracks_made : (limit : ℕ) (custom : Custom) (head : RegHead) (tracks : Tracks) (shown : Bool) (result : Result Made Fault) → AreTracksOf custom head.alphabets tracks → Makes (after_tracks limit head.name head.body tracks) shown result → Makes (after_head limit custom head) shown result
-tracks_made limit custom head tracks shown result means makes = makes_after (Pure (TracksAnswers custom head.alphabets)) (λ ts. after_tracks limit head.name head.body ts) tracks shown result means makes
+-- a system of a head is refused
+pub head_refused : (limit : ℕ) (custom : Custom) (head : RegHead) (fault : Fault) → Fails (systems_known limit custom (systems_named head.alphabets)) fault → Fails (after_head limit custom head) fault
+head_refused limit custom head fault refused = fails_first (systems_known limit custom (systems_named head.alphabets)) (λ admitted. after_admission custom head admitted) fault refused
 
-pub tracks_fail : (limit : ℕ) (custom : Custom) (head : RegHead) (fault : Fault) → Fails (Pure (TracksAnswers custom head.alphabets)) fault → Fails (after_head limit custom head) fault
-tracks_fail limit custom head fault refused = fails_first (Pure (TracksAnswers custom head.alphabets)) (λ ts. after_tracks limit head.name head.body ts) fault refused
+-- what is made over the tracks of a head whose systems are admitted
+pub tracks_made : (limit : ℕ) (custom : Custom) (head : RegHead) (admitted : StepLog) (tracks : Tracks) (shown : Bool) (result : Result Made Fault) → SystemsAnswers limit custom (systems_named head.alphabets) (Ok admitted) → AreTracksOf custom head.alphabets tracks
+    → Makes custom (after_tracks admitted custom head.name head.body tracks) shown result → Makes custom (after_head limit custom head) shown result
+tracks_made limit custom head admitted tracks shown result known means makes =
+    makes_after custom (systems_known limit custom (systems_named head.alphabets)) (λ log. after_admission custom head log) admitted shown result known
+    (makes_after custom (Pure (TracksAnswers custom head.alphabets)) (λ ts. after_tracks admitted custom head.name head.body ts) tracks shown result means makes)
+
+pub tracks_fail : (limit : ℕ) (custom : Custom) (head : RegHead) (admitted : StepLog) (fault : Fault) → SystemsAnswers limit custom (systems_named head.alphabets) (Ok admitted) → Fails (Pure (TracksAnswers custom head.alphabets)) fault → Fails (after_head limit custom head) fault
+tracks_fail limit custom head admitted fault known refused =
+    fails_after (systems_known limit custom (systems_named head.alphabets)) (λ log. after_admission custom head log) admitted fault known
+    (fails_first (Pure (TracksAnswers custom head.alphabets)) (λ ts. after_tracks admitted custom head.name head.body ts) fault refused)
 
 -- an accepted `reg` stands under its name among the automata
 record IsAt (head : RegHead) (success : Success) : Type 0 where
@@ -48,13 +59,14 @@ record IsAt (head : RegHead) (success : Success) : Type 0 where
   name : head.name ≡ success.name
 
 stands_at : (limit : ℕ) (custom : Custom) (head : RegHead) (success : Success) → (after_head limit custom head).answers (Ok success) → IsAt head success
-stands_at limit custom head success (tracks, means, (pattern, parses, (lines, steps, (is, text)))) = record { folder = sym (ap (λ (s : Success). s.folder) is); name = sym (ap (λ (s : Success). s.name) is) }
+stands_at limit custom head success (admitted, known, (tracks, means, (pattern, parses, (lines, steps, (is, text))))) = record { folder = sym (ap (λ (s : Success). s.folder) is); name = sym (ap (λ (s : Success). s.name) is) }
 
 -- a `reg` whose head is this one
-pub reg_planned : (limit : ℕ) (ledger : Ledger) (text : List ℕ) (shown : Bool) (head : RegHead) (plan : Plan) → reg_at text ≡ Ok head → plan.folder ≡ Automata → plan.name ≡ head.name → Makes (after_head limit (ledger Bases) head) shown (Ok plan.made) → Plans (reg_checks limit ledger text) shown (Ok plan)
+pub reg_planned : (limit : ℕ) (ledger : Ledger) (text : List ℕ) (shown : Bool) (head : RegHead) (plan : Plan) → reg_at text ≡ Ok head → plan.folder ≡ Automata → plan.name ≡ head.name → Makes (custom_of ledger) (after_head limit (custom_of ledger) head) shown (Ok plan.made)
+    → Plans (custom_of ledger) (reg_checks limit ledger text) shown (Ok plan)
 reg_planned limit ledger text shown head plan read folder name made =
-    let at : IsAt head made.success = stands_at limit (ledger Bases) head made.success made.answers in
-    plans_after (Pure (HeadAnswers SpellsReg text)) (λ h. after_head limit (ledger Bases) h) head shown (Ok plan) (spelled text head read) (record { made = made; folder_is = folder ∙ at.folder; name_is = name ∙ at.name })
+    let at : IsAt head made.success = stands_at limit (custom_of ledger) head made.success made.answers in
+    plans_after (custom_of ledger) (Pure (HeadAnswers SpellsReg text)) (λ h. after_head limit (custom_of ledger) h) head shown (Ok plan) (spelled text head read) (record { made = made; folder_is = folder ∙ at.folder; name_is = name ∙ at.name })
 
-pub reg_failed : (limit : ℕ) (ledger : Ledger) (text : List ℕ) (shown : Bool) (head : RegHead) (fault : Fault) → reg_at text ≡ Ok head → Fails (after_head limit (ledger Bases) head) fault → Fails (reg_checks limit ledger text) fault
-reg_failed limit ledger text shown head fault read refused = plans_after (Pure (HeadAnswers SpellsReg text)) (λ h. after_head limit (ledger Bases) h) head shown (Err fault) (spelled text head read) refused
+pub reg_failed : (limit : ℕ) (ledger : Ledger) (text : List ℕ) (shown : Bool) (head : RegHead) (fault : Fault) → reg_at text ≡ Ok head → Fails (after_head limit (custom_of ledger) head) fault → Fails (reg_checks limit ledger text) fault
+reg_failed limit ledger text shown head fault read refused = plans_after (custom_of ledger) (Pure (HeadAnswers SpellsReg text)) (λ h. after_head limit (custom_of ledger) h) head shown (Err fault) (spelled text head read) refused

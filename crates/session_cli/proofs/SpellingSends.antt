@@ -1,5 +1,5 @@
 -- What is sent of a spelling, piece after piece.
-use Rattle.std.proofs.Common.{◌≡◌, ℕ, suc, ◌+◌, ◌<◌, ◌≤◌, decimal, arith, List, [], ◌∷◌, ◌++◌, take, drop, length, get_or, map, Vec, Global, Ok, Err, refl, sym, ap, ◌∙◌, subst, append-nil}
+use Rattle.std.proofs.Common.{◌≡◌, ℕ, ◌+◌, ◌<◌, ◌≤◌, decimal, arith, List, [], ◌∷◌, ◌++◌, take, drop, length, get_or, map, Vec, Global, Ok, Err, refl, sym, ap, ◌∙◌, subst, append-nil}
 use Rattle.std.specs.List.{flat_map}
 use Rattle.std.proofs.lemmas.List.{take_more, take-append-drop}
 use Rattle.std.proofs.lemmas.Grind.{flat_map-append}

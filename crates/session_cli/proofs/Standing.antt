@@ -9,7 +9,7 @@ use Rattle.session_cli.specs.declared.fault.Fault.{Fault}
 use Rattle.session_cli.specs.declared.fault.Fault.TheVariants as faults
 use Rattle.session_cli.specs.declared.tally.Tally.{Tally}
 use Rattle.session_cli.specs.declared.status.Status.{Status}
-use Rattle.definitions.specs.Trees.{Ledger}
+use Rattle.definitions.specs.Trees.{Ledger, custom_of}
 use Rattle.session_cli.specs.Lines.{fault_line}
 use Rattle.session_cli.specs.Accepting.{Success, Answer, after}
 use Rattle.wal_outside.specs.Views.{SourceView, StoreView, SinkView}
@@ -119,7 +119,7 @@ goes_on limit script old mid new held told now place next tally counted text sho
       ledger = after stands.ledger c.answer;
       cut = cuts_more stands.items (start script) place item next stands.cut cut;
       run = run_more limit stands.items stands.answers (first_ledger old.files) stands.ledger old mid item c.answer new stands.run (step_of limit stands.ledger mid new text shown line a.result a.printed c);
-      stores = stores_after stands.ledger c.answer mid.files new.files (answer_stands limit c.known text c.answer c.answered) stands.stores c.stored.files;
+      stores = stores_after stands.ledger c.known c.answer mid.files new.files (answer_stands limit c.known text c.answer c.answered) stands.stores c.known_is c.stored.files;
       sent = rw (printed_more limit stands.items stands.answers (first_ledger old.files) stands.ledger old mid item c.answer stands.run)
           (sends_then held told now (printed stands.items stands.answers) (line_of item c.answer) (Ok tt) stands.sent (rw text_is at a.sends));
       counts = counts_more tally counted stands.answers shown a.result a.printed c.answer c.gives stands.counts a.adds;
@@ -143,7 +143,7 @@ stops limit script from to old mid new held told now place next tally counted te
       cut = cuts_more stands.items (start script) place item next stands.cut cut;
       ledger = after stands.ledger c.answer;
       run = run_more limit stands.items stands.answers (first_ledger old.files) stands.ledger old mid item c.answer new stands.run (step_of limit stands.ledger mid new text shown line a.result a.printed c);
-      stores = stores_after stands.ledger c.answer mid.files new.files (answer_stands limit c.known text c.answer c.answered) stands.stores c.stored.files;
+      stores = stores_after stands.ledger c.known c.answer mid.files new.files (answer_stands limit c.known text c.answer c.answered) stands.stores c.known_is c.stored.files;
       mid = told;
       sent = stands.sent;
       fault = fault;
@@ -171,7 +171,7 @@ ends_there limit script from to old now held told place tally state stands end k
 -- a text without terminator is refused, and the store stays
 kept_step : (limit : ℕ) (ledger : Ledger) (store : StoreView) (item : Item) (fault : Fault) → is_store_fault fault ≡ false → IsAnswerOf limit item.ended ledger item.text (Err fault) → Answers limit ledger store item (Err fault) store
 kept_step limit ledger store item fault other answered =
-    let kept : Stored store (Err fault) store = kept_store store fault other in
+    let kept : Stored (custom_of ledger) store (Err fault) store = kept_store (custom_of ledger) store fault other in
     record { known = ledger; known_is = own_ledger store.files ledger; answered = answered; files = kept.files; later = kept.later; cause = kept.cause; failed = kept.failed }
 
 pub open_step : (limit : ℕ) (ledger : Ledger) (store : StoreView) (text : List ℕ) (line at : ℕ) → length text ≤ 65536 → at ≡ length text

@@ -1,6 +1,7 @@
 -- What is given by the files that a command finds, from its parts.
-use Rattle.std.proofs.Common.{◌≡◌, Bool, false, Option, None, Some, IfSome, Result, Ok, Err, refl, arith}
+use Rattle.std.proofs.Common.{◌≡◌, ℕ, ◌≤◌, Bool, false, Option, None, Some, IfSome, Result, Ok, Err, refl, arith}
 use Rattle.std.specs.Prelude.{⊤}
+use Rattle.wal_outside.specs.Causes.{Rose}
 use Rattle.wal_outside.specs.Files.{Files}
 use Rattle.wal_outside.specs.Places.{Place}
 use Rattle.wal_outside.specs.Views.{StoreView}
@@ -10,19 +11,19 @@ use Rattle.formula_parse.specs.declared.fault.ParseFault.{ParseFault}
 use Rattle.formula_parse.specs.declared.fault.ParseFault.TheVariants as parses
 use Rattle.session_cli.specs.FormulaFaults.{fault_of_formula}
 use Rattle.session_cli.specs.declared.plan.Made.{Made}
-use Rattle.session_cli.specs.declared.plan.Plan.{Plan}
 use Rattle.session_cli.specs.Checks.{Check, Fails}
 use Rattle.session_cli.specs.Accepting.{Success}
-use Rattle.session_cli.specs.Plans.{Makes, Plans}
+use Rattle.session_cli.specs.Plans.{Makes}
 use Rattle.session_cli.specs.Runs.{is_store_fault}
 use Rattle.session_cli.specs.StoreReads.{IsReadFault, HasRead, FromFiles}
+use Rattle.system_files.specs.SystemFiles.{Custom}
 
 -- files that are the store's where it tells them
-found_in : Option Files → Files
+pub found_in : Option Files → Files
 found_in None = λ folder name. None
 found_in (Some files) = files
 
-found_told : (told : Option Files) → IfSome told (λ files. found_in told ≡ files)
+pub found_told : (told : Option Files) → IfSome told (λ files. found_in told ≡ files)
 unfolding found_in
 found_told None = tt
 found_told (Some files) = refl
@@ -49,6 +50,7 @@ kept store (faults.Arity of tracks given) other = refl
 kept store (faults.Clash of one two) other = refl
 kept store (faults.WordGap of spelling) other = refl
 kept store (faults.Plain of) other = refl
+kept store (faults.NotAdmitted of law) other = refl
 
 -- a later fault that is not the store's keeps what was read before
 moved : (old new : StoreView) (f : Fault) → is_store_fault f ≡ false → new.failed ≡ old.failed → IsReadFault f old new
@@ -72,16 +74,30 @@ moved old new (faults.Arity of tracks given) other is = is
 moved old new (faults.Clash of one two) other is = is
 moved old new (faults.WordGap of spelling) other is = is
 moved old new (faults.Plain of) other is = is
+moved old new (faults.NotAdmitted of law) other is = is
 
 -- what is no store fault
 abbrev pub IsOwn : {X : Type 0} → Result X Fault → Type 0
 IsOwn (Ok x) = ⊤
 IsOwn (Err fault) = is_store_fault fault ≡ false
 
+-- the count of faults rises over two parts
+pub rises : (before between after : ℕ) → before ≤ between → Rose between after → Rose before after
+rises before between after later rose = omega (arith, later, rose)
+
+-- nothing is read
+pub read_none : {X : Type 0} (store : StoreView) (r : Result X Fault) → IsOwn r → HasRead store r store
+read_none store (Ok x) own = record { files = refl; later = omega arith; cause = refl }
+read_none store (Err f) own = record { files = refl; later = omega arith; cause = kept store f own }
+
+-- nothing more is read
+pub read_on : {X Y : Type 0} (old new : StoreView) (x : X) (r : Result Y Fault) → IsOwn r → HasRead old (Ok x) new → HasRead old r new
+read_on old new x (Ok y) own first = record { files = first.files; later = first.later; cause = first.cause }
+read_on old new x (Err f) own first = record { files = first.files; later = first.later; cause = moved old new f own first.cause }
+
 -- what is given whatever files are found, where nothing is read
 pub from_none : {X : Type 0} (Gives : Files → Result X Fault → Type 0) (store : StoreView) (r : Result X Fault) → IsOwn r → ((found : Files) → Gives found r) → FromFiles Gives store r store
-from_none Gives store (Ok x) own gives = record { found = found_in store.files; told = found_told store.files; gives = gives (found_in store.files); has_read = record { files = refl; later = omega arith; cause = refl } }
-from_none Gives store (Err f) own gives = record { found = found_in store.files; told = found_told store.files; gives = gives (found_in store.files); has_read = record { files = refl; later = omega arith; cause = kept store f own } }
+from_none Gives store r own gives = record { found = found_in store.files; told = found_told store.files; gives = gives (found_in store.files); has_read = read_none store r own }
 
 -- a part that reads refuses, and so does the whole
 pub from_refused : {X Y : Type 0} (First : Files → Result X Fault → Type 0) (Gives : Files → Result Y Fault → Type 0) (old new : StoreView) (f : Fault) → FromFiles First old (Err f) new → ((found : Files) → First found (Err f) → Gives found (Err f)) → FromFiles Gives old (Err f) new
@@ -89,8 +105,7 @@ from_refused First Gives old new f first so = record { found = first.found; told
 
 -- a part that reads goes on to what reads nothing
 pub from_read : {X Y : Type 0} (First : Files → Result X Fault → Type 0) (Gives : Files → Result Y Fault → Type 0) (old new : StoreView) (x : X) (r : Result Y Fault) → IsOwn r → FromFiles First old (Ok x) new → ((found : Files) → First found (Ok x) → Gives found r) → FromFiles Gives old r new
-from_read First Gives old new x (Ok y) own first so = record { found = first.found; told = first.told; gives = so first.found first.gives; has_read = record { files = first.has_read.files; later = first.has_read.later; cause = first.has_read.cause } }
-from_read First Gives old new x (Err f) own first so = record { found = first.found; told = first.told; gives = so first.found first.gives; has_read = record { files = first.has_read.files; later = first.has_read.later; cause = moved old new f own first.has_read.cause } }
+from_read First Gives old new x r own first so = record { found = first.found; told = first.told; gives = so first.found first.gives; has_read = read_on old new x r own first.has_read }
 
 -- what is given by a part is given by the whole
 pub from_part : {X : Type 0} (First : Files → Result X Fault → Type 0) (Gives : Files → Result X Fault → Type 0) (old new : StoreView) (r : Result X Fault) → FromFiles First old r new → ((found : Files) → First found r → Gives found r) → FromFiles Gives old r new
@@ -118,14 +133,11 @@ own_fault check none (faults.Arity of tracks given) refused = refl
 own_fault check none (faults.Clash of one two) refused = refl
 own_fault check none (faults.WordGap of spelling) refused = refl
 own_fault check none (faults.Plain of) refused = refl
+own_fault check none (faults.NotAdmitted of law) refused = refl
 
-pub own_made : (checks : Check Success) → ((place : Place) → checks.reads place → ⊥) → (shown : Bool) (r : Result Made Fault) → Makes checks shown r → IsOwn r
-own_made checks none shown (Ok made) makes = tt
-own_made checks none shown (Err f) refused = own_fault checks none f refused
-
-pub own_plan : (checks : Check Success) → ((place : Place) → checks.reads place → ⊥) → (shown : Bool) (r : Result Plan Fault) → Plans checks shown r → IsOwn r
-own_plan checks none shown (Ok plan) plans = tt
-own_plan checks none shown (Err f) refused = own_fault checks none f refused
+pub own_made : (custom : Custom) (checks : Check Success) → ((place : Place) → checks.reads place → ⊥) → (shown : Bool) (r : Result Made Fault) → Makes custom checks shown r → IsOwn r
+own_made custom checks none shown (Ok made) makes = tt
+own_made custom checks none shown (Err f) refused = own_fault checks none f refused
 
 -- a fault of a formula's text is none of the store
 pub own_parse : (fault : ParseFault) → is_store_fault (fault_of_formula fault) ≡ false

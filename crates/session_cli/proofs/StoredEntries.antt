@@ -1,5 +1,5 @@
--- What an accepted command makes may stand in its folder: no expression and no formula stands among words.
-use Rattle.std.proofs.Common.{◌≡◌, ◌≢◌, ℕ, Bool, true, false, ◌&&◌, eqb, List, Ok, Err, bytes_eq, sym, subst}
+-- What an accepted command makes may stand in its folder, which is not that of users' systems: no expression and no formula stands among words.
+use Rattle.std.proofs.Common.{◌≡◌, ◌≢◌, ℕ, true, eqb, List, Ok, Err, bytes_eq, sym, subst}
 use Rattle.std.proofs.lemmas.Bool.{and_parts}
 use Rattle.wal_outside.specs.Files.{same_file}
 use Rattle.wal_outside.specs.Folders.{folder_index}
@@ -14,24 +14,24 @@ use Rattle.session_cli.specs.Outcomes.{checks_of, checks_by, word_text}
 use Rattle.session_cli.specs.RegOutcomes.{reg_checks}
 use Rattle.session_cli.specs.Runs.{IsAnswer}
 
--- the entry of an accepted command may stand in its folder
+-- the entry of an accepted command may stand in its folder, and defines no system
 abbrev pub Stands : Success → Type 0
-Stands success = MayStandIn success.folder (tree_of success.entry)
+Stands success = (success.folder ≢ Bases) × MayStandIn success.folder (tree_of success.entry)
 
 abbrev pub MayStore : Answer → Type 0
 MayStore (Ok success) = Stands success
 MayStore (Err fault) = Unit {0}
 
 reg_stands : (limit : ℕ) (ledger : Ledger) (text : List ℕ) (success : Success) → (reg_checks limit ledger text).answers (Ok success) → Stands success
-reg_stands limit ledger text success (head, h, (tracks, t, (pattern, p, (lines, l, (is, fits))))) = subst Stands (sym is) (λ same. cc)
+reg_stands limit ledger text success (head, h, (admitted, a, (tracks, t, (pattern, p, (lines, l, (is, fits)))))) = subst Stands (sym is) ((λ same. cc), ((λ same. cc), (λ same. cc)))
 
-formula_stands : (word : List ℕ) (folder : Folder) (limit : ℕ) (ledger : Ledger) (text : List ℕ) (success : Success) → folder ≢ Words → (formula_checks word folder limit ledger text).answers (Ok success) → Stands success
-formula_stands word folder limit ledger text success apart (head, h, (formula, f, (tables, t, (known, k, (resolved, r, (lines, b, (variables, v, (verdict, d, (is, fits))))))))) = subst Stands (sym is) apart
+formula_stands : (word : List ℕ) (folder : Folder) (limit : ℕ) (ledger : Ledger) (text : List ℕ) (success : Success) → folder ≢ Words → folder ≢ Bases → (formula_checks word folder limit ledger text).answers (Ok success) → Stands success
+formula_stands word folder limit ledger text success no_word no_base (head, h, (formula, f, (tables, t, (admitted, a, (resolved, r, (lines, b, (variables, v, (verdict, d, (is, fits))))))))) = subst Stands (sym is) (no_base, (no_word, no_base))
 
 by_word : (word : CommandWord) (limit : ℕ) (ledger : Ledger) (text : List ℕ) (success : Success) → (checks_by word limit ledger text).answers (Ok success) → Stands success
 by_word words.Reg limit ledger text success is = reg_stands limit ledger text success is
-by_word words.Eval limit ledger text success is = formula_stands (word_text words.Eval) Results limit ledger text success (λ same. cc) is
-by_word words.Def limit ledger text success is = formula_stands (word_text words.Def) Automata limit ledger text success (λ same. cc) is
+by_word words.Eval limit ledger text success is = formula_stands (word_text words.Eval) Results limit ledger text success (λ same. cc) (λ same. cc) is
+by_word words.Def limit ledger text success is = formula_stands (word_text words.Def) Automata limit ledger text success (λ same. cc) (λ same. cc) is
 
 pub answer_stands : (limit : ℕ) (ledger : Ledger) (text : List ℕ) (answer : Answer) → IsAnswer (checks_of limit ledger text) answer → MayStore answer
 answer_stands limit ledger text (Ok success) (short, s, (word, w, is)) = by_word word limit ledger text success is
@@ -46,12 +46,27 @@ words_there Morphisms same = absurd (cc)
 words_there Results same = absurd (cc)
 words_there Commands same = absurd (cc)
 
+bases_there : (at : Folder) → eqb (folder_index at) (folder_index Bases) ≡ true → at ≡ Bases
+bases_there Automata same = absurd (cc)
+bases_there Words same = absurd (cc)
+bases_there Bases same = λ i. Bases
+bases_there Macros same = absurd (cc)
+bases_there Morphisms same = absurd (cc)
+bases_there Results same = absurd (cc)
+bases_there Commands same = absurd (cc)
+
 -- so it may under the same place
 pub stands_there : (at folder : Folder) (under name : List ℕ) (tree : Tree) → same_file at under folder name ≡ true → MayStandIn at tree → MayStandIn folder tree
 stands_there at folder under name tree same may = by tree may
   where
-    apart : at ≢ Words → folder ≢ Words
-    apart other = λ is. other (words_there at (subst (λ (g : Folder). eqb (folder_index at) (folder_index g) ≡ true) is (and_parts (eqb (folder_index at) (folder_index folder)) (bytes_eq under name) same).0))
+    one : eqb (folder_index at) (folder_index folder) ≡ true
+    one = (and_parts (eqb (folder_index at) (folder_index folder)) (bytes_eq under name) same).0
+
+    moved : (g : Folder) → folder ≡ g → eqb (folder_index at) (folder_index g) ≡ true
+    moved g is = subst (λ (f : Folder). eqb (folder_index at) (folder_index f) ≡ true) is one
+
+    apart : (at ≢ Words) × (at ≢ Bases) → (folder ≢ Words) × (folder ≢ Bases)
+    apart other = ((λ is. other.0 (words_there at (moved Words is))), (λ is. other.1 (bases_there at (moved Bases is))))
 
     by : (t : Tree) → MayStandIn at t → MayStandIn folder t
     by (File bytes) stands = tt

@@ -22,7 +22,7 @@ use Rattle.formula_build.specs.Libraries.{NamedRelation, NamedWord, NamedSystem,
 use Rattle.formula_build.specs.Resolved.{plan_headers}
 use Rattle.formula_build.specs.Solutions.{way_named}
 use Rattle.formula_build.specs.TrackSystems.{IsOverSystems, IsWordOverSystems, Fits}
-use Rattle.definitions.specs.Named.{Custom}
+use Rattle.system_files.specs.SystemFiles.{Custom}
 use Rattle.definitions.specs.TableLaws.{IsRelationOfTable, TablesHold}
 use Rattle.session_cli.specs.FormulaSteps.{AreMeant}
 use Rattle.session_cli.specs.TableReads.{TableRead, ARelation, AWord, relations_in, words_in, library_with, AreSystemsUnder, IsRelationRead, IsWordRead, IsTableRead, AreTablesRead}

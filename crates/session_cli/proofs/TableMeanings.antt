@@ -18,29 +18,29 @@ use Rattle.formula_truth.proofs.MeaningLemmas.{MeanTheSame}
 use Rattle.formula_build.specs.Libraries.{NamedRelation, NamedWord, NamedSystem, AreSealed, relation_named, word_named, meanings_of}
 use Rattle.definitions.specs.Laws.{TextsMeanTheirTrees, WordTextsMeanTheirTrees}
 use Rattle.definitions.specs.TableLaws.{TablesHold}
-use Rattle.definitions.specs.Texts.{HasTreeText}
+use Rattle.definitions.specs.Texts.{HasTreeText, HasText, HasTextIn, HasTextAt, Stores}
 use Rattle.definitions.specs.TreeMeanings.{tree_holds, bound_holds, tree_letter, bound_letter, meanings_in}
-use Rattle.definitions.specs.Trees.{Tree, Entry, Bytes, Defined, Ledger, Bindings, unbound, tree_of, bindings_of}
+use Rattle.definitions.specs.Trees.{Tree, Entry, Bytes, Defined, Ledger, Bindings, unbound, tree_of, bindings_of, custom_of}
 use Rattle.definitions.specs.WordLaws.{WordsHaveFileLetters}
+use Rattle.system_files.specs.SystemFiles.{Custom}
 use Rattle.session_cli.specs.FormulaSteps.{AreMeant}
 use Rattle.session_cli.specs.TableReads.{TableRead, ARelation, AWord, relations_in, words_in, library_with, IsTableRead, IsRelationRead, IsWordRead, AreTablesRead}
 use Rattle.session_cli.specs.TableReading.{IsReadable, AreReadable}
-use Rattle.session_cli.specs.Texts.{no_custom, HasText, HasTextIn, HasTextAt, Stores}
 use Rattle.session_cli.proofs.BoundFiles.{file_of, AreMeantAs, AreUnlike, are_unlike, bound_there, bound_back}
 use Rattle.session_cli.proofs.TableRelations.{relation_holds}
 use Rattle.session_cli.proofs.TableWords.{word_letters}
 
 -- the text of an entry is that of its definition
-tree_text : (entry : Entry) (text : List ℕ) → HasText entry text → HasTreeText no_custom (tree_of entry) text
-tree_text (Bytes bytes) text has = has
-tree_text (Defined tree) text has = has
+tree_text : (custom : Custom) (entry : Entry) (text : List ℕ) → HasText custom entry text → HasTreeText custom (tree_of entry) text
+tree_text custom (Bytes bytes) text has = has
+tree_text custom (Defined tree) text has = has
 
 -- where there is a text there is an entry
-entry_there : (folder : Folder) (entry : Option Entry) (text : Option (List ℕ)) (bytes : List ℕ) → HasTextAt folder entry text → text ≡ Some bytes → (e : Entry) × (entry ≡ Some e) × HasTextIn folder e bytes
-entry_there folder None None bytes has is = absurd (none-some bytes is)
-entry_there folder None (Some text) bytes has is = absurd has
-entry_there folder (Some e) None bytes has is = absurd has
-entry_there folder (Some e) (Some text) bytes has is = (e, refl, subst (HasTextIn folder e) same has)
+entry_there : (custom : Custom) (folder : Folder) (entry : Option Entry) (text : Option (List ℕ)) (bytes : List ℕ) → HasTextAt custom folder entry text → text ≡ Some bytes → (e : Entry) × (entry ≡ Some e) × HasTextIn custom folder e bytes
+entry_there custom folder None None bytes has is = absurd (none-some bytes is)
+entry_there custom folder None (Some text) bytes has is = absurd has
+entry_there custom folder (Some e) None bytes has is = absurd has
+entry_there custom folder (Some e) (Some text) bytes has is = (e, refl, subst (HasTextIn custom folder e) same has)
   where
     same : text ≡ bytes
     same = cc
@@ -49,13 +49,13 @@ entry_there folder (Some e) (Some text) bytes has is = (e, refl, subst (HasTextI
 pub record HoldsAs (ledger : Ledger) (name : List ℕ) (r : RelationValue) : Type 0 where
   pub entry : Entry
   pub there : ledger Automata name ≡ Some entry
-  pub same : (ns : List ℕ) → RelationHolds r ns ↔ tree_holds no_custom (tree_of entry) ns
+  pub same : (ns : List ℕ) → RelationHolds r ns ↔ tree_holds (custom_of ledger) (tree_of entry) ns
 
 -- what stands under the name has the letters that the word has
 pub record HasLettersAs (ledger : Ledger) (name : List ℕ) (w : WordValue) : Type 0 where
   pub entry : Entry
   pub there : ledger Words name ≡ Some entry
-  pub same : (ns : List ℕ) (letter : ℤ) → HasLetter w ns letter ↔ tree_letter no_custom (tree_of entry) ns letter
+  pub same : (ns : List ℕ) (letter : ℤ) → HasLetter w ns letter ↔ tree_letter (custom_of ledger) (tree_of entry) ns letter
 
 -- what was read means the same as what the ledger has under its name
 abbrev pub MeansAs : Ledger → TableRead → Type 0
@@ -72,10 +72,10 @@ words_same m n same = cc
 module _ (ledger : Ledger) (name ns : List ℕ) where
   -- the numbers of which an automaton's name holds by these bindings
   abbrev IsBoundTo : Bindings → Type 0
-  IsBoundTo bindings = bound_holds no_custom bindings Automata name ns
+  IsBoundTo bindings = bound_holds (custom_of ledger) bindings Automata name ns
 
   abbrev TreeHolds : Tree → Type 0
-  TreeHolds tree = tree_holds no_custom tree ns
+  TreeHolds tree = tree_holds (custom_of ledger) tree ns
 
   -- the numbers of which the relation of this name holds
   abbrev NamedHolds : List TableRead → Type 0
@@ -123,10 +123,10 @@ module _ (ledger : Ledger) (name ns : List ℕ) where
 module _ (ledger : Ledger) (name ns : List ℕ) (letter : ℤ) where
   -- the letter that a word's name has by these bindings
   abbrev IsLettered : Bindings → Type 0
-  IsLettered bindings = bound_letter no_custom bindings Words name ns letter
+  IsLettered bindings = bound_letter (custom_of ledger) bindings Words name ns letter
 
   abbrev TreeLetter : Tree → Type 0
-  TreeLetter tree = tree_letter no_custom tree ns letter
+  TreeLetter tree = tree_letter (custom_of ledger) tree ns letter
 
   -- the letter of the word of this name
   abbrev NamedLetter : List TableRead → Type 0
@@ -178,24 +178,24 @@ pub record MeaningLaws : Type 0 where
   pub tables : TablesHold
   pub letters : WordsHaveFileLetters
 
-module _ (laws : MeaningLaws) (ledger : Ledger) (files : Files) (systems : List NamedSystem) (stores : Stores ledger files) (sealed : AreSealed systems) (are : AreMeant no_custom systems) where
+module _ (laws : MeaningLaws) (ledger : Ledger) (files : Files) (systems : List NamedSystem) (stores : Stores ledger files) (sealed : AreSealed systems) (are : AreMeant (custom_of ledger) systems) where
   -- a relation that is read of a table holds as what the ledger has under the table's name
   table_holds_as : (table : Loaded) (old new : StepLog) (r : NamedRelation) → IsListedBy files (Automaton r.name) table → IsReadable systems table → IsRelationRead systems old table r new → HoldsAs ledger r.name r.relation
   table_holds_as table old new r listed readable read =
-      let found = entry_there Automata (ledger Automata r.name) (files Automata r.name) listed.text (stores Automata r.name) listed.there in
-      let holds : (ns : List ℕ) → RelationHolds r.relation ns ↔ tree_holds no_custom (tree_of found.0) ns = λ ns.
-      let file = relation_holds laws.tables systems sealed are old new table r listed.text listed.lists.lists readable read ns in
-      let tree = laws.texts no_custom (tree_of found.0) listed.text (tree_text found.0 listed.text found.2.1) ns in
+      let found = entry_there (custom_of ledger) Automata (ledger Automata r.name) (files Automata r.name) listed.text (stores Automata r.name) listed.there in
+      let holds : (ns : List ℕ) → RelationHolds r.relation ns ↔ tree_holds (custom_of ledger) (tree_of found.0) ns = λ ns.
+      let file = relation_holds laws.tables (custom_of ledger) systems sealed are old new table r listed.text listed.lists.lists readable read ns in
+      let tree = laws.texts (custom_of ledger) (tree_of found.0) listed.text (tree_text (custom_of ledger) found.0 listed.text found.2.1) ns in
       ((λ h. tree.0 (file.0 h)), (λ h. file.1 (tree.1 h))) in
       record { entry = found.0; there = found.1; same = holds }
 
   -- a word that is read of a table has the letters of what the ledger has under the table's name
   word_letters_as : (table : Loaded) (old new : StepLog) (w : NamedWord) → IsListedBy files (Word w.name) table → IsReadable systems table → IsWordRead systems old table w new → HasLettersAs ledger w.name w.word
   word_letters_as table old new w listed readable read =
-      let found = entry_there Words (ledger Words w.name) (files Words w.name) listed.text (stores Words w.name) listed.there in
-      let letters : (ns : List ℕ) (letter : ℤ) → HasLetter w.word ns letter ↔ tree_letter no_custom (tree_of found.0) ns letter = λ ns letter.
-      let file = word_letters systems sealed old new table w readable read are laws.letters listed.text listed.lists.lists ns letter in
-      let tree = laws.words no_custom (tree_of found.0) listed.text found.2.0 (tree_text found.0 listed.text found.2.1) ns letter in
+      let found = entry_there (custom_of ledger) Words (ledger Words w.name) (files Words w.name) listed.text (stores Words w.name) listed.there in
+      let letters : (ns : List ℕ) (letter : ℤ) → HasLetter w.word ns letter ↔ tree_letter (custom_of ledger) (tree_of found.0) ns letter = λ ns letter.
+      let file = word_letters systems sealed old new table w readable read (custom_of ledger) are laws.letters listed.text listed.lists.lists ns letter in
+      let tree = laws.words (custom_of ledger) (tree_of found.0) listed.text found.2.0 (tree_text (custom_of ledger) found.0 listed.text found.2.1) ns letter in
       ((λ h. tree.0 (file.0 h)), (λ h. file.1 (tree.1 h))) in
       record { entry = found.0; there = found.1; same = letters }
 
@@ -220,7 +220,7 @@ module _ (laws : MeaningLaws) (ledger : Ledger) (files : Files) (systems : List 
 
   -- so names mean the same in the library of what is read and by the bindings of the files
   pub tables_mean_the_same : (named : List File) (tables : List Loaded) (reads : List TableRead) (old new : StepLog) → IsOnce named
-      → AreListedBy files named tables → AreReadable systems tables → AreTablesRead systems old tables reads new → MeanTheSame (meanings_of (library_with reads systems)) (meanings_in no_custom (bindings_of ledger named))
+      → AreListedBy files named tables → AreReadable systems tables → AreTablesRead systems old tables reads new → MeanTheSame (meanings_of (library_with reads systems)) (meanings_in (custom_of ledger) (bindings_of ledger named))
   tables_mean_the_same named tables reads old new once listed readable made =
       let apart : AreUnlike named = are_unlike named once in
       let like : AreMeantAs (MeansAs ledger) named reads = tables_mean_as named tables reads old new listed readable made in

@@ -13,7 +13,7 @@ use Rattle.numeration.specs.Systems.{System}
 use Rattle.num_system.specs.Sealed.{SystemValue, IsSealed, system_of}
 use Rattle.num_system.specs.Tracks as relations
 use Rattle.num_system.specs.Tracks.{HaveOneWay, way_of}
-use Rattle.number_relations.specs.Relations.{RelationValue, RelationHolds}
+use Rattle.number_relations.specs.Relations.{RelationHolds}
 use Rattle.formula_build.specs.Libraries.{NamedRelation, NamedSystem, AreSealed, system_named}
 use Rattle.definitions.specs.Tracks as tracks
 use Rattle.definitions.specs.Tracks.{names_of, systems_of}
@@ -21,10 +21,10 @@ use Rattle.definitions.specs.Named.{AreNamed, IsSystemNamed}
 use Rattle.definitions.specs.Files.{HasListedWord, HoldsUnder, HoldsBelow, ListedHolds, FileHolds}
 use Rattle.definitions.specs.TableLaws.{AreTableSystems, IsRelationOfTable, TablesHold}
 use Rattle.definitions.specs.TableSteps.{AreForTracks, HoldsBelowOver, ListedHoldsOver}
+use Rattle.system_files.specs.SystemFiles.{Custom}
 use Rattle.session_cli.specs.FormulaSteps.{AreMeant}
 use Rattle.session_cli.specs.TableReads.{AreSystemsUnder, IsRelationRead}
 use Rattle.session_cli.specs.TableReading.{IsReadable}
-use Rattle.session_cli.specs.Texts.{no_custom}
 use Rattle.session_cli.proofs.HeaderLines.{listed_some}
 use Rattle.session_cli.proofs.MeantNames.{found_meant}
 use Rattle.definitions.proofs.NameLemmas.{one_meaning}
@@ -90,7 +90,7 @@ with_names [] found = []
 with_names (name ∷ names) [] = []
 with_names (name ∷ names) (s ∷ found) = record { name = name; system = system_of s } ∷ with_names names found
 
-module _ (systems : List NamedSystem) (are : AreMeant no_custom systems) where
+module _ (custom : Custom) (systems : List NamedSystem) (are : AreMeant custom systems) where
   pub names_with : (names : List (List ℕ)) (found : List SystemValue) → AreUnder systems names found → names ≡ names_of (with_names names found)
   names_with [] found under = refl
   names_with (name ∷ names) [] under = absurd under
@@ -102,14 +102,14 @@ module _ (systems : List NamedSystem) (are : AreMeant no_custom systems) where
   systems_with (name ∷ names) [] under = absurd under
   systems_with (name ∷ names) (s ∷ found) under = ap (λ (ss : List System). system_of s ∷ ss) (systems_with names found under.1)
 
-  pub named_with : (way : Direction) (names : List (List ℕ)) (found : List SystemValue) → AllByRecursion (λ (s : SystemValue). s.way ≡ way) found → AreUnder systems names found → AreNamed no_custom way (with_names names found)
+  pub named_with : (way : Direction) (names : List (List ℕ)) (found : List SystemValue) → AllByRecursion (λ (s : SystemValue). s.way ≡ way) found → AreUnder systems names found → AreNamed custom way (with_names names found)
   named_with way [] found ways under = tt
   named_with way (name ∷ names) [] ways under = absurd under
   named_with way (name ∷ names) (s ∷ found) ways under =
-      (subst (λ (w : Direction). IsSystemNamed no_custom name w (system_of s)) ways.0 (found_meant no_custom systems name s are under.0), named_with way names found ways.1 under.1)
+      (subst (λ (w : Direction). IsSystemNamed custom name w (system_of s)) ways.0 (found_meant custom systems name s are under.0), named_with way names found ways.1 under.1)
 
   -- what holds over the systems holds under their names
-  named_holds : (names : List (List ℕ)) (found : List SystemValue) (listed : Listed) (ns : List ℕ) → AreUnder systems names found → HaveOneWay found → HasListedWord (way_of found) (relations.systems_of found) listed ns → HoldsUnder no_custom names listed ns
+  named_holds : (names : List (List ℕ)) (found : List SystemValue) (listed : Listed) (ns : List ℕ) → AreUnder systems names found → HaveOneWay found → HasListedWord (way_of found) (relations.systems_of found) listed ns → HoldsUnder custom names listed ns
   named_holds names found listed ns under one word = record {
     way = way_of found;
     named = with_names names found;
@@ -119,22 +119,22 @@ module _ (systems : List NamedSystem) (are : AreMeant no_custom systems) where
   }
 
   -- systems that names mean are those that are found under them
-  same_systems : (way : Direction) (named : List tracks.NamedSystem) (found : List SystemValue) → AreNamed no_custom way named → AreUnder systems (names_of named) found → systems_of named ≡ relations.systems_of found
+  same_systems : (way : Direction) (named : List tracks.NamedSystem) (found : List SystemValue) → AreNamed custom way named → AreUnder systems (names_of named) found → systems_of named ≡ relations.systems_of found
   same_systems way [] [] means under = refl
   same_systems way [] (s ∷ found) means under = absurd under
   same_systems way (x ∷ named) [] means under = absurd under
   same_systems way (x ∷ named) (s ∷ found) means under =
-      let first : x.system ≡ system_of s = (one_meaning no_custom x.name way s.way x.system (system_of s) means.0 (found_meant no_custom systems x.name s are under.0)).1 in
+      let first : x.system ≡ system_of s = (one_meaning custom x.name way s.way x.system (system_of s) means.0 (found_meant custom systems x.name s are under.0)).1 in
       let rest : systems_of named ≡ relations.systems_of found = same_systems way named found means.1 under.1 in
       λ i. first i ∷ rest i
 
-  same_way : (way : Direction) (named : List tracks.NamedSystem) (found : List SystemValue) → 0 < length (names_of named) → AreNamed no_custom way named → AreUnder systems (names_of named) found → way ≡ way_of found
+  same_way : (way : Direction) (named : List tracks.NamedSystem) (found : List SystemValue) → 0 < length (names_of named) → AreNamed custom way named → AreUnder systems (names_of named) found → way ≡ way_of found
   same_way way [] found some means under = absurd (omega (arith, some))
   same_way way (x ∷ named) [] some means under = absurd under
-  same_way way (x ∷ named) (s ∷ found) some means under = (one_meaning no_custom x.name way s.way x.system (system_of s) means.0 (found_meant no_custom systems x.name s are under.0)).0
+  same_way way (x ∷ named) (s ∷ found) some means under = (one_meaning custom x.name way s.way x.system (system_of s) means.0 (found_meant custom systems x.name s are under.0)).0
 
   -- and what holds under the names holds over the systems
-  found_holds : (names : List (List ℕ)) (found : List SystemValue) (listed : Listed) (ns : List ℕ) → 0 < length names → AreUnder systems names found → HoldsUnder no_custom names listed ns → HasListedWord (way_of found) (relations.systems_of found) listed ns
+  found_holds : (names : List (List ℕ)) (found : List SystemValue) (listed : Listed) (ns : List ℕ) → 0 < length names → AreUnder systems names found → HoldsUnder custom names listed ns → HasListedWord (way_of found) (relations.systems_of found) listed ns
   found_holds names found listed ns some under holds =
       let own : AreUnder systems (names_of holds.named) found = subst (λ (xs : List (List ℕ)). AreUnder systems xs found) holds.names_are under in
       let one : way_of found ≡ holds.way = sym (same_way holds.way holds.named found (subst (λ (xs : List (List ℕ)). 0 < length xs) holds.names_are some) holds.are own) in
@@ -142,22 +142,22 @@ module _ (systems : List NamedSystem) (are : AreMeant no_custom systems) where
       (subst (λ (ss : List System). HasListedWord holds.way ss listed ns) (same_systems holds.way holds.named found holds.are own) holds.word)
 
   -- what is listed holds of the same numbers by the names of its header and over the systems under these
-  listed_same : (listed : Listed) (found : List SystemValue) (ns : List ℕ) → ((names : List (List ℕ)) → listed.header ≡ Systems names → 0 < length names) → AreSystemsUnder systems listed.header found → HaveOneWay found → ListedHolds no_custom listed ns ↔ ListedHoldsOver found listed ns
+  listed_same : (listed : Listed) (found : List SystemValue) (ns : List ℕ) → ((names : List (List ℕ)) → listed.header ≡ Systems names → 0 < length names) → AreSystemsUnder systems listed.header found → HaveOneWay found → ListedHolds custom listed ns ↔ ListedHoldsOver found listed ns
   listed_same listed found ns some under one = by listed.header refl under
     where
-      by : (header : Header) → listed.header ≡ header → AreSystemsUnder systems header found → HoldsBelow no_custom header listed ns ↔ HoldsBelowOver header found listed ns
+      by : (header : Header) → listed.header ≡ header → AreSystemsUnder systems header found → HoldsBelow custom header listed ns ↔ HoldsBelowOver header found listed ns
       by (Truth value) is over = ((λ h. h), (λ h. h))
       by (Systems names) is over = (found_holds names found listed ns (some names is) over, named_holds names found listed ns over one)
       by (Sets sets) is over = absurd over
 
 -- a text holds as what it lists
-file_same : (text : List ℕ) (listed : Listed) (ns : List ℕ) → relation_of text ≡ Ok listed → FileHolds no_custom text ns ↔ ListedHolds no_custom listed ns
-file_same text listed ns lists = (there, λ holds. (listed, lists, holds))
+file_same : (custom : Custom) (text : List ℕ) (listed : Listed) (ns : List ℕ) → relation_of text ≡ Ok listed → FileHolds custom text ns ↔ ListedHolds custom listed ns
+file_same custom text listed ns lists = (there, λ holds. (listed, lists, holds))
   where
-    there : FileHolds no_custom text ns → ListedHolds no_custom listed ns
+    there : FileHolds custom text ns → ListedHolds custom listed ns
     there (other, also, holds) =
         let same : other ≡ listed = let e : Ok other ≡ Ok listed = sym also ∙ lists in cc in
-        subst (λ (l : Listed). ListedHolds no_custom l ns) same holds
+        subst (λ (l : Listed). ListedHolds custom l ns) same holds
 
 -- the systems of a readable table have one direction
 pub read_one_way : (systems : List NamedSystem) (table : Loaded) (found : List SystemValue) → IsReadable systems table → AreSystemsUnder systems table.listed.header found → HaveOneWay found
@@ -171,11 +171,11 @@ relation_of_table hold systems sealed old new table r readable read =
     hold old.limit read.tracks table.listed r.relation read.done.lines over read.done.steps
 
 -- it holds of the numbers of which the text does that lists the table
-pub relation_holds : TablesHold → (systems : List NamedSystem) → AreSealed systems → AreMeant no_custom systems → (old new : StepLog) (table : Loaded) (r : NamedRelation) (text : List ℕ) → relation_of text ≡ Ok table.listed
-    → IsReadable systems table → IsRelationRead systems old table r new → (ns : List ℕ) → RelationHolds r.relation ns ↔ FileHolds no_custom text ns
-relation_holds hold systems sealed are old new table r text lists readable read ns =
+pub relation_holds : TablesHold → (custom : Custom) (systems : List NamedSystem) → AreSealed systems → AreMeant custom systems → (old new : StepLog) (table : Loaded) (r : NamedRelation) (text : List ℕ) → relation_of text ≡ Ok table.listed
+    → IsReadable systems table → IsRelationRead systems old table r new → (ns : List ℕ) → RelationHolds r.relation ns ↔ FileHolds custom text ns
+relation_holds hold custom systems sealed are old new table r text lists readable read ns =
     let one : HaveOneWay read.tracks = read_one_way systems table read.tracks readable read.over in
     let made : IsRelationOfTable read.tracks table.listed r.relation = relation_of_table hold systems sealed old new table r readable read in
-    let names : ListedHolds no_custom table.listed ns ↔ ListedHoldsOver read.tracks table.listed ns = listed_same systems are table.listed read.tracks ns (λ names is. listed_some text table.listed names lists is) read.over one in
-    let file : FileHolds no_custom text ns ↔ ListedHolds no_custom table.listed ns = file_same text table.listed ns lists in
+    let names : ListedHolds custom table.listed ns ↔ ListedHoldsOver read.tracks table.listed ns = listed_same custom systems are table.listed read.tracks ns (λ names is. listed_some text table.listed names lists is) read.over one in
+    let file : FileHolds custom text ns ↔ ListedHolds custom table.listed ns = file_same custom text table.listed ns lists in
     ((λ holds. file.1 (names.1 ((made.holds ns).0 holds))), (λ holds. (made.holds ns).1 (names.0 (file.0 holds))))

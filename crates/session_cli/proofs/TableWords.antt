@@ -1,5 +1,5 @@
 -- The word that is read of a table has the letters of the table's file.
-use Rattle.std.proofs.Common.{◌≡◌, ◌↔◌, ℕ, ◌<◌, ℤ, List, length, Ok, sym, ◌∙◌, subst, arith}
+use Rattle.std.proofs.Common.{◌≡◌, ◌↔◌, ℕ, ◌<◌, ℤ, List, length, Ok, sym, subst, arith}
 use Rattle.digit_tuple.specs.Steps.{StepLog}
 use Rattle.dfa_reading.specs.Headers.{Header}
 use Rattle.dfa_reading.specs.WordFiles.{word_of, IsWordListed}
@@ -12,10 +12,10 @@ use Rattle.word_output.proofs.WordSteps.{word_is}
 use Rattle.formula_build.specs.Libraries.{NamedWord, NamedSystem, AreSealed}
 use Rattle.definitions.specs.WordFiles.{FileLetter}
 use Rattle.definitions.specs.WordLaws.{NamesMean, WordsHaveFileLetters}
+use Rattle.system_files.specs.SystemFiles.{Custom}
 use Rattle.session_cli.specs.FormulaSteps.{AreMeant}
 use Rattle.session_cli.specs.TableReads.{AreSystemsUnder, IsWordRead}
 use Rattle.session_cli.specs.TableReading.{IsReadable}
-use Rattle.session_cli.specs.Texts.{no_custom}
 use Rattle.session_cli.proofs.TableRelations.{AreUnder, as_many_under, below_sealed, read_one_way, with_names, names_with, systems_with, named_with}
 
 module _ (systems : List NamedSystem) (sealed : AreSealed systems) (old new : StepLog) (table : Loaded) (w : NamedWord) (readable : IsReadable systems table) (read : IsWordRead systems old table w new) where
@@ -39,19 +39,19 @@ module _ (systems : List NamedSystem) (sealed : AreSealed systems) (old new : St
       let same : own ≡ w.word = λ i. record { systems = sym read.done.systems_are i; function = w.word.function } in
       subst IsWordValue same is
 
-  module _ (are : AreMeant no_custom systems) where
-    mean : NamesMean no_custom listed.names read.tracks
+  module _ (custom : Custom) (are : AreMeant custom systems) where
+    mean : NamesMean custom listed.names read.tracks
     mean = record {
       named = with_names listed.names read.tracks;
-      names_are = names_with systems are listed.names read.tracks under;
-      are = named_with systems are (way_of read.tracks) listed.names read.tracks one under;
-      systems_are = systems_with systems are listed.names read.tracks under;
+      names_are = names_with custom systems are listed.names read.tracks under;
+      are = named_with custom systems are (way_of read.tracks) listed.names read.tracks one under;
+      systems_are = systems_with custom systems are listed.names read.tracks under;
     }
 
     -- at each place it has the letter of the text that lists the table
-    pub word_letters : WordsHaveFileLetters → (text : List ℕ) → word_of text ≡ Ok table.listed → (ns : List ℕ) (letter : ℤ) → HasLetter w.word ns letter ↔ FileLetter no_custom text ns letter
+    pub word_letters : WordsHaveFileLetters → (text : List ℕ) → word_of text ≡ Ok table.listed → (ns : List ℕ) (letter : ℤ) → HasLetter w.word ns letter ↔ FileLetter custom text ns letter
     word_letters have text lists ns letter =
         let over = sym read.done.systems_are in
-        have no_custom text table.listed listed.names old.limit w.word read.done.lines lists listed.header
-        (subst (NamesMean no_custom listed.names) over mean) word_of_table
+        have custom text table.listed listed.names old.limit w.word read.done.lines lists listed.header
+        (subst (NamesMean custom listed.names) over mean) word_of_table
         (subst (λ (ss : List SystemValue). AreWordSteps old.limit ss table.listed w.word.function read.done.lines) over read.done.steps) ns letter

@@ -7,7 +7,7 @@ use Rattle.session_cli.specs.declared.fault.Fault.TheVariants as faults
 use Rattle.session_cli.specs.declared.plan.Plan.{Plan}
 use Rattle.session_cli.specs.declared.command_word.CommandWord.{CommandWord}
 use Rattle.session_cli.specs.Checks.{Pure, Fails}
-use Rattle.definitions.specs.Trees.{Ledger}
+use Rattle.definitions.specs.Trees.{Ledger, custom_of}
 use Rattle.session_cli.specs.Outcomes.{LengthAnswers, WordAnswers, word_text, checks_by, after_length, checks_of}
 use Rattle.session_cli.specs.FormulaOutcomes.{formula_checks}
 use Rattle.session_cli.specs.Plans.{Plans}
@@ -16,17 +16,17 @@ use Rattle.session_cli.proofs.CheckSteps.{fails_first, fails_after, plans_after}
 
 -- what the checks of a short command of this word give, all its checks give
 pub planned_by_word : (word : CommandWord) (limit : ℕ) (ledger : Ledger) (text : List ℕ) (shown : Bool) (result : Result Plan Fault) → length text ≤ 65536 → first_word_of text ≡ word_text word
-    → Plans (checks_by word limit ledger text) shown result → Plans (checks_of limit ledger text) shown result
+    → Plans (custom_of ledger) (checks_by word limit ledger text) shown result → Plans (custom_of ledger) (checks_of limit ledger text) shown result
 planned_by_word word limit ledger text shown result short is plans =
-    plans_after (Pure (LengthAnswers text)) (λ done. after_length limit ledger text) tt shown result short
-    (plans_after (Pure (WordAnswers text)) (λ w. checks_by w limit ledger text) word shown result is plans)
+    plans_after (custom_of ledger) (Pure (LengthAnswers text)) (λ done. after_length limit ledger text) tt shown result short
+    (plans_after (custom_of ledger) (Pure (WordAnswers text)) (λ w. checks_by w limit ledger text) word shown result is plans)
 
 -- what a formula's command with these parts gives
-pub planned_formula : (word at : List ℕ) (folder to : Folder) (options these : StepOptions) (ledger : Ledger) (text : List ℕ) (result : Result Plan Fault) → word ≡ at → folder ≡ to → options ≡ these → Plans (formula_checks word folder options.limit ledger text) options.shown result
-    → Plans (formula_checks at to these.limit ledger text) these.shown result
+pub planned_formula : (word at : List ℕ) (folder to : Folder) (options these : StepOptions) (ledger : Ledger) (text : List ℕ) (result : Result Plan Fault) → word ≡ at → folder ≡ to → options ≡ these → Plans (custom_of ledger) (formula_checks word folder options.limit ledger text) options.shown result
+    → Plans (custom_of ledger) (formula_checks at to these.limit ledger text) these.shown result
 planned_formula word at folder to options these ledger text result words folders same plans =
-    subst (λ (o : StepOptions). Plans (formula_checks at to o.limit ledger text) o.shown result) same
-    (subst (λ (f : Folder). Plans (formula_checks at f options.limit ledger text) options.shown result) folders (subst (λ (w : List ℕ). Plans (formula_checks w folder options.limit ledger text) options.shown result) words plans))
+    subst (λ (o : StepOptions). Plans (custom_of ledger) (formula_checks at to o.limit ledger text) o.shown result) same
+    (subst (λ (f : Folder). Plans (custom_of ledger) (formula_checks at f options.limit ledger text) options.shown result) folders (subst (λ (w : List ℕ). Plans (custom_of ledger) (formula_checks w folder options.limit ledger text) options.shown result) words plans))
 
 -- a command that is too long, and one whose first word is none
 pub too_long : (limit : ℕ) (ledger : Ledger) (text : List ℕ) → 65536 < length text → Fails (checks_of limit ledger text) (faults.Long 65536)

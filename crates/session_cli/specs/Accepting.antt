@@ -6,7 +6,8 @@ use Rattle.session_cli.specs.declared.fault.Fault.{Fault}
 use Rattle.session_cli.specs.declared.fault.Fault.TheVariants as faults
 use Rattle.session_cli.specs.Checks.{Check, Pure}
 use Rattle.definitions.specs.Trees.{Entry, Ledger, entered}
-use Rattle.session_cli.specs.Texts.{HasText}
+use Rattle.definitions.specs.Texts.{HasText}
+use Rattle.system_files.specs.SystemFiles.{Custom}
 
 -- an accepted command: the entry that it makes, where; the lines of its steps; and the verdict, where it is about a sentence
 pub record Success : Type 0 where
@@ -30,15 +31,15 @@ abbrev pub FitsFile : List ℕ → Type 0
 FitsFile text = length text ≤ 16777216
 
 -- some text of the entry has the property
-abbrev pub SomeText : Entry → (List ℕ → Type 0) → Type 0
-SomeText entry P = (text : List ℕ) × HasText entry text × P text
+abbrev pub SomeText : Custom → Entry → (List ℕ → Type 0) → Type 0
+SomeText custom entry P = (text : List ℕ) × HasText custom entry text × P text
 
 -- whether the text that is to be stored fits
-abbrev pub StoredAnswers : Success → Answer → Type 0
-StoredAnswers made (Ok success) = (success ≡ made) × SomeText made.entry FitsFile
-StoredAnswers made (Err (faults.Long bytes)) = (bytes ≡ 16777216) × SomeText made.entry (λ text. 16777216 < length text)
-StoredAnswers made (Err fault) = ⊥
+abbrev pub StoredAnswers : Custom → Success → Answer → Type 0
+StoredAnswers custom made (Ok success) = (success ≡ made) × SomeText custom made.entry FitsFile
+StoredAnswers custom made (Err (faults.Long bytes)) = (bytes ≡ 16777216) × SomeText custom made.entry (λ text. 16777216 < length text)
+StoredAnswers custom made (Err fault) = ⊥
 
 -- the last check of each command: what it makes is stored, unless its text is too long
-abbrev pub stored : Success → Check Success
-stored made = Pure (StoredAnswers made)
+abbrev pub stored : Custom → Success → Check Success
+stored custom made = Pure (StoredAnswers custom made)

@@ -6,7 +6,8 @@ use Rattle.wal_outside.specs.Files.{Files, put}
 use Rattle.wal_outside.specs.Places.{Place}
 use Rattle.session_cli.specs.declared.fault.Fault.{Fault}
 use Rattle.session_cli.specs.declared.fault.Fault.TheVariants as faults
-use Rattle.definitions.specs.Trees.{Ledger}
+use Rattle.definitions.specs.Trees.{Ledger, custom_of}
+use Rattle.system_files.specs.SystemFiles.{Custom}
 use Rattle.session_cli.specs.Accepting.{Answer}
 use Rattle.session_cli.specs.Outcomes.{checks_of}
 use Rattle.session_cli.specs.Lines.{success_text}
@@ -21,8 +22,8 @@ Gives shown (Err fault) printed (Ok success) = ⊥
 Gives shown (Err fault) printed (Err refusal) = (fault ≡ refusal) × (printed ≡ [])
 
 -- a store before and after an answer
-pub record Stored (old : StoreView) (answer : Answer) (new : StoreView) : Type 0 where
-  pub files : Changes old.files answer new.files
+pub record Stored (custom : Custom) (old : StoreView) (answer : Answer) (new : StoreView) : Type 0 where
+  pub files : Changes custom old.files answer new.files
   pub later : old.faults ≤ new.faults
   pub cause : IsTrue (of_fault is_store_fault answer) → Rose old.faults new.faults
   pub failed : new.failed ≡ failed_after old.failed answer
@@ -34,7 +35,7 @@ pub record Commands (limit : ℕ) (ledger : Ledger) (old : StoreView) (text : Li
   pub known : Ledger
   pub known_is : IsKnownLedger old.files ledger known
   pub answered : IsAnswer (checks_of limit known text) answer
-  pub stored : Stored old answer new
+  pub stored : Stored (custom_of known) old answer new
 
 -- files after a write, where they are told
 abbrev pub WritesFile : Option Files → Place → List ℕ → Result (Unit {0}) Fault → Option Files → Type 0

@@ -3,13 +3,13 @@
 use Rattle.std.specs.Prelude.{◌≡◌, ℕ, Bool, List, [], ◌∷◌, Option, None, Some, Result, Ok, Err, ⊤}
 use Rattle.wal_outside.specs.Places.{Place}
 use Rattle.wal_outside.specs.declared.folder.Folder.{Folder}
-use Rattle.wal_outside.specs.declared.folder.Folder.TheVariants.{Bases}
 use Rattle.wal_outside.specs.Files.{Files}
 use Rattle.dfa_loading.specs.Headers.{headers_of}
 use Rattle.dfa_loading.specs.Loading.{AreListedBy, FirstRefuses, ReadsAt}
 use Rattle.dfa_loading.specs.declared.fault.LoadFault.TheVariants as loads
 use Rattle.dfa_loading.specs.declared.loaded.Loaded.{Loaded}
 use Rattle.digit_tuple.specs.declared.step_fault.StepFault.TheVariants as steps
+use Rattle.digit_tuple.specs.Steps.{StepLog}
 use Rattle.digit_tuple.specs.declared.steps.StepLine.{StepLine}
 use Rattle.command_head.specs.Heads.{NamedHead}
 use Rattle.command_head.specs.Grammar.{SpellsNamed}
@@ -30,11 +30,13 @@ use Rattle.session_cli.specs.declared.fault.Grammar.TheVariants as grammars
 use Rattle.session_cli.specs.declared.fault.Fault.{Fault}
 use Rattle.session_cli.specs.declared.fault.Fault.TheVariants as faults
 use Rattle.session_cli.specs.Checks.{Check, Pure, Then}
-use Rattle.definitions.specs.Trees.{Variable, Formula, Bindings, Defined, Ledger, bindings_of}
-use Rattle.definitions.specs.Named.{Custom, IsSystemNamed, IsKnown, AreKnown, IsFirstWithout}
+use Rattle.definitions.specs.Trees.{Variable, Formula, Bindings, Defined, Ledger, bindings_of, custom_of}
+use Rattle.definitions.specs.Named.{IsSystemNamed}
+use Rattle.definitions.specs.Texts.{Stores}
+use Rattle.system_files.specs.SystemFiles.{Custom}
 use Rattle.definitions.specs.FormulaTexts.{HasVerdict}
 use Rattle.session_cli.specs.FormulaSteps.{AreFormulaSteps, AreStepsRefused, IsLetterMissing}
-use Rattle.session_cli.specs.Texts.{no_custom, Stores}
+use Rattle.session_cli.specs.SystemChecks.{systems_known}
 use Rattle.session_cli.specs.HeadAnswers.{HeadAnswers}
 use Rattle.session_cli.specs.Accepting.{Success, stored}
 
@@ -62,11 +64,9 @@ LoadsAt ledger formula place = (files : Files) × Stores ledger files × ReadsAt
 abbrev pub loaded : Ledger → trees.Formula → Check (List Loaded)
 loaded ledger formula = record { answers = LoadedAnswers ledger formula; reads = LoadsAt ledger formula }
 
--- all systems that the formula mentions are known, or this is the first that is not
-abbrev pub SystemsAnswers : Custom → List Loaded → trees.Formula → Result (Unit {0}) Fault → Type 0
-SystemsAnswers custom tables formula (Ok known) = AreKnown custom (first_systems (headers_of tables) (mentions formula))
-SystemsAnswers custom tables formula (Err (faults.SystemUnknown name)) = IsFirstWithout (IsKnown custom) (first_systems (headers_of tables) (mentions formula)) name
-SystemsAnswers custom tables formula (Err fault) = ⊥
+-- the systems that the formula mentions, those of the tables among them
+abbrev pub mentioned_systems : List Loaded → trees.Formula → List (List ℕ)
+mentioned_systems tables formula = first_systems (headers_of tables) (mentions formula)
 
 -- the formula has a resolution, or this is why it has none
 abbrev pub ResolvedAnswers : List Loaded → trees.Formula → Result (Unit {0}) Fault → Type 0
@@ -79,12 +79,12 @@ ResolvedAnswers tables formula (Err fault) = ⊥
 
 -- the lines of the steps; or the number of the first one that passes a limit; or the first word in which a letter is missing, where that
 -- comes first
-abbrev pub BuiltAnswers : ℕ → Custom → List Loaded → trees.Formula → Result (List StepLine) Fault → Type 0
-BuiltAnswers limit custom tables formula (Ok lines) = (relation : RelationValue) × AreFormulaSteps limit custom tables formula (Ok relation) lines
-BuiltAnswers limit custom tables formula (Err (faults.Letters step)) = AreStepsRefused limit custom tables formula (steps.Letters step)
-BuiltAnswers limit custom tables formula (Err (faults.States step)) = AreStepsRefused limit custom tables formula (steps.States step)
-BuiltAnswers limit custom tables formula (Err (faults.WordGap name spelling)) = IsLetterMissing limit custom tables name spelling
-BuiltAnswers limit custom tables formula (Err fault) = ⊥
+abbrev pub BuiltAnswers : StepLog → Custom → List Loaded → trees.Formula → Result (List StepLine) Fault → Type 0
+BuiltAnswers admitted custom tables formula (Ok lines) = (relation : RelationValue) × AreFormulaSteps admitted custom tables formula (Ok relation) lines
+BuiltAnswers admitted custom tables formula (Err (faults.Letters step)) = AreStepsRefused admitted custom tables formula (steps.Letters step)
+BuiltAnswers admitted custom tables formula (Err (faults.States step)) = AreStepsRefused admitted custom tables formula (steps.States step)
+BuiltAnswers admitted custom tables formula (Err (faults.WordGap name spelling)) = IsLetterMissing admitted custom tables name spelling
+BuiltAnswers admitted custom tables formula (Err fault) = ⊥
 
 -- a variable over the system that the name of its system means
 pub record IsVariable (custom : Custom) (found : resolved.Variable) (v : Variable) : Type 0 where
@@ -104,9 +104,9 @@ VariablesAnswers custom tables formula (Ok variables) = AreVariables custom (fre
 VariablesAnswers custom tables formula (Err fault) = ⊥
 
 -- the verdict
-abbrev pub VerdictAnswers : Bindings → List Variable → trees.Formula → Result (Option Bool) Fault → Type 0
-VerdictAnswers bindings variables formula (Ok verdict) = HasVerdict no_custom bindings variables formula verdict
-VerdictAnswers bindings variables formula (Err fault) = ⊥
+abbrev pub VerdictAnswers : Custom → Bindings → List Variable → trees.Formula → Result (Option Bool) Fault → Type 0
+VerdictAnswers custom bindings variables formula (Ok verdict) = HasVerdict custom bindings variables formula verdict
+VerdictAnswers custom bindings variables formula (Err fault) = ⊥
 
 -- the definitions that the names of the formula stand for
 abbrev pub bindings_now : Ledger → trees.Formula → Bindings
@@ -124,20 +124,20 @@ formula_success place bindings variables formula lines verdict = record {
 
 -- the checks after the variables are there, after the steps, after the resolution, after the systems, after the tables, after the formula, and
 -- after the head
-abbrev pub after_variables : Place → Bindings → trees.Formula → List StepLine → List Variable → Check Success
-after_variables place bindings formula lines variables = Then (Pure (VerdictAnswers bindings variables formula)) (λ verdict. stored (formula_success place bindings variables formula lines verdict))
+abbrev pub after_variables : Custom → Place → Bindings → trees.Formula → List StepLine → List Variable → Check Success
+after_variables custom place bindings formula lines variables = Then (Pure (VerdictAnswers custom bindings variables formula)) (λ verdict. stored custom (formula_success place bindings variables formula lines verdict))
 
 abbrev pub after_steps : Ledger → Place → List Loaded → trees.Formula → List StepLine → Check Success
-after_steps ledger place tables formula lines = Then (Pure (VariablesAnswers (ledger Bases) tables formula)) (λ variables. after_variables place (bindings_now ledger formula) formula lines variables)
+after_steps ledger place tables formula lines = Then (Pure (VariablesAnswers (custom_of ledger) tables formula)) (λ variables. after_variables (custom_of ledger) place (bindings_now ledger formula) formula lines variables)
 
-abbrev pub after_resolution : ℕ → Ledger → Place → List Loaded → trees.Formula → Check Success
-after_resolution limit ledger place tables formula = Then (Pure (BuiltAnswers limit (ledger Bases) tables formula)) (λ lines. after_steps ledger place tables formula lines)
+abbrev pub after_resolution : StepLog → Ledger → Place → List Loaded → trees.Formula → Check Success
+after_resolution admitted ledger place tables formula = Then (Pure (BuiltAnswers admitted (custom_of ledger) tables formula)) (λ lines. after_steps ledger place tables formula lines)
 
-abbrev pub after_systems : ℕ → Ledger → Place → List Loaded → trees.Formula → Check Success
-after_systems limit ledger place tables formula = Then (Pure (ResolvedAnswers tables formula)) (λ resolved. after_resolution limit ledger place tables formula)
+abbrev pub after_systems : Ledger → Place → List Loaded → trees.Formula → StepLog → Check Success
+after_systems ledger place tables formula admitted = Then (Pure (ResolvedAnswers tables formula)) (λ resolved. after_resolution admitted ledger place tables formula)
 
 abbrev pub after_tables : ℕ → Ledger → Place → trees.Formula → List Loaded → Check Success
-after_tables limit ledger place formula tables = Then (Pure (SystemsAnswers (ledger Bases) tables formula)) (λ known. after_systems limit ledger place tables formula)
+after_tables limit ledger place formula tables = Then (systems_known limit (custom_of ledger) (mentioned_systems tables formula)) (λ admitted. after_systems ledger place tables formula admitted)
 
 abbrev pub after_formula : ℕ → Ledger → Place → trees.Formula → Check Success
 after_formula limit ledger place formula = Then (loaded ledger formula) (λ tables. after_tables limit ledger place formula tables)

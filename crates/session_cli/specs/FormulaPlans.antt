@@ -1,5 +1,5 @@
 -- What the code does for a formula, part by part.
-use Rattle.std.specs.Prelude.{◌≡◌, ◌≢◌, ◌↔◌, ◌⊎◌, ℕ, ◌<◌, ◌≤◌, List, [], ◌∷◌, length, Bool, IsTrue, Result, Ok, Err, MatchResult, ⊤}
+use Rattle.std.specs.Prelude.{◌≡◌, ◌≢◌, ◌↔◌, ◌⊎◌, ℕ, ◌<◌, ◌≤◌, List, [], ◌∷◌, length, Bool, IsTrue, Result, MatchResult, ⊤}
 use Rattle.std.specs.List.{AllByRecursion}
 use Rattle.std.specs.declared.alloc.Global.{Global}
 use Rattle.std.specs.declared.vec.Vec.{Vec}
@@ -17,12 +17,10 @@ use Rattle.formula_resolve.specs.declared.file.File.{File}
 use Rattle.formula_resolve.specs.declared.variable.Variable.{Variable}
 use Rattle.num_system.specs.Sealed.{SystemValue}
 use Rattle.number_relations.specs.Relations.{RelationValue, RelationHolds}
-use Rattle.system_names.specs.Names.{IsBuiltInName}
 use Rattle.session_cli.specs.declared.fault.Fault.{Fault}
 use Rattle.session_cli.specs.declared.fault.Fault.TheVariants as faults
 use Rattle.definitions.specs.FormulaTexts.{truth_text}
 use Rattle.session_cli.specs.SealedSystems.{HasSystemIn}
-use Rattle.session_cli.specs.TrackSystems.{IsUnknown}
 
 -- why the tables of some files are not there
 abbrev pub AreUnloaded : Files → List File → Fault → Type 0
@@ -36,16 +34,10 @@ AreUnloaded files named fault = ⊥
 abbrev pub LoadsTables : List File → Files → Result (Vec Loaded Global) Fault → Type 0
 LoadsTables named files result = MatchResult result (λ tables. AreListedBy files named tables.items) (AreUnloaded files named)
 
--- each of these names is that of a built-in system, and each of them and the default stands for a system
+-- each of these names and the default stands for a system
 pub record HasSystems (names : List (List ℕ)) (systems : List NamedSystem) : Type 0 where
-  pub known : AllByRecursion IsBuiltInName names
   pub mentioned : AllByRecursion (HasSystemIn systems) names
   pub default : HasSystemIn systems default_system
-
--- they have, or the fault names the first that is not known
-abbrev pub SealsSystems : List (List ℕ) → List NamedSystem → Result (Unit {0}) Fault → Type 0
-SealsSystems names systems (Ok sealed) = HasSystems names systems
-SealsSystems names systems (Err fault) = IsUnknown names fault
 
 -- the tracks of variables over these systems, as long as there are both
 abbrev pub tracks_over : List Variable → List SystemValue → List SystemTrack

@@ -1,5 +1,5 @@
--- The steps by which a formula is decided: first those that read the tables of the automata and words that it names, then those of its
--- plan, over the systems that names mean.
+-- The steps by which a formula is decided: after those of the systems that are admitted, first those that read the tables of the automata and
+-- words that it names, then those of its plan, over the systems that names mean.
 use Rattle.std.specs.Prelude.{◌≡◌, ◌⊎◌, ℕ, List, [], Result, Err}
 use Rattle.std.specs.List.{AllByRecursion}
 use Rattle.digit_tuple.specs.Steps.{StepLog}
@@ -12,7 +12,8 @@ use Rattle.formula_build.specs.Libraries.{NamedSystem, LibraryValue, AreSealed}
 use Rattle.formula_build.specs.Solutions.{BuildsFormula, formula_plan}
 use Rattle.num_system.specs.Sealed.{system_of}
 use Rattle.number_relations.specs.Relations.{RelationValue}
-use Rattle.definitions.specs.Named.{Custom, IsSystemNamed}
+use Rattle.system_files.specs.SystemFiles.{Custom}
+use Rattle.definitions.specs.Named.{IsSystemNamed}
 use Rattle.session_cli.specs.TableReads.{TableRead, AreTablesRead, IsReadingRefused, IsReadingGap, library_with}
 
 -- each system is the one that its name means, read in that direction
@@ -23,38 +24,34 @@ AreMeant custom systems = AllByRecursion (λ (s : NamedSystem). IsSystemNamed cu
 abbrev pub library_of : List NamedSystem → LibraryValue
 library_of systems = library_with [] systems
 
--- no step so far
-abbrev pub no_steps : ℕ → StepLog
-no_steps limit = record { limit = limit; lines = [] }
-
 -- All tables are read. The steps of the formula's plan, over sealed systems each under its name, and over the relations and words of the tables, make
 -- this relation, or are refused by this fault. The lines are those of all steps that were done.
-pub record AreFormulaSteps (limit : ℕ) (custom : Custom) (tables : List Loaded) (formula : trees.Formula) (result : Result RelationValue StepFault) (lines : List StepLine) : Type 0 where
+pub record AreFormulaSteps (admitted : StepLog) (custom : Custom) (tables : List Loaded) (formula : trees.Formula) (result : Result RelationValue StepFault) (lines : List StepLine) : Type 0 where
   pub systems : List NamedSystem
   pub sealed : AreSealed systems
   pub meant : AreMeant custom systems
   pub reads : List TableRead
   pub reading : StepLog
-  pub read : AreTablesRead systems (no_steps limit) tables reads reading
+  pub read : AreTablesRead systems admitted tables reads reading
   pub log : StepLog
   pub builds : BuildsFormula reading (library_with reads systems) (formula_plan (headers_of tables) formula) result log
   pub lines_are : lines ≡ log.lines
 
 -- the steps that read the tables are refused by this fault
-pub record IsReadingStopped (limit : ℕ) (custom : Custom) (tables : List Loaded) (fault : StepFault) : Type 0 where
+pub record IsReadingStopped (admitted : StepLog) (custom : Custom) (tables : List Loaded) (fault : StepFault) : Type 0 where
   pub systems : List NamedSystem
   pub sealed : AreSealed systems
   pub meant : AreMeant custom systems
-  pub refused : IsReadingRefused systems (no_steps limit) tables fault
+  pub refused : IsReadingRefused systems admitted tables fault
 
 -- In the word of this name a letter is missing: its steps, and those before them, are within the limit, and in no word before it a letter
 -- is missing. This is the first of all spellings of places without a letter.
-pub record IsLetterMissing (limit : ℕ) (custom : Custom) (tables : List Loaded) (name : List ℕ) (spelling : List (List ℕ)) : Type 0 where
+pub record IsLetterMissing (admitted : StepLog) (custom : Custom) (tables : List Loaded) (name : List ℕ) (spelling : List (List ℕ)) : Type 0 where
   pub systems : List NamedSystem
   pub sealed : AreSealed systems
   pub meant : AreMeant custom systems
-  pub gap : IsReadingGap systems (no_steps limit) tables name spelling
+  pub gap : IsReadingGap systems admitted tables name spelling
 
 -- a step that reads a table, or one of the plan, is the first to pass a limit
-abbrev pub AreStepsRefused : ℕ → Custom → List Loaded → trees.Formula → StepFault → Type 0
-AreStepsRefused limit custom tables formula fault = IsReadingStopped limit custom tables fault ⊎ ((lines : List StepLine) × AreFormulaSteps limit custom tables formula (Err fault) lines)
+abbrev pub AreStepsRefused : StepLog → Custom → List Loaded → trees.Formula → StepFault → Type 0
+AreStepsRefused admitted custom tables formula fault = IsReadingStopped admitted custom tables fault ⊎ ((lines : List StepLine) × AreFormulaSteps admitted custom tables formula (Err fault) lines)

@@ -3,7 +3,8 @@ use Rattle.std.specs.Prelude.{◌≡◌, ℕ, ◌<◌, List, ◌∷◌, length}
 use Rattle.digit_tuple.specs.declared.direction.Direction.{Direction}
 use Rattle.command_head.specs.Heads as heads
 use Rattle.definitions.specs.Tracks.{Tracks, OverSets, OverSystems, NamedSystem, names_of}
-use Rattle.definitions.specs.Named.{Custom, IsOf, AreKnown, IsFirstWithout, AreNamed}
+use Rattle.system_files.specs.SystemFiles.{Custom}
+use Rattle.definitions.specs.Named.{IsOf, AreKnown, IsFirstWithout, AreNamed}
 
 -- all names are known, the first one is of one direction, and the first later one that is of the other is this
 pub record PartInDirection (custom : Custom) (names : List (List ℕ)) (first other : List ℕ) : Type 0 where

@@ -2,7 +2,7 @@
 pub mod Codes
 pub mod Words
 pub mod Checks
-pub mod Texts
+pub mod SystemChecks
 pub mod HeadTracks
 pub mod TrackSteps
 pub mod Accepting
@@ -20,14 +20,17 @@ pub mod Whole
 pub mod Laws
 -- what functions inside the crate do
 pub mod FormulaFaults
+pub mod SystemFaults
 pub mod Plans
+pub mod StoreReads
 pub mod KnownSystems
-pub mod TrackSystems
 pub mod SealedSystems
+pub mod UserSystems
+pub mod TrackSystems
 pub mod VariablesOver
 pub mod FormulaPlans
+pub mod FormulaMakes
 pub mod TableReading
-pub mod StoreReads
 pub mod Commands
 pub mod Tallies
 pub mod Handing

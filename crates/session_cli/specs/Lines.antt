@@ -3,6 +3,8 @@ use Rattle.std.specs.Prelude.{ℕ, suc, Bool, true, false, List, [], ◌∷◌, 
 use Rattle.digit_tuple.specs.Kinds.{kind_name}
 use Rattle.digit_tuple.specs.declared.steps.StepLine.{StepLine}
 use Rattle.wal_outside.specs.Folders.{folder_text}
+use Rattle.adder_check.specs.declared.admit_fault.Law.{Law}
+use Rattle.adder_check.specs.declared.admit_fault.Law.TheVariants as laws
 use Rattle.dfa_loading.specs.declared.fault.FileFlaw.{FileFlaw}
 use Rattle.dfa_loading.specs.declared.fault.FileFlaw.TheVariants as flaws
 use Rattle.session_cli.specs.declared.fault.Grammar.{Grammar}
@@ -46,6 +48,13 @@ abbrev pub flaw_text : FileFlaw → List ℕ
 flaw_text (flaws.Line at) = codes " line " ++ decimal at
 flaw_text flaws.TooLong = codes " too long"
 
+-- the law of a numeration system or of its adder
+abbrev pub law_name : Law → List ℕ
+law_name laws.NoZero = codes "NoZero"
+law_name laws.Finite = codes "Finite"
+law_name laws.ZeroLaw = codes "ZeroLaw"
+law_name laws.SuccessorLaw = codes "SuccessorLaw"
+
 -- the number, name and kept values of a fault
 abbrev pub detail : Fault → List ℕ
 detail faults.Command = codes ": F01 Command"
@@ -59,6 +68,7 @@ detail (faults.Unknown folder name) = (codes ": F11 Unknown " ++ folder_text fol
 detail (faults.File folder name flaw) = ((codes ": F12 File " ++ folder_text folder) ++ (codes "/" ++ name)) ++ flaw_text flaw
 detail (faults.Arity name tracks given) = ((codes ": F13 Arity " ++ name) ++ (codes " " ++ decimal tracks)) ++ (codes " " ++ decimal given)
 detail (faults.SystemUnknown name) = codes ": F14 SystemUnknown " ++ name
+detail (faults.NotAdmitted name law) = (codes ": F15 NotAdmitted " ++ name) ++ (codes " " ++ law_name law)
 detail (faults.Clash name first other) = ((codes ": F16 Clash " ++ name) ++ (codes " " ++ first)) ++ (codes " " ++ other)
 detail (faults.Direction first other) = (codes ": F17 Direction " ++ first) ++ (codes " " ++ other)
 detail (faults.Letters step) = codes ": F18 Letters step " ++ decimal step

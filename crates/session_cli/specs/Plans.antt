@@ -14,29 +14,30 @@ use Rattle.session_cli.specs.declared.plan.Made.{Made}
 use Rattle.session_cli.specs.declared.plan.Plan.{Plan}
 use Rattle.session_cli.specs.Checks.{Check, Pure, Fails}
 use Rattle.session_cli.specs.Lines.{shown_steps, success_text}
-use Rattle.session_cli.specs.Texts.{HasText}
+use Rattle.definitions.specs.Texts.{HasText}
+use Rattle.system_files.specs.SystemFiles.{Custom}
 use Rattle.session_cli.specs.Accepting.{Success, FitsFile}
 use Rattle.session_cli.specs.RegOutcomes.{ParsedAnswers}
 
 -- the text to store and the one to print are those of an accepted command
-pub record IsMade (checks : Check Success) (shown : Bool) (made : Made) : Type 0 where
+pub record IsMade (custom : Custom) (checks : Check Success) (shown : Bool) (made : Made) : Type 0 where
   pub success : Success
   pub answers : checks.answers (Ok success)
-  pub has_text : HasText success.entry made.stored.items
+  pub has_text : HasText custom success.entry made.stored.items
   pub printed_is : made.printed ≡ success_text shown success
 
 -- what was made is what the checks accept, or the fault is one by which they refuse
-abbrev pub Makes : Check Success → Bool → Result Made Fault → Type 0
-Makes checks shown result = MatchResult result (IsMade checks shown) (Fails checks)
+abbrev pub Makes : Custom → Check Success → Bool → Result Made Fault → Type 0
+Makes custom checks shown result = MatchResult result (IsMade custom checks shown) (Fails checks)
 
 -- and stands under the name of the accepted command
-pub record IsPlan (checks : Check Success) (shown : Bool) (plan : Plan) : Type 0 where
-  pub made : IsMade checks shown plan.made
+pub record IsPlan (custom : Custom) (checks : Check Success) (shown : Bool) (plan : Plan) : Type 0 where
+  pub made : IsMade custom checks shown plan.made
   pub folder_is : plan.folder ≡ made.success.folder
   pub name_is : plan.name ≡ made.success.name
 
-abbrev pub Plans : Check Success → Bool → Result Plan Fault → Type 0
-Plans checks shown result = MatchResult result (IsPlan checks shown) (Fails checks)
+abbrev pub Plans : Custom → Check Success → Bool → Result Plan Fault → Type 0
+Plans custom checks shown result = MatchResult result (IsPlan custom checks shown) (Fails checks)
 
 -- the expression of a quoted text over sets, or why there is none
 abbrev pub ParsesTo : List (List ℤ) → List ℕ → Result Pattern Fault → Type 0

@@ -1,7 +1,9 @@
--- What a `reg` does, by its checks in their order: the shape of its head, its systems, its expression, its steps, and the length of the
--- text that it is to store.
-use Rattle.std.specs.Prelude.{◌≡◌, ℕ, ℤ, List, None, Result, Ok, Err}
-use Rattle.wal_outside.specs.declared.folder.Folder.TheVariants.{Automata, Bases}
+-- What a `reg` does, by its checks in their order: the shape of its head, its systems, their direction, its expression, its steps, and the
+-- length of the text that it is to store.
+use Rattle.std.specs.Prelude.{◌≡◌, ℕ, ◌+◌, ℤ, List, [], length, None, Result, Ok, Err}
+use Rattle.std.specs.Str.{bytes_eq}
+use Rattle.wal_outside.specs.declared.folder.Folder.TheVariants.{Automata}
+use Rattle.digit_tuple.specs.Steps.{StepLog}
 use Rattle.digit_tuple.specs.declared.steps.StepLine.{StepLine}
 use Rattle.command_head.specs.Heads as heads
 use Rattle.command_head.specs.Heads.{RegHead}
@@ -14,18 +16,24 @@ use Rattle.session_cli.specs.declared.fault.Grammar.TheVariants as grammars
 use Rattle.session_cli.specs.declared.fault.Fault.{Fault}
 use Rattle.session_cli.specs.declared.fault.Fault.TheVariants as faults
 use Rattle.session_cli.specs.Checks.{Check, Pure, Then}
-use Rattle.definitions.specs.Trees.{Regex, Defined, Ledger}
+use Rattle.definitions.specs.Trees.{Regex, Defined, Ledger, custom_of}
 use Rattle.definitions.specs.Tracks.{Tracks, letter_sets}
-use Rattle.definitions.specs.Named.{Custom, IsKnown, IsFirstWithout}
+use Rattle.formula_resolve.specs.FirstMentions.{each_once}
+use Rattle.system_files.specs.SystemFiles.{Custom}
 use Rattle.session_cli.specs.HeadTracks.{PartInDirection, AreTracksOf}
 use Rattle.session_cli.specs.TrackSteps.{AreSteps, ExceedsLetters, ExceedsStates}
 use Rattle.session_cli.specs.HeadAnswers.{HeadAnswers}
+use Rattle.session_cli.specs.SystemChecks.{systems_known}
 use Rattle.session_cli.specs.Accepting.{Success, stored}
 
--- the tracks that a head means; or its first system that is not known; or two systems of different directions
+-- the systems that a head names, each once
+abbrev pub systems_named : heads.Alphabets → List (List ℕ)
+systems_named (heads.Sets sets) = []
+systems_named (heads.Systems names) = each_once bytes_eq names
+
+-- the tracks that a head means; or two systems of different directions
 abbrev pub TracksAnswers : Custom → heads.Alphabets → Result Tracks Fault → Type 0
 TracksAnswers custom of_head (Ok tracks) = AreTracksOf custom of_head tracks
-TracksAnswers custom (heads.Systems names) (Err (faults.SystemUnknown name)) = IsFirstWithout (IsKnown custom) names name
 TracksAnswers custom (heads.Systems names) (Err (faults.Direction first other)) = PartInDirection custom names first other
 TracksAnswers custom of_head (Err fault) = ⊥
 
@@ -38,22 +46,29 @@ ParsedAnswers sets body (Err (faults.Depth grammars.Regex at)) = Parses sets bod
 ParsedAnswers sets body (Err fault) = ⊥
 
 -- the lines of the steps, or the number of the first one that passes a limit
-abbrev pub StepsAnswers : ℕ → Tracks → Expression (List ℤ) → Result (List StepLine) Fault → Type 0
-StepsAnswers limit tracks expression (Ok lines) = AreSteps limit tracks expression lines
-StepsAnswers limit tracks expression (Err (faults.Letters step)) = (step ≡ 1) × ExceedsLetters tracks
-StepsAnswers limit tracks expression (Err (faults.States step)) = ExceedsStates limit tracks expression step
-StepsAnswers limit tracks expression (Err fault) = ⊥
+abbrev pub StepsAnswers : StepLog → Tracks → Expression (List ℤ) → Result (List StepLine) Fault → Type 0
+StepsAnswers admitted tracks expression (Ok lines) = AreSteps admitted tracks expression lines
+StepsAnswers admitted tracks expression (Err (faults.Letters step)) = (step ≡ length admitted.lines + 1) × ExceedsLetters tracks
+StepsAnswers admitted tracks expression (Err (faults.States step)) = ExceedsStates admitted tracks expression step
+StepsAnswers admitted tracks expression (Err fault) = ⊥
 
--- the checks after the expression, after the tracks, and after the head
-abbrev pub after_expression : ℕ → List ℕ → Tracks → Expression (List ℤ) → Check Success
-after_expression limit name tracks expression = Then (Pure (StepsAnswers limit tracks expression)) (λ lines. stored (record { folder = Automata; name = name; entry = Defined (Regex tracks expression); lines = lines; verdict = None }))
+-- what is stored and printed of an expression
+abbrev pub regex_success : List ℕ → Tracks → Expression (List ℤ) → List StepLine → Success
+regex_success name tracks expression lines = record { folder = Automata; name = name; entry = Defined (Regex tracks expression); lines = lines; verdict = None }
 
-abbrev pub after_tracks : ℕ → List ℕ → List ℕ → Tracks → Check Success
-after_tracks limit name body tracks = Then (Pure (ParsedAnswers (letter_sets tracks) body)) (λ (pattern : Pattern). after_expression limit name tracks pattern.tree)
+-- the checks after the expression, after the tracks, after the systems, and after the head
+abbrev pub after_expression : StepLog → Custom → List ℕ → Tracks → Expression (List ℤ) → Check Success
+after_expression admitted custom name tracks expression = Then (Pure (StepsAnswers admitted tracks expression)) (λ lines. stored custom (regex_success name tracks expression lines))
+
+abbrev pub after_tracks : StepLog → Custom → List ℕ → List ℕ → Tracks → Check Success
+after_tracks admitted custom name body tracks = Then (Pure (ParsedAnswers (letter_sets tracks) body)) (λ (pattern : Pattern). after_expression admitted custom name tracks pattern.tree)
+
+abbrev pub after_admission : Custom → RegHead → StepLog → Check Success
+after_admission custom head admitted = Then (Pure (TracksAnswers custom head.alphabets)) (λ tracks. after_tracks admitted custom head.name head.body tracks)
 
 abbrev pub after_head : ℕ → Custom → RegHead → Check Success
-after_head limit custom head = Then (Pure (TracksAnswers custom head.alphabets)) (λ tracks. after_tracks limit head.name head.body tracks)
+after_head limit custom head = Then (systems_known limit custom (systems_named head.alphabets)) (λ admitted. after_admission custom head admitted)
 
 -- all checks of a `reg`
 abbrev pub reg_checks : ℕ → Ledger → List ℕ → Check Success
-reg_checks limit ledger text = Then (Pure (HeadAnswers SpellsReg text)) (λ head. after_head limit (ledger Bases) head)
+reg_checks limit ledger text = Then (Pure (HeadAnswers SpellsReg text)) (λ head. after_head limit (custom_of ledger) head)

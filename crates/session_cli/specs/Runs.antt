@@ -9,8 +9,9 @@ use Rattle.session_cli.specs.declared.fault.Fault.{Fault}
 use Rattle.session_cli.specs.declared.fault.Fault.TheVariants as faults
 use Rattle.session_cli.specs.declared.status.Status.{Status}
 use Rattle.session_cli.specs.declared.status.Status.TheVariants as status
-use Rattle.definitions.specs.Trees.{Ledger, ledger_of}
-use Rattle.session_cli.specs.Texts.{HasText, Stores}
+use Rattle.definitions.specs.Trees.{Ledger, ledger_of, custom_of}
+use Rattle.definitions.specs.Texts.{HasText, Stores}
+use Rattle.system_files.specs.SystemFiles.{Custom}
 use Rattle.session_cli.specs.Checks.{Check, Fails}
 use Rattle.session_cli.specs.Accepting.{Success, Answer, after}
 use Rattle.session_cli.specs.Outcomes.{checks_of, OpenOutcome}
@@ -31,9 +32,9 @@ IsAnswerOf limit Unterminated ledger text answer = OpenOutcome text answer
 IsAnswerOf limit PastLimit ledger text answer = answer ≡ Err faults.ScriptLimit
 
 -- an accepted command changes the file of its entry to that entry's text, and a refused one none
-abbrev pub Changes : Option Files → Answer → Option Files → Type 0
-Changes old (Ok success) new = (stored : List ℕ) × HasText success.entry stored × (new ≡ option_map (λ files. put files success.folder success.name stored) old)
-Changes old (Err fault) new = new ≡ old
+abbrev pub Changes : Custom → Option Files → Answer → Option Files → Type 0
+Changes custom old (Ok success) new = (stored : List ℕ) × HasText custom success.entry stored × (new ≡ option_map (λ files. put files success.folder success.name stored) old)
+Changes custom old (Err fault) new = new ≡ old
 
 abbrev pub is_store_fault : Fault → Bool
 is_store_fault (faults.Store folder name) = true
@@ -65,7 +66,7 @@ pub record Answers (limit : ℕ) (ledger : Ledger) (old : StoreView) (item : Ite
   pub known : Ledger
   pub known_is : IsKnownLedger old.files ledger known
   pub answered : IsAnswerOf limit item.ended known item.text answer
-  pub files : Changes old.files answer new.files
+  pub files : Changes (custom_of known) old.files answer new.files
   pub later : old.faults ≤ new.faults
   pub cause : IsTrue (of_fault is_store_fault answer) → Rose old.faults new.faults
   pub failed : new.failed ≡ failed_after old.failed answer

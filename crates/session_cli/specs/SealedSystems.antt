@@ -1,21 +1,39 @@
--- The sealed systems that a session keeps, and the headers of the tables that a command names.
-use Rattle.std.specs.Prelude.{◌≡◌, ℕ, List}
-use Rattle.num_system.specs.Sealed.{SystemValue}
-use Rattle.formula_resolve.specs.Headers.{Headers}
+-- The built-in systems that a session keeps, and how they stand among the systems of a command.
+use Rattle.std.specs.Prelude.{ℕ, List, Result, OnOk}
+use Rattle.std.specs.List.{AllByRecursion}
+use Rattle.digit_tuple.specs.declared.faults.OutOfMemory.{OutOfMemory}
 use Rattle.formula_build.specs.Libraries.{NamedSystem, IsSystemIn}
-use Rattle.session_cli.specs.declared.fault.Fault.{Fault}
-use Rattle.session_cli.specs.declared.fault.Fault.TheVariants as faults
-use Rattle.session_cli.specs.FormulaSteps.{library_of}
-
--- what the names of a formula stand over
-pub record SealedView : Type 0 where
-  pub headers : Headers
-  pub systems : List NamedSystem
+use Rattle.formula_parse.specs.FormulaTrees.{default_system}
+use Rattle.num_system.specs.Sealed.{SystemValue, system_of}
+use Rattle.system_names.specs.Names.{IsBuiltInName}
+use Rattle.system_files.specs.SystemFiles.{Custom}
+use Rattle.definitions.specs.Named.{IsBuiltInSystem}
+use Rattle.session_cli.specs.FormulaSteps.{AreMeant, library_of}
 
 -- one of the systems stands under this name
 abbrev pub HasSystemIn : List NamedSystem → List ℕ → Type 0
 HasSystemIn systems name = (s : SystemValue) × IsSystemIn (library_of systems) name s
 
--- nothing but memory was wanting
-abbrev pub IsWantOfMemory : Fault → Type 0
-IsWantOfMemory fault = fault ≡ faults.Memory
+-- each is the built-in system of its name
+abbrev pub AreBuiltIn : List NamedSystem → Type 0
+AreBuiltIn systems = AllByRecursion (λ (s : NamedSystem). IsBuiltInSystem s.name s.system.way (system_of s.system)) systems
+
+-- if the name is that of a built-in system, one stands under it
+abbrev pub HasBuiltIn : List NamedSystem → List ℕ → Type 0
+HasBuiltIn systems name = IsBuiltInName name → HasSystemIn systems name
+
+-- those from before stand under their names still, and all are what their names mean if those from before are
+pub record Extends (before after : List NamedSystem) : Type 0 where
+  pub meant : (custom : Custom) → AreMeant custom before → AreMeant custom after
+  pub kept : (name : List ℕ) → HasSystemIn before name → HasSystemIn after name
+
+-- the system of a name is among them, if it is built in
+pub record AddsSystem (name : List ℕ) (before : List NamedSystem) (result : Result (Unit {0}) OutOfMemory) (after : List NamedSystem) : Type 0 where
+  pub extends : Extends before after
+  pub there : OnOk result (HasBuiltIn after name)
+
+-- and those of these names, and the one where no mark stands
+pub record AddsBuiltIn (names : List (List ℕ)) (before : List NamedSystem) (result : Result (Unit {0}) OutOfMemory) (after : List NamedSystem) : Type 0 where
+  pub extends : Extends before after
+  pub there : OnOk result (AllByRecursion (HasBuiltIn after) names)
+  pub default : OnOk result (HasSystemIn after default_system)

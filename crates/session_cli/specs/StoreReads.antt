@@ -1,10 +1,13 @@
 -- Commands that read a store: what they give is said of some files, which are the store's where it tells them.
-use Rattle.std.specs.Prelude.{◌≡◌, ◌≤◌, Option, Some, Result, MatchResult}
+use Rattle.std.specs.Prelude.{◌≡◌, ◌≤◌, List, Some, IfSome, Result, MatchResult}
 use Rattle.std.specs.Option.{option_map}
 use Rattle.wal_outside.specs.Causes.{Rose}
 use Rattle.wal_outside.specs.Files.{Files}
 use Rattle.wal_outside.specs.Views.{StoreView}
+use Rattle.wal_outside.specs.declared.folder.Folder.TheVariants.{Bases}
 use Rattle.dfa_loading.specs.Places.{AreTold}
+use Rattle.system_files.specs.SystemFiles.{Custom}
+use Rattle.system_files.specs.SystemTexts.{FoundText, Agrees, CanStand}
 use Rattle.session_cli.specs.declared.fault.Fault.{Fault}
 use Rattle.session_cli.specs.declared.fault.Fault.TheVariants as faults
 
@@ -24,4 +27,13 @@ pub record FromFiles {X : Type 0} (Gives : Files → Result X Fault → Type 0) 
   pub found : Files
   pub told : AreTold old found
   pub gives : Gives found result
+  pub has_read : HasRead old result new
+
+-- What is given by the texts of users' systems that were found, whatever else stands in their folder. They may stand there, and do where the
+-- store tells its files.
+pub record FromTexts {X : Type 0} (Gives : Custom → Result X Fault → Type 0) (old : StoreView) (result : Result X Fault) (new : StoreView) : Type 0 where
+  pub found : List FoundText
+  pub stands : CanStand found
+  pub told : IfSome old.files (λ (files : Files). Agrees (files Bases) found)
+  pub gives : (custom : Custom) → Agrees custom found → Gives custom result
   pub has_read : HasRead old result new

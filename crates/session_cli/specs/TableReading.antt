@@ -2,7 +2,6 @@
 use Rattle.std.specs.Prelude.{◌≡◌, ◌⊎◌, ℕ, List, Result, MatchResult}
 use Rattle.std.specs.List.{AllByRecursion}
 use Rattle.digit_tuple.specs.Steps.{StepLog}
-use Rattle.digit_tuple.specs.declared.step_fault.StepFault.{StepFault}
 use Rattle.digit_tuple.specs.declared.step_fault.StepFault.TheVariants as faults
 use Rattle.dfa_loading.specs.declared.loaded.Loaded.{Loaded}
 use Rattle.dfa_reading.specs.WordFiles.{IsWordListed}

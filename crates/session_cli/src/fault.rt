@@ -2,8 +2,10 @@ ghost use Rattle.std.specs.Prelude.{◌≡◌};
 ghost use Rattle.session_cli.specs.declared.fault.Fault.TheVariants.{Memory};
 ghost use Rattle.session_cli.specs.TrackSystems.{fault_of};
 ghost use Rattle.session_cli.specs.FormulaFaults.{fault_of_loading, fault_of_resolution, fault_of_reading, fault_of_formula};
+ghost use Rattle.session_cli.specs.SystemFaults.{fault_of_system};
 
 use crate::read_fault::ReadFault;
+use adder_check::admit_fault::Law;
 use dfa_loading::{FileFlaw, LoadFault};
 use digit_tuple::faults::OutOfMemory;
 use digit_tuple::name::Name;
@@ -11,6 +13,7 @@ use digit_tuple::step_fault::StepFault;
 use formula_parse::ParseFault;
 use formula_resolve::ResolveFault;
 use std::alloc::{AllocError, AllocFailed};
+use system_admission::SystemFault;
 use wal_outside::Folder;
 use word_output::spelling::Spelling;
 
@@ -44,13 +47,15 @@ pub enum Fault {
     Long(usize),
     /// F11: nothing stands under this name in this folder.
     Unknown(Folder, Name),
-    /// F12: the text that stands under this name in this folder is not an automaton's: a line breaks the format, or it is too
-    /// long.
+    /// F12: the text that stands under this name in this folder is not one that it is read as: a line breaks the format, or it is
+    /// too long.
     File(Folder, Name, FileFlaw),
     /// F13: the automaton or word of this name has so many tracks, and so many terms are given.
     Arity(Name, u32, u32),
-    /// F14: there is no system of this name.
+    /// F14: there is no system of this name, or no file of a user's system.
     SystemUnknown(Name),
+    /// F15: the system of this name is not admitted: this law is the first that does not hold.
+    NotAdmitted(Name, Law),
     /// F16: this variable is over two systems: that of its first occurrence, and the first one that differs.
     Clash(Name, Name, Name),
     /// F17: its first system, and the first later one of the other direction.
@@ -111,6 +116,23 @@ impl From<LoadFault> for Fault {
             LoadFault::File(folder, name, flaw) => Fault::File(folder, name, flaw),
             LoadFault::Store(folder, name) => Fault::Store(folder, name),
             LoadFault::Memory => Fault::Memory,
+        }
+    }
+}
+
+impl From<SystemFault> for Fault {
+    ghost from_gives = { λ f e. e ≡ fault_of_system f };
+
+    fn from(fault: SystemFault) -> Fault {
+        match fault {
+            SystemFault::Load(LoadFault::Unknown(_, name)) => Fault::SystemUnknown(name),
+            SystemFault::Load(LoadFault::File(folder, name, flaw)) => Fault::File(
+                folder, name, flaw,
+            ),
+            SystemFault::Load(LoadFault::Store(folder, name)) => Fault::Store(folder, name),
+            SystemFault::Load(LoadFault::Memory) => Fault::Memory,
+            SystemFault::NotAdmitted(name, law) => Fault::NotAdmitted(name, law),
+            SystemFault::Step(fault) => Fault::from(fault),
         }
     }
 }

@@ -1,23 +1,21 @@
 //! The commands `eval` and `def`: a formula, kept as its truth or as the automaton of the numbers for which it is true.
 
-ghost use Rattle.std.specs.Prelude.{◌≡◌, ℕ, List, true, OnOk};
+ghost use Rattle.std.specs.Prelude.{◌≡◌, ℕ, List, true};
 ghost use Rattle.command_head.specs.Parts.{is_name};
 ghost use Rattle.dfa_loading.specs.Headers.{headers_of as headers_in};
-ghost use Rattle.dfa_loading.specs.Loading.{AreListedBy};
-ghost use Rattle.formula_parse.specs.Grammar.{Reads};
-ghost use Rattle.formula_parse.specs.Spots.{spots, tokens};
 ghost use Rattle.formula_parse.specs.Views.{formula_view};
-ghost use Rattle.formula_resolve.specs.FirstMentions.{first_files as first_files_of, first_systems as first_systems_of};
+ghost use Rattle.formula_resolve.specs.FirstMentions.{first_files as first_files_of};
 ghost use Rattle.formula_resolve.specs.Mentions.{mentions as mentions_of};
-ghost use Rattle.wal_outside.specs.Files.{Files};
-ghost use Rattle.wal_outside.specs.Places.{Place};
+ghost use Rattle.system_files.specs.SystemFiles.{Custom};
 ghost use Rattle.wal_outside.specs.declared.folder.Folder.{Folder as FolderOf};
-ghost use Rattle.definitions.specs.Trees.{Ledger};
-ghost use Rattle.session_cli.specs.Texts.{Stores};
-ghost use Rattle.session_cli.specs.FormulaOutcomes.{after_systems, after_tables, after_named_head, formula_checks};
+ghost use Rattle.definitions.specs.Texts.{Stores};
+ghost use Rattle.definitions.specs.Trees.{Ledger, custom_of};
+ghost use Rattle.session_cli.specs.FormulaMakes.{IsReadFormula, MakesAfterTables, MakesAfterSystems, systems_of};
+ghost use Rattle.session_cli.specs.FormulaOutcomes.{after_named_head, formula_checks};
+ghost use Rattle.session_cli.specs.FormulaPlans.{LoadsTables, HasSystems};
+ghost use Rattle.session_cli.specs.FormulaSteps.{AreMeant};
 ghost use Rattle.session_cli.specs.Plans.{Makes, Plans};
-ghost use Rattle.session_cli.specs.FormulaPlans.{LoadsTables, HasSystems, SealsSystems};
-ghost use Rattle.session_cli.specs.StoreReads.{FromFiles};
+ghost use Rattle.session_cli.specs.StoreReads.{FromFiles, FromTexts};
 
 use crate::fault::{Fault, Grammar};
 use crate::formula_text::formula_text;
@@ -26,10 +24,11 @@ use crate::printed::Printed;
 use crate::sealed_systems::SealedSystems;
 use crate::step_options::StepOptions;
 use crate::table_reading::read_tables;
+use crate::user_systems::UserSystems;
 use command_head::{HeadFault, NamedParts, named_parts};
 use dfa_loading::{Loaded, headers_of, load};
 use digit_tuple::steps::Steps;
-use formula_build::{build, resolve};
+use formula_build::{Names, build, resolve};
 use formula_parse::parse;
 use formula_parse::tree::Formula;
 use formula_resolve::{first_files, first_systems, mentions};
@@ -49,7 +48,7 @@ pub(crate) struct FormulaCommand<'a> {
 
 /// What a command of this word stores and prints, or the first of its checks that refuses it: the shape of its head, its
 /// formula, the files of the automata and words that this names, its systems, its resolution, its steps, and the length of
-/// the text to store. Each file is read once, and no text is changed. Systems that it names first are sealed and kept.
+/// the text to store. Each file is read once, and no text is changed. Built-in systems that it names first are sealed and kept.
 pub(crate) fn plan_formula<T: Store>(
     alloc: Global,
     command: FormulaCommand<'_>,
@@ -58,7 +57,7 @@ pub(crate) fn plan_formula<T: Store>(
     store: &mut T,
 ) -> Result<Plan, Fault>
     requires { is_name command.word.now ≡ true }
-    ensures { FromFiles (λ found plan. (ledger : Ledger) → Stores ledger found → Plans (formula_checks command.entry.word.now command.entry.folder command.entry.options.limit ledger text.now) command.entry.options.shown plan) (T.view store.old) result (T.view store.new) }
+    ensures { FromFiles (λ found plan. (ledger : Ledger) → Stores ledger found → Plans (custom_of ledger) (formula_checks command.entry.word.now command.entry.folder command.entry.options.limit ledger text.now) command.entry.options.shown plan) (T.view store.old) result (T.view store.new) }
 {
     match named_parts(alloc, command.word, text) {
         Ok(NamedParts { name, body }) => {
@@ -85,11 +84,17 @@ fn formula_made<T: Store>(
     systems: &mut SealedSystems,
     store: &mut T,
 ) -> Result<Made, Fault>
-    ensures { FromFiles (λ found made. (ledger : Ledger) (folder : FolderOf) (name : List ℕ) → Stores ledger found → Makes (after_named_head options.limit ledger folder (record { name = name; body = body.now })) options.shown made) (T.view store.old) result (T.view store.new) }
+    ensures { FromFiles (λ found made. (ledger : Ledger) (folder : FolderOf) (name : List ℕ) → Stores ledger found → Makes (custom_of ledger) (after_named_head options.limit ledger folder (record { name = name; body = body.now })) options.shown made) (T.view store.old) result (T.view store.new) }
 {
     let formula = parse(alloc, body)?;
     let tables = load_tables(alloc, &formula, store)?;
-    made_of(alloc, options, &formula, &tables, systems)
+    made_of(
+        alloc,
+        options,
+        &ReadFormula { formula, tables },
+        systems,
+        store,
+    )
 }
 
 /// The tables of the files that a formula names, each read once.
@@ -105,60 +110,63 @@ fn load_tables<T: Store>(
     Ok(load(alloc, &files, store)?)
 }
 
-/// What is made of a formula whose files are loaded.
-fn made_of(
+/// A formula, and the tables of the files that it names.
+#[derive(Drop)]
+struct ReadFormula {
+    /// The formula.
+    formula: Formula,
+    /// The tables, each once, in the order in which the formula names their files first.
+    tables: Vec<Loaded>,
+}
+
+/// What is made of a formula whose files are loaded. Users' systems that it mentions are read and admitted first.
+fn made_of<T: Store>(
     alloc: Global,
     options: StepOptions,
-    formula: &Formula,
-    tables: &[Loaded],
+    read: &ReadFormula,
     systems: &mut SealedSystems,
+    store: &mut T,
 ) -> Result<Made, Fault>
-    requires read { (text : List ℕ) × Reads (tokens (spots text)) (formula_view formula.now) }
-    requires files { (files : Files) × AreListedBy files (first_files_of (mentions_of (formula_view formula.now))) tables.now }
-    ensures { (ledger : Ledger) (files : Files) (place : Place) → Stores ledger files → AreListedBy files (first_files_of (mentions_of (formula_view formula.now))) tables.now → Makes (after_tables options.limit ledger place (formula_view formula.now) tables.now) options.shown result }
+    requires { IsReadFormula read.now }
+    ensures { FromTexts (MakesAfterTables options read.now) (T.view store.old) result (T.view store.new) }
 {
-    seal_systems(alloc, formula, tables, systems)?;
-    built(alloc, options, formula, tables, systems)
+    let headers = headers_of(alloc, &read.tables)?;
+    let mentioned = first_systems(alloc, &mentions(alloc, &read.formula)?, &headers)?;
+    let users = UserSystems::admitted(alloc, options.limit, &mentioned, store)?;
+    let UserSystems {
+        mut named,
+        steps,
+        ..
+    } = users;
+    systems.add_all(alloc, &mentioned, &mut named)?;
+    let names = Names {
+        headers,
+        systems: named,
+    };
+    built(alloc, options.shown, read, &names, steps)
 }
 
-/// Seals the systems that are mentioned, and the one where no mark stands, and keeps what the tables are over.
-fn seal_systems(
-    alloc: Global,
-    formula: &Formula,
-    tables: &[Loaded],
-    systems: &mut SealedSystems,
-) -> Result<(), Fault>
-    ensures sealed { SealsSystems (first_systems_of (headers_in tables.now) (mentions_of (formula_view formula.now))) systems.new.systems result }
-    ensures headers { OnOk result (systems.new.headers ≡ headers_in tables.now) }
-{
-    systems.set_headers(headers_of(alloc, tables)?);
-    let mentioned = mentions(alloc, formula)?;
-    let names = first_systems(alloc, &mentioned, &systems.names().headers)?;
-    systems.add_all(alloc, &names)?;
-    systems.are_meant();
-    systems.add_default(alloc)
-}
-
-/// What is made of a formula whose systems are sealed.
+/// What is made of a formula whose systems are sealed, each under its name, by the next steps.
 fn built(
     alloc: Global,
-    options: StepOptions,
-    formula: &Formula,
-    tables: &[Loaded],
-    systems: &SealedSystems,
+    shown: bool,
+    read: &ReadFormula,
+    names: &Names,
+    steps: Steps,
 ) -> Result<Made, Fault>
-    requires read { (text : List ℕ) × Reads (tokens (spots text)) (formula_view formula.now) }
-    requires files { (files : Files) × AreListedBy files (first_files_of (mentions_of (formula_view formula.now))) tables.now }
-    requires headers { systems.now.headers ≡ headers_in tables.now }
-    requires systems { HasSystems (first_systems_of (headers_in tables.now) (mentions_of (formula_view formula.now))) systems.now.systems }
-    ensures { (ledger : Ledger) (files : Files) (place : Place) → Stores ledger files → AreListedBy files (first_files_of (mentions_of (formula_view formula.now))) tables.now → Makes (after_systems options.limit ledger place tables.now (formula_view formula.now)) options.shown result }
+    requires read { IsReadFormula read.now }
+    requires headers { names.now.headers ≡ headers_in read.now.tables.items }
+    requires systems { HasSystems (systems_of read.now) names.now.systems }
+    requires meant { (custom : Custom) × AreMeant custom names.now.systems }
+    ensures { (custom : Custom) → AreMeant custom names.now.systems → MakesAfterSystems steps shown read.now custom result }
 {
-    let resolved = resolve(alloc, formula, systems.names())?;
-    let mut steps = Steps::new(alloc, options.limit);
-    let library = read_tables(alloc, tables, &systems.names().systems, &mut steps)?;
+    let mut steps = steps;
+    names.systems.are_sealed();
+    let resolved = resolve(alloc, &read.formula, names)?;
+    let library = read_tables(alloc, &read.tables, &names.systems, &mut steps)?;
     let relation = build(alloc, &resolved, &library, &mut steps)?;
     let stored = formula_text(alloc, &resolved.variables, &relation)?;
-    let mut printed = Printed::of_steps(alloc, &steps, options.shown)?;
+    let mut printed = Printed::of_steps(alloc, &steps, shown)?;
     printed.push_verdict(relation.verdict())?;
     Ok(Made { stored, printed })
 }

@@ -13,11 +13,15 @@ mod printed;
 mod plan;
 // a system that is known
 mod known_system;
+// the system of a track, under its name
+mod track_system;
+// the systems of users that a command names
+mod user_systems;
 // the systems of tracks, by their names
 mod track_systems;
 // the words with which commands begin
 mod command_word;
-// the systems that formulas name, sealed
+// the built-in systems that formulas name, sealed
 mod sealed_systems;
 // how steps are made and shown
 mod step_options;
@@ -48,6 +52,7 @@ mod whole;
 // what holds of all runs
 mod laws;
 
+pub use adder_check::admit_fault::Law;
 pub use dfa_loading::FileFlaw;
 pub use fault::{Fault, Grammar};
 pub use laws::{one_outcome, one_run, store_faults_counted};

@@ -2,10 +2,11 @@ ghost use Rattle.std.specs.Prelude.{◌≡◌, ◌++◌, codes, decimal, map};
 ghost use Rattle.std.specs.List.{flat_map};
 ghost use Rattle.wal_outside.specs.Folders.{folder_text};
 ghost use Rattle.wal_outside.specs.Sending.{Sends};
-ghost use Rattle.session_cli.specs.Lines.{grammar_name as grammar_text, flaw_text, detail, fault_line};
+ghost use Rattle.session_cli.specs.Lines.{grammar_name as grammar_text, flaw_text, law_name as law_text, detail, fault_line};
 ghost use Rattle.session_cli.specs.SpellingTexts.{digits_text, digit_behind, letter_text, spelling_text};
 
 use crate::fault::{Fault, Grammar};
+use adder_check::admit_fault::Law;
 use dfa_loading::FileFlaw;
 use digit_tuple::name::Name;
 use itoa::Buffer;
@@ -22,6 +23,18 @@ impl Grammar {
             Grammar::Regex => "regex",
             Grammar::Formula => "formula",
         }
+    }
+}
+
+/// The name of a law in a line.
+fn law_name(law: Law) -> &'static str
+    ensures { result.now ≡ law_text law }
+{
+    match law {
+        Law::NoZero => "NoZero",
+        Law::Finite => "Finite",
+        Law::ZeroLaw => "ZeroLaw",
+        Law::SuccessorLaw => "SuccessorLaw",
     }
 }
 
@@ -54,6 +67,7 @@ fn send_detail<K: Sink>(out: &mut K, fault: &Fault) -> Result<(), WriteFault>
         Fault::File(folder, name, flaw) => send_flawed(out, *folder, name, *flaw),
         Fault::Arity(name, tracks, given) => send_arity(out, name, *tracks, *given),
         Fault::SystemUnknown(name) => send_two(out, b": F14 SystemUnknown ", name.as_bytes()),
+        Fault::NotAdmitted(name, law) => send_law(out, name, *law),
         Fault::Clash(name, first, other) => send_clash(out, name, first, other),
         Fault::Direction(first, other) => send_four(
             out,
@@ -148,6 +162,19 @@ fn send_arity<K: Sink>(out: &mut K, name: &Name, tracks: u32, given: u32) -> Res
     )?;
     let mut buffer = Buffer::new();
     send_two(out, b" ", buffer.format(given).as_bytes())
+}
+
+/// Hands over the fault of a system of which a law does not hold.
+fn send_law<K: Sink>(out: &mut K, name: &Name, law: Law) -> Result<(), WriteFault>
+    ensures { Sends (K.view out.old) ((codes ": F15 NotAdmitted " ++ name.now) ++ (codes " " ++ law_text law)) result (K.view out.new) }
+{
+    send_four(
+        out,
+        b": F15 NotAdmitted ",
+        name.as_bytes(),
+        b" ",
+        law_name(law).as_bytes(),
+    )
 }
 
 /// Hands over the fault of a variable over two systems.

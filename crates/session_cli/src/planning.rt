@@ -1,11 +1,11 @@
 //! What a command stores and prints, from its text.
 ghost use Rattle.std.specs.Prelude.{◌≡◌, codes};
 ghost use Rattle.wal_outside.specs.declared.folder.Folder.TheVariants.{Automata, Results};
-ghost use Rattle.definitions.specs.Trees.{Ledger};
+ghost use Rattle.definitions.specs.Texts.{Stores};
+ghost use Rattle.definitions.specs.Trees.{Ledger, custom_of};
 ghost use Rattle.session_cli.specs.Outcomes.{checks_of};
 ghost use Rattle.session_cli.specs.Plans.{Plans};
 ghost use Rattle.session_cli.specs.StoreReads.{FromFiles};
-ghost use Rattle.session_cli.specs.Texts.{Stores};
 
 use crate::command_word::{CommandWord, command_word};
 use crate::fault::Fault;
@@ -47,7 +47,7 @@ fn def(options: StepOptions) -> FormulaCommand<'static>
 }
 
 /// What a command stores and prints, or why it is refused: by its length, by its first word, or by the checks of the command of
-/// that word. Files that it names are read from the store. Systems that formulas name are sealed once and kept.
+/// that word. Files that it names are read from the store. Built-in systems that formulas name are sealed once and kept.
 pub(crate) fn plan_of<T: Store>(
     alloc: Global,
     options: StepOptions,
@@ -55,13 +55,13 @@ pub(crate) fn plan_of<T: Store>(
     systems: &mut SealedSystems,
     store: &mut T,
 ) -> Result<Plan, Fault>
-    ensures { FromFiles (λ found plan. (ledger : Ledger) → Stores ledger found → Plans (checks_of options.limit ledger text.now) options.shown plan) (T.view store.old) result (T.view store.new) }
+    ensures { FromFiles (λ found plan. (ledger : Ledger) → Stores ledger found → Plans (custom_of ledger) (checks_of options.limit ledger text.now) options.shown plan) (T.view store.old) result (T.view store.new) }
 {
     if text.len() > COMMAND_LIMIT {
         return Err(Fault::Long(COMMAND_LIMIT));
     }
     match command_word(text) {
-        Some(CommandWord::Reg) => plan_reg(alloc, options.limit, text, options.shown),
+        Some(CommandWord::Reg) => plan_reg(alloc, options, text, store),
         Some(CommandWord::Eval) => plan_formula(alloc, eval(options), text, systems, store),
         Some(CommandWord::Def) => plan_formula(alloc, def(options), text, systems, store),
         None => Err(Fault::Command),

@@ -1,24 +1,32 @@
 //! The command `reg`: an expression over sets or over systems, kept as an automaton.
-ghost use Rattle.std.specs.Prelude.{◌≡◌, ℕ, ◌≤◌, List, length};
+ghost use Rattle.std.specs.Prelude.{◌≡◌, ℕ, ◌<◌, ◌≤◌, List, length};
+ghost use Rattle.std.specs.List.{All};
+ghost use Rattle.command_head.specs.Heads.{Systems};
 ghost use Rattle.command_head.specs.HeadViews.{alphabets_of};
 ghost use Rattle.digit_tuple.specs.Headers.{sets_of};
 ghost use Rattle.digit_tuple.specs.Sets.{sizes_of};
 ghost use Rattle.dfa_text.specs.Meaning.{AreTrackSets};
-ghost use Rattle.definitions.specs.Trees.{Ledger};
+ghost use Rattle.definitions.specs.Named.{AreNamed};
+ghost use Rattle.definitions.specs.Trees.{Ledger, custom_of};
 ghost use Rattle.definitions.specs.Tracks.{OverSystems, OverSets};
-ghost use Rattle.definitions.specs.Named.{Custom};
+ghost use Rattle.system_files.specs.SystemFiles.{Custom};
 ghost use Rattle.session_cli.specs.RegOutcomes.{reg_checks, after_head, after_tracks};
-ghost use Rattle.session_cli.specs.TrackSystems.{AreTrackSystems, named_in};
+ghost use Rattle.session_cli.specs.SystemChecks.{no_steps};
+ghost use Rattle.session_cli.specs.StoreReads.{FromTexts};
+ghost use Rattle.session_cli.specs.TrackSystems.{IsIn, named_in};
 ghost use Rattle.session_cli.specs.Plans.{AreFormedAlphabets, Makes, ParsesTo, Plans, Prints};
 
 use crate::fault::{Fault, Grammar};
 use crate::plan::{Made, Plan};
 use crate::printed::Printed;
+use crate::step_options::StepOptions;
 use crate::track_systems::TrackSystems;
+use crate::user_systems::{UserSystems, names_once};
 use command_head::{Alphabets, HeadFault, RegParts, reg_parts};
 use dfa_text::print_within;
 use digit_tuple::dfa::Dfa;
 use digit_tuple::header::Header;
+use digit_tuple::name::Name;
 use digit_tuple::sets::Sets;
 use digit_tuple::steps::Steps;
 use reg_steps::regex_step::regex_step;
@@ -27,13 +35,18 @@ use regex_build::fault::RegexFault;
 use regex_build::parse;
 use regex_build::regex::Regex;
 use std::alloc::Global;
-use wal_outside::{Folder, TEXT_LIMIT};
+use wal_outside::{Folder, Store, TEXT_LIMIT};
 
 /// What a `reg` stores and prints, or the first of its checks that refuses it: the shape of its head, its systems, their
-/// direction, its expression, its steps, and the length of the text to store.
-pub(crate) fn plan_reg(alloc: Global, limit: u32, text: &[u8], shown: bool) -> Result<Plan, Fault>
+/// direction, its expression, its steps, and the length of the text to store. Files of users' systems are read from the store.
+pub(crate) fn plan_reg<T: Store>(
+    alloc: Global,
+    options: StepOptions,
+    text: &[u8],
+    store: &mut T,
+) -> Result<Plan, Fault>
     requires { length text.now ≤ 65536 }
-    ensures { (ledger : Ledger) → Plans (reg_checks limit ledger text.now) shown result }
+    ensures { FromTexts (λ custom plan. (ledger : Ledger) → custom_of ledger ≡ custom → Plans (custom_of ledger) (reg_checks options.limit ledger text.now) options.shown plan) (T.view store.old) result (T.view store.new) }
 {
     match reg_parts(alloc, text) {
         Ok(
@@ -42,7 +55,7 @@ pub(crate) fn plan_reg(alloc: Global, limit: u32, text: &[u8], shown: bool) -> R
                 alphabets,
                 body,
             },
-        ) => match made_over(alloc, limit, alphabets, body, shown) {
+        ) => match made_over(alloc, options, alphabets, body, store) {
             Ok(made) => Ok(Plan {
                 folder: Folder::Automata,
                 name,
@@ -57,60 +70,70 @@ pub(crate) fn plan_reg(alloc: Global, limit: u32, text: &[u8], shown: bool) -> R
 }
 
 /// What is made of the expression in a quoted text over sets, or over systems, whatever the command's name.
-fn made_over(
+fn made_over<T: Store>(
     alloc: Global,
-    limit: u32,
+    options: StepOptions,
     alphabets: Alphabets,
     body: &[u8],
-    shown: bool,
+    store: &mut T,
 ) -> Result<Made, Fault>
     requires { AreFormedAlphabets (alphabets_of alphabets) }
-    ensures { (custom : Custom) (name : List ℕ) → Makes (after_head limit custom (record { name = name; alphabets = alphabets_of alphabets; body = body.now })) shown result }
+    ensures { FromTexts (λ custom made. (name : List ℕ) → Makes custom (after_head options.limit custom (record { name = name; alphabets = alphabets_of alphabets; body = body.now })) options.shown made) (T.view store.old) result (T.view store.new) }
 {
     match alphabets {
-        Alphabets::Sets(sets) => regex_over(alloc, limit, sets, body, shown),
-        Alphabets::Systems(names) => {
-            let systems = TrackSystems::of_names(alloc, names)?;
-            regex_over_systems(alloc, limit, &systems, body, shown)
-        }
+        Alphabets::Sets(sets) => regex_over(alloc, options, sets, body),
+        Alphabets::Systems(names) => regex_over_names(alloc, options, &names, body, store),
     }
 }
 
 /// What is made of the expression in a quoted text over sets, by the step `regex`.
-fn regex_over(
-    alloc: Global,
-    limit: u32,
-    sets: Sets,
-    body: &[u8],
-    shown: bool,
-) -> Result<Made, Fault>
+fn regex_over(alloc: Global, options: StepOptions, sets: Sets, body: &[u8]) -> Result<Made, Fault>
     requires sets { AreTrackSets sets }
-    ensures { (name : List ℕ) → Makes (after_tracks limit name body.now (OverSets sets)) shown result }
+    ensures { (custom : Custom) (name : List ℕ) → Makes custom (after_tracks (no_steps options.limit) custom name body.now (OverSets sets)) options.shown result }
 {
     let header = Header::Sets(sets);
     let regex = parsed(alloc, body, &header)?;
-    let mut steps = Steps::new(alloc, limit);
+    let mut steps = Steps::new(alloc, options.limit);
     let automaton = regex_step(alloc, &regex, &mut steps)?;
-    made_of(alloc, &header, &automaton, &steps, shown)
+    made_of(alloc, &header, &automaton, &steps, options.shown)
 }
 
-/// What is made of the expression in a quoted text over systems, by the steps `regex`, `pad` and `valid`.
+/// What is made of the expression in a quoted text over the systems of these names, of which there is at least one. Those of
+/// users are admitted first.
+fn regex_over_names<T: Store>(
+    alloc: Global,
+    options: StepOptions,
+    names: &[Name],
+    body: &[u8],
+    store: &mut T,
+) -> Result<Made, Fault>
+    requires { 0 < length names.now }
+    ensures { FromTexts (λ custom made. (name : List ℕ) → Makes custom (after_head options.limit custom (record { name = name; alphabets = Systems names.now; body = body.now })) options.shown made) (T.view store.old) result (T.view store.new) }
+{
+    let once = names_once(alloc, names)?;
+    let mut users = UserSystems::admitted(alloc, options.limit, &once, store)?;
+    let systems = TrackSystems::of_names(alloc, names, &users.named)?;
+    regex_over_systems(alloc, &systems, body, options.shown, &mut users.steps)
+}
+
+/// What is made of the expression in a quoted text over systems, by the steps `regex`, `pad` and `valid` as the next ones.
 fn regex_over_systems(
     alloc: Global,
-    limit: u32,
     systems: &TrackSystems,
     body: &[u8],
     shown: bool,
+    steps: &mut Steps,
 ) -> Result<Made, Fault>
-    requires { AreTrackSystems systems.now }
-    ensures { (name : List ℕ) → Makes (after_tracks limit name body.now (OverSystems systems.now.direction (named_in systems.now.systems.items))) shown result }
+    requires some { 0 < length systems.now.systems.items }
+    requires directions { All (IsIn systems.now.direction) systems.now.systems.items }
+    requires named { (custom : Custom) × AreNamed custom systems.now.direction (named_in systems.now.systems.items) }
+    ensures { (custom : Custom) (name : List ℕ) → AreNamed custom systems.now.direction (named_in systems.now.systems.items) → Makes custom (after_tracks steps.old custom name body.now (OverSystems systems.now.direction (named_in systems.now.systems.items))) shown result }
 {
     let header = Header::Systems(systems.tracks(alloc)?);
     let regex = parsed(alloc, body, &header)?;
     let languages = systems.languages(alloc)?;
-    let mut steps = Steps::new(alloc, limit);
-    let relation = relation_steps(alloc, &regex, systems.direction, &languages, &mut steps)?;
-    made_of(alloc, &header, relation.dfa(), &steps, shown)
+    let relation = relation_steps(alloc, &regex, systems.direction, &languages, steps)?;
+    made_of(alloc, &header, relation.dfa(), steps, shown)
 }
 
 /// The expression in a quoted text.

@@ -20,7 +20,7 @@ use wal_outside::{Folder, Store, WriteFault};
 #[derive(Drop)]
 pub struct Session {
     limit: u32,
-    // What formulas named so far. It changes no answer.
+    // The built-in systems that formulas named so far. They change no answer.
     systems: SealedSystems,
 }
 

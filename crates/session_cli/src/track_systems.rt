@@ -1,15 +1,19 @@
 //! The systems of tracks, by their names.
 ghost use Rattle.std.specs.Prelude.{◌≡◌, ◌<◌, length, map, IfOk, MatchOption, MatchResult};
-ghost use Rattle.std.specs.List.{All};
+ghost use Rattle.std.specs.List.{All, AllByRecursion};
 ghost use Rattle.std.specs.Rc.{rc_value};
 ghost use Rattle.reg_steps.specs.Relations.{AreSystemLanguages};
+ghost use Rattle.system_files.specs.SystemFiles.{Custom};
 ghost use Rattle.system_names.specs.Names.{IsBuiltInName};
+ghost use Rattle.definitions.specs.Named.{AreNamed};
 ghost use Rattle.definitions.specs.Tracks.{header_tracks, systems_of};
 ghost use Rattle.session_cli.specs.KnownSystems.{name_of};
-ghost use Rattle.session_cli.specs.TrackSystems.{AreNames, IsUnknown, AreTrackSystems, AreTrackSystemsOf, AreRefusedNames, IsFirstApart, IsIn, named_in};
+ghost use Rattle.session_cli.specs.UserSystems.{IsThere};
+ghost use Rattle.session_cli.specs.TrackSystems.{AreNamesOf, IsNameOf, AreTrackSystemsOf, ArePartedNames, IsFirstApart, IsIn, named_in};
 
 use crate::fault::Fault;
 use crate::known_system::KnownSystem;
+use crate::track_system::{Meaning, TrackSystem};
 use base_k::base_k::BaseK;
 use digit_tuple::dfa::Dfa;
 use digit_tuple::direction::Direction;
@@ -17,8 +21,7 @@ use digit_tuple::faults::OutOfMemory;
 use digit_tuple::name::Name;
 use digit_tuple::systems::Systems;
 use fib_system::fib::Fib;
-use minimise::canonical::canonical;
-use numeration::num_system::NumSystem;
+use formula_build::NamedSystems;
 use std::alloc::Global;
 use std::rc::Rc;
 use system_names::{SystemKind, built_in};
@@ -28,42 +31,40 @@ use system_names::{SystemKind, built_in};
 pub(crate) struct TrackSystems {
     /// The direction.
     pub(crate) direction: Direction,
-    /// The name of each track's system.
-    pub(crate) names: Vec<Name>,
     /// The system of each track.
-    pub(crate) systems: Vec<KnownSystem>,
+    pub(crate) systems: Vec<TrackSystem>,
 }
 
 impl TrackSystems {
-    /// The systems of these names, of which there is at least one.
+    /// The systems of these names, of which there is at least one, and each is built in or one of the users' systems.
     ///
     /// # Errors
-    /// `SystemUnknown` with the first name that is not known; then `Direction` with the first name and the first later one of
-    /// the other direction.
-    pub(crate) fn of_names(alloc: Global, names: Vec<Name>) -> Result<Self, Fault>
-        requires { 0 < length names.items }
-        ensures { MatchResult result (AreTrackSystemsOf names.items) (AreRefusedNames names.items) }
+    /// `Direction` with the first name and the first later one of the other direction, or `Memory`.
+    pub(crate) fn of_names(
+        alloc: Global,
+        names: &[Name],
+        users: &NamedSystems,
+    ) -> Result<Self, Fault>
+        requires some { 0 < length names.now }
+        requires there { AllByRecursion (IsThere users.now) names.now }
+        ensures { MatchResult result (AreTrackSystemsOf users.now names.now) (ArePartedNames users.now names.now) }
     {
-        let systems = known_systems(alloc, &names)?;
+        let systems = systems_named(alloc, names, users)?;
         let direction = systems[0].direction();
         match other_direction(&systems, direction) {
             Some(place) => Err(Fault::Direction(names[0].copy(alloc)?, names[place].copy(alloc)?)),
-            None => Ok(TrackSystems {
-                direction,
-                names,
-                systems,
-            }),
+            None => Ok(TrackSystems { direction, systems }),
         }
     }
 
     /// The tracks of a header over the systems.
     pub(crate) fn tracks(&self, alloc: Global) -> Result<Systems, OutOfMemory>
-        requires { AreTrackSystems self.now }
+        requires { (custom : Custom) × AreNamed custom self.now.direction (named_in self.now.systems.items) }
         ensures { IfOk result (λ systems. systems ≡ header_tracks (named_in self.now.systems.items)) }
     {
         let mut tracks = Systems::new(alloc);
-        for (place, system) in self.systems.iter().enumerate() {
-            tracks.push(self.names[place].copy(alloc)?, system.digits())?;
+        for system in &self.systems {
+            tracks.push(system.name.copy(alloc)?, system.digits())?;
         }
         Ok(tracks)
     }
@@ -75,29 +76,47 @@ impl TrackSystems {
     {
         let mut languages = Vec::new(alloc);
         for system in &self.systems {
-            let language = system.language(alloc)?;
-            languages.push(Rc::new(alloc, canonical(alloc, &language)?)?)?;
+            languages.push(system.language(alloc)?)?;
         }
         Ok(languages)
     }
 }
 
 // The system of each name.
-fn known_systems(alloc: Global, names: &[Name]) -> Result<Vec<KnownSystem>, Fault>
-    ensures { MatchResult result (λ systems. AreNames names.now systems.items) (IsUnknown names.now) }
+fn systems_named(
+    alloc: Global,
+    names: &[Name],
+    users: &NamedSystems,
+) -> Result<Vec<TrackSystem>, OutOfMemory>
+    requires { AllByRecursion (IsThere users.now) names.now }
+    ensures { IfOk result (λ systems. AreNamesOf users.now names.now systems.items) }
 {
     let mut systems = Vec::new(alloc);
     for name in names {
-        match system_named(name) {
-            Some(system) => systems.push(system)?,
-            None => return Err(Fault::SystemUnknown(name.copy(alloc)?)),
-        }
+        systems.push(TrackSystem {
+            name: name.copy(alloc)?,
+            meaning: meaning(name, users)?,
+        })?;
     }
     Ok(systems)
 }
 
+// What a name stands for.
+fn meaning(name: &Name, users: &NamedSystems) -> Result<Meaning, OutOfMemory>
+    requires { IsThere users.now name.now }
+    ensures { IfOk result (IsNameOf users.now name.now) }
+{
+    if let Some(system) = system_named(name) {
+        return Ok(Meaning::BuiltIn(system));
+    }
+    match users.get(name) {
+        Some(system) => Ok(Meaning::Admitted(system.clone()?)),
+        None => unreachable!(),
+    }
+}
+
 // The place of the first system that is read in another direction.
-fn other_direction(systems: &[KnownSystem], direction: Direction) -> Option<usize>
+fn other_direction(systems: &[TrackSystem], direction: Direction) -> Option<usize>
     ensures { MatchOption result (All (IsIn direction) systems.now) (IsFirstApart direction systems.now) }
 {
     for (place, system) in systems.iter().enumerate() {
@@ -108,7 +127,7 @@ fn other_direction(systems: &[KnownSystem], direction: Direction) -> Option<usiz
     None
 }
 
-/// The system of this name.
+/// The built-in system of this name.
 pub(crate) fn system_named(name: &Name) -> Option<KnownSystem>
     ensures { MatchOption result (¬ IsBuiltInName name.now) (λ system. name.now ≡ name_of system) }
 {

@@ -1,16 +1,12 @@
 //! Calls of automata: what is printed of scripts over stores that hold files.
 
-use crate::whole::{Left, Outside, SURE, run_over};
-use session_cli::Status;
+use crate::no_answer::NoAnswer;
+use crate::whole::{Ran, SURE, code_of, expect, expect_printed, run_over, run_script};
 use std::alloc::Global;
-use std::process::Abort;
-use std::test::Fail;
 use wal_outside::{Folder, MemStore, TEXT_LIMIT};
 
-/// A file among the automata, by its name and its text; or none, where the name is empty.
+/// A file among the automata, by its name and its text.
 type FileRow = (&'static str, &'static str);
-
-const NONE: FileRow = ("", "");
 
 /// Scripts that call what they made before, and what they print.
 static CALLS: [(&str, &str); 22] = [
@@ -173,55 +169,33 @@ static FILES: [(FileRow, &str, &str); 14] = [
     ),
 ];
 
-/// Runs a script over a store with this file among the automata.
-fn run_with(alloc: Global, file: FileRow, script: &str, outside: &Outside) -> Result<Left, Fail> {
-    let (name, text) = file;
-    let mut store = MemStore::new(alloc, Vec::from_slice(alloc, outside.failing_store)?);
-    if !name.is_empty() {
-        store.put(Folder::Automata, name, text.as_bytes())?;
-    }
-    Ok(run_over(alloc, &["walnut"], script.as_bytes(), outside, store)?)
+/// A store with this text among the automata.
+fn store_with(alloc: Global, name: &str, text: &[u8]) -> Result<MemStore, NoAnswer> {
+    let mut store = MemStore::new(alloc, Vec::new(alloc));
+    store.put(Folder::Automata, name, text)?;
+    Ok(store)
 }
 
-/// The script prints this over a store with the file.
-fn expect_printed(
-    rt: &impl Abort,
-    alloc: Global,
-    file: FileRow,
-    script: &str,
-    printed: &str,
-) -> Result<(), Fail> {
-    let left = run_with(alloc, file, script, &SURE)?;
-    assert_eq!(rt; left.out.held(), printed.as_bytes(), "what {script} prints");
-    Ok(())
-}
-
-fn expect_calls(rt: &impl Abort, alloc: Global, rows: &[(&str, &str)]) -> Result<(), Fail> {
-    for (script, printed) in rows {
-        expect_printed(rt, alloc, NONE, script, printed)?;
-    }
-    Ok(())
-}
-
-fn expect_files(
-    rt: &impl Abort,
-    alloc: Global,
-    rows: &[(FileRow, &str, &str)],
-) -> Result<(), Fail> {
-    for (file, script, printed) in rows {
-        expect_printed(rt, alloc, *file, script, printed)?;
-    }
-    Ok(())
+/// Runs a script over a store with this text among the automata.
+fn run_with(alloc: Global, name: &str, text: &[u8], script: &str) -> Ran {
+    let store = store_with(alloc, name, text)?;
+    run_over(alloc, "walnut", script.as_bytes(), &SURE, store)
 }
 
 #[test]
-fn calls_print_as_listed(rt: HostRuntime) -> Result<(), Fail> {
-    expect_calls(&rt, rt.alloc(), &CALLS)
+fn calls_print_as_listed(rt: HostRuntime) {
+    for (script, printed) in &CALLS {
+        let ran = run_script(rt.alloc(), script.as_bytes());
+        expect_printed(&rt, script, &ran, printed);
+    }
 }
 
 #[test]
-fn files_are_called_as_listed(rt: HostRuntime) -> Result<(), Fail> {
-    expect_files(&rt, rt.alloc(), &FILES)
+fn files_are_called_as_listed(rt: HostRuntime) {
+    for ((name, text), script, printed) in &FILES {
+        let ran = run_with(rt.alloc(), name, text.as_bytes(), script);
+        expect_printed(&rt, script, &ran, printed);
+    }
 }
 
 /// Four commands, each of which calls the one before it.
@@ -229,87 +203,67 @@ const CHAIN: &str =
     "def a \"x=1\"; def b \"$a(x-1)\"; def c \"$b(x-1) | $a(x)\"; eval t \"$c(3)\";";
 
 /// The number of the store's call that fails, what is printed, and the status.
-static FAILING: [(u64, &str); 9] = [
+static FAILING: [(u64, &str, u8); 9] = [
     (
         1,
         "error 1: F26 Store Automata Library/a\nerror 1: F11 Unknown Automata Library/a\nerror 1: F11 Unknown Automata Library/b\nerror 1: F11 Unknown Automata Library/c\n",
+        3,
     ),
     (
         2,
         "error 1: F26 Store Automata Library/a\nerror 1: F11 Unknown Automata Library/b\nerror 1: F11 Unknown Automata Library/c\n",
+        3,
     ),
     (
         3,
         "error 1: F26 Store Automata Library/b\nerror 1: F11 Unknown Automata Library/b\nerror 1: F11 Unknown Automata Library/c\n",
+        3,
     ),
     (
         4,
         "error 1: F26 Store Automata Library/b\nerror 1: F11 Unknown Automata Library/c\n",
+        3,
     ),
     (
         5,
         "error 1: F26 Store Automata Library/a\nerror 1: F11 Unknown Automata Library/c\n",
+        3,
     ),
     (
         6,
         "error 1: F26 Store Automata Library/c\nerror 1: F11 Unknown Automata Library/c\n",
+        3,
     ),
-    (7, "error 1: F26 Store Automata Library/c\n"),
-    (8, "error 1: F26 Store Result/t\n"),
-    (9, "TRUE\n"),
+    (7, "error 1: F26 Store Automata Library/c\n", 3),
+    (8, "error 1: F26 Store Result/t\n", 3),
+    (9, "TRUE\n", 0),
 ];
 
 /// Runs the chain over a store whose call of this number fails.
-fn run_to_call(alloc: Global, failing: u64) -> Result<Left, Fail> {
-    let mut calls = Vec::new(alloc);
-    calls.push(failing)?;
-    let store = MemStore::new(alloc, calls);
-    Ok(run_over(alloc, &["walnut"], CHAIN.as_bytes(), &SURE, store)?)
-}
-
-fn expect_failing(rt: &impl Abort, alloc: Global, rows: &[(u64, &str)]) -> Result<(), Fail> {
-    for (failing, printed) in rows {
-        let left = run_to_call(alloc, *failing)?;
-        assert_eq!(rt;
-            left.out.held(),
-            printed.as_bytes(),
-            "where call {failing} fails"
-        );
-        let status = if *failing < 9 {
-            Status::Outside
-        } else {
-            Status::Done
-        };
-        assert_eq!(rt; left.status, status, "where call {failing} fails");
-    }
-    Ok(())
+fn run_to_call(alloc: Global, failing: u64) -> Ran {
+    let store = MemStore::new(alloc, vec![in alloc; failing]?);
+    run_over(alloc, "walnut", CHAIN.as_bytes(), &SURE, store)
 }
 
 #[test]
-fn a_store_that_fails_at_each_call(rt: HostRuntime) -> Result<(), Fail> {
-    expect_failing(&rt, rt.alloc(), &FAILING)
+fn a_store_that_fails_at_each_call(rt: HostRuntime) {
+    for (failing, printed, code) in &FAILING {
+        let ran = run_to_call(rt.alloc(), *failing);
+        expect_printed(&rt, printed, &ran, printed);
+        expect(&rt, printed, &code_of(&ran), code);
+    }
+}
+
+/// Runs a script that calls a file of so many line ends.
+fn run_long_file(alloc: Global, length: usize) -> Ran {
+    let text = vec![in alloc; b'\n'; length]?;
+    run_with(alloc, "b", &text, "eval w \"$b(0)\";")
 }
 
 /// A file of one byte more than may be read is refused without a look at its format.
 #[test]
-fn a_file_has_at_most_16777216_bytes(rt: HostRuntime) -> Result<(), Fail> {
-    let alloc = rt.alloc();
-    let text = blank_lines(alloc, TEXT_LIMIT + 1)?;
-    let mut store = MemStore::new(alloc, Vec::new(alloc));
-    store.put(Folder::Automata, "b", &text)?;
-    let left = run_over(alloc, &["walnut"], b"eval w \"$b(0)\";", &SURE, store)?;
-    assert_eq!(rt;
-        left.out.held(),
-        b"error 1: F12 File Automata Library/b too long\n".as_slice()
-    );
-    Ok(())
-}
-
-/// So many line ends.
-fn blank_lines(alloc: Global, count: usize) -> Result<Vec<u8>, Fail> {
-    let mut text = Vec::with_capacity(alloc, count)?;
-    for _ in 0..count {
-        text.push(b'\n')?;
-    }
-    Ok(text)
+fn a_file_has_at_most_16777216_bytes(rt: HostRuntime) {
+    let ran = run_long_file(rt.alloc(), TEXT_LIMIT + 1);
+    let printed = "error 1: F12 File Automata Library/b too long\n";
+    expect_printed(&rt, "a long file", &ran, printed);
 }

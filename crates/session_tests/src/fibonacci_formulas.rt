@@ -1,94 +1,59 @@
 //! Formulas over the Fibonacci system: sums against arithmetic, and theorems on the infinite Fibonacci word.
 
-use crate::whole::{SURE, run_script};
+use crate::no_answer::NoAnswer;
+use crate::whole::{Ran, expect, expect_printed, printed_in, run_script};
 use std::alloc::{AllocError, Global};
 use std::process::Abort;
-use std::test::Fail;
 
-/// Puts a number in three digits behind a script.
-fn push_number(script: &mut Vec<u8>, number: u8) -> Result<(), AllocError> {
-    for digit in [number / 100, number / 10 % 10, number % 10] {
-        script.push(digit.wrapping_add(b'0'))?;
-    }
-    Ok(())
-}
-
-/// Puts that two numbers have this sum behind a script.
-fn push_sum(script: &mut Vec<u8>, first: u8, second: u8, sum: u8) -> Result<(), AllocError> {
-    push_number(script, first)?;
-    script.push(b'+')?;
-    push_number(script, second)?;
-    script.push(b'=')?;
-    push_number(script, sum)
-}
-
-/// Puts a command behind a script: that two numbers have their sum, and not the next number too.
-fn push_command(
-    script: &mut Vec<u8>,
-    system: &str,
-    first: u8,
-    second: u8,
-) -> Result<(), AllocError> {
+/// A command: that two numbers have their sum, and not the next number too.
+fn sum_command(alloc: Global, system: &str, first: u8, second: u8) -> Result<String, AllocError> {
     let sum = first.wrapping_add(second);
-    script.extend_from_slice(b"eval s \"?")?;
-    script.extend_from_slice(system.as_bytes())?;
-    script.push(b' ')?;
-    push_sum(script, first, second, sum)?;
-    script.extend_from_slice(b" & ~")?;
-    push_sum(script, first, second, sum.wrapping_add(1))?;
-    script.extend_from_slice(b"\";")
+    let next = sum.wrapping_add(1);
+    format!(in alloc;
+        "eval s \"?{system} {first:03}+{second:03}={sum:03} & ~{first:03}+{second:03}={next:03}\";"
+    )
 }
 
-/// A command for each number below 60, added to this one.
-fn sums_with(alloc: Global, system: &str, first: u8) -> Result<Vec<u8>, AllocError> {
-    let mut script = Vec::new(alloc);
+/// Runs a command for each number below 60, added to this one.
+fn run_sums(alloc: Global, system: &str, first: u8) -> Ran {
+    let mut script = String::new(alloc);
     for second in 0..60 {
-        push_command(&mut script, system, first, second)?;
+        script.push_str(&sum_command(alloc, system, first, second)?)?;
     }
-    Ok(script)
+    run_script(alloc, script.as_bytes())
 }
 
 /// What is printed of 60 true sentences.
-fn sixty_times_true(alloc: Global) -> Result<Vec<u8>, AllocError> {
-    let mut printed = Vec::new(alloc);
-    for _ in 0..60 {
-        printed.extend_from_slice(b"TRUE\n")?;
-    }
-    Ok(printed)
-}
+const SIXTY_TIMES_TRUE: &str = "\
+TRUE\nTRUE\nTRUE\nTRUE\nTRUE\nTRUE\nTRUE\nTRUE\nTRUE\nTRUE\nTRUE\nTRUE\n\
+TRUE\nTRUE\nTRUE\nTRUE\nTRUE\nTRUE\nTRUE\nTRUE\nTRUE\nTRUE\nTRUE\nTRUE\n\
+TRUE\nTRUE\nTRUE\nTRUE\nTRUE\nTRUE\nTRUE\nTRUE\nTRUE\nTRUE\nTRUE\nTRUE\n\
+TRUE\nTRUE\nTRUE\nTRUE\nTRUE\nTRUE\nTRUE\nTRUE\nTRUE\nTRUE\nTRUE\nTRUE\n\
+TRUE\nTRUE\nTRUE\nTRUE\nTRUE\nTRUE\nTRUE\nTRUE\nTRUE\nTRUE\nTRUE\nTRUE\n";
 
-/// All sums of two numbers below 60.
-fn expect_sums(rt: &impl Abort, alloc: Global, system: &str) -> Result<(), Fail> {
-    let printed = sixty_times_true(alloc)?;
+/// The first number below 60 whose sums with the others are not so, or 60.
+fn first_wrong(alloc: Global, system: &str) -> u8 {
     for first in 0..60 {
-        let left = run_script(alloc, &sums_with(alloc, system, first)?, &SURE)?;
-        assert_eq!(rt;
-            left.out.held(),
-            printed.as_slice(),
-            "sums with {first} in {system}"
-        );
+        let ran = run_sums(alloc, system, first);
+        if printed_in(&ran) != SIXTY_TIMES_TRUE.as_bytes() {
+            return first;
+        }
     }
-    Ok(())
+    60
 }
 
 #[test]
-fn numbers_below_60_have_their_sums(rt: HostRuntime) -> Result<(), Fail> {
-    expect_sums(&rt, rt.alloc(), "msd_fib")?;
-    expect_sums(&rt, rt.alloc(), "lsd_fib")
+fn numbers_below_60_have_their_sums(rt: HostRuntime) {
+    expect(&rt, "msd_fib", &first_wrong(rt.alloc(), "msd_fib"), &60);
+    expect(&rt, "lsd_fib", &first_wrong(rt.alloc(), "lsd_fib"), &60);
 }
 
 /// `f(n)`: the letter of the infinite Fibonacci word at n is 1, so that the representation of n has 1 as its least
 /// significant digit; and `fib(n)`: n is a Fibonacci number.
-static WORDS: [(&str, &str); 2] = [
-    (
-        "msd_fib",
-        "reg f msd_fib \"(0|1)*1\"; reg fib msd_fib \"10*\";",
-    ),
-    (
-        "lsd_fib",
-        "reg f lsd_fib \"1(0|1)*\"; reg fib lsd_fib \"0*1\";",
-    ),
-];
+const MSD_WORD: &str = "reg f msd_fib \"(0|1)*1\"; reg fib msd_fib \"10*\";";
+
+/// The same from the least significant digit on.
+const LSD_WORD: &str = "reg f lsd_fib \"1(0|1)*\"; reg fib lsd_fib \"0*1\";";
 
 /// `square(n)`: a square with halves of length n occurs; `per(i,n,p)`: the factor of length n at i has the period p;
 /// and `least(i,n,p)`: p is the least one.
@@ -115,59 +80,44 @@ static STATEMENTS: [(&str, &str); 8] = [
     ("Ei ~$f(i) & ~$f(i+1) & ~$f(i+2)", "FALSE\n"),
 ];
 
-/// Puts a command whose formula is over a system behind a script.
-fn push_formula(
-    script: &mut Vec<u8>,
-    head: &str,
+/// The command that defines a notion over a system.
+fn definition(
+    alloc: Global,
     system: &str,
-    formula: &str,
-) -> Result<(), AllocError> {
-    script.extend_from_slice(head.as_bytes())?;
-    script.extend_from_slice(b" \"?")?;
-    script.extend_from_slice(system.as_bytes())?;
-    script.push(b' ')?;
-    script.extend_from_slice(formula.as_bytes())?;
-    script.extend_from_slice(b"\";")
+    (name, formula): (&str, &str),
+) -> Result<String, AllocError> {
+    format!(in alloc; "def {name} \"?{system} {formula}\";")
 }
 
 /// The commands that define the word and the notions over a system.
-fn definitions(alloc: Global, system: &str, word: &str) -> Result<Vec<u8>, AllocError> {
-    let mut script = Vec::from_slice(alloc, word.as_bytes())?;
-    for (name, formula) in &NOTIONS {
-        script.extend_from_slice(b"def ")?;
-        push_formula(&mut script, name, system, formula)?;
+fn definitions(alloc: Global, system: &str, word: &str) -> Result<String, NoAnswer> {
+    let mut script = String::from_str(alloc, word)?;
+    for notion in &NOTIONS {
+        script.push_str(&definition(alloc, system, *notion)?)?;
     }
     Ok(script)
 }
 
-fn expect_statements(
-    rt: &impl Abort,
-    alloc: Global,
-    word: (&str, &str),
-    rows: &[(&str, &str)],
-) -> Result<(), Fail> {
-    let (system, commands) = word;
-    for (formula, printed) in rows {
-        let mut script = definitions(alloc, system, commands)?;
-        push_formula(&mut script, "eval w", system, formula)?;
-        let left = run_script(alloc, &script, &SURE)?;
-        assert_eq!(rt;
-            left.out.held(),
-            printed.as_bytes(),
-            "{formula} in {system}"
-        );
-    }
-    Ok(())
+/// Runs these commands and the one that decides a statement.
+fn run_statement(alloc: Global, system: &str, word: &str, statement: &str) -> Ran {
+    let before = definitions(alloc, system, word)?;
+    let script = format!(in alloc; "{before}eval w \"?{system} {statement}\";")?;
+    run_script(alloc, script.as_bytes())
 }
 
-fn expect_words(rt: &impl Abort, alloc: Global, words: &[(&str, &str)]) -> Result<(), Fail> {
-    for word in words {
-        expect_statements(rt, alloc, *word, &STATEMENTS)?;
+fn expect_statements(rt: &impl Abort, alloc: Global, system: &str, word: &str) {
+    for (statement, printed) in &STATEMENTS {
+        let ran = run_statement(alloc, system, word, statement);
+        expect_printed(rt, statement, &ran, printed);
     }
-    Ok(())
 }
 
 #[test]
-fn the_fibonacci_word_is_as_in_the_literature(rt: HostRuntime) -> Result<(), Fail> {
-    expect_words(&rt, rt.alloc(), &WORDS)
+fn the_fibonacci_word_is_as_in_the_literature(rt: HostRuntime) {
+    expect_statements(&rt, rt.alloc(), "msd_fib", MSD_WORD);
+}
+
+#[test]
+fn the_fibonacci_word_is_so_from_the_least_significant_digit_on(rt: HostRuntime) {
+    expect_statements(&rt, rt.alloc(), "lsd_fib", LSD_WORD);
 }

@@ -1,9 +1,8 @@
 //! Formulas: what is printed of their steps and of their truth, and the faults by which they are refused.
 
-use crate::whole::{SURE, run_words};
+use crate::whole::{Ran, SURE, ended, expect, expect_printed, run_line};
 use std::alloc::Global;
 use std::process::Abort;
-use std::test::Fail;
 
 /// A command, and the lines of its steps with the verdict behind them.
 static STEPS: [(&str, &str); 23] = [
@@ -184,53 +183,38 @@ static FAULTS: [(&str, &str); 26] = [
     ("eval a \"?msd_40 a+b=3\";", "error 1: F18 Letters step 2\n"),
 ];
 
-#[test]
-fn steps_of_formulas_are_shown(rt: HostRuntime) -> Result<(), Fail> {
-    expect_all(&rt, rt.alloc(), &STEPS, 0)
+/// Runs a script under a limit of states.
+fn run_under(alloc: Global, limit: &str, script: &str) -> Ran {
+    let line = format!(in alloc; "walnut --states {limit}")?;
+    run_line(alloc, &line, script.as_bytes(), &SURE)
+}
+
+/// A run printed this, ended with this status, and stored something exactly where no command was refused.
+fn expect_run(rt: &impl Abort, script: &str, ran: &Ran, printed: &str, code: u8) {
+    expect_printed(rt, script, ran, printed);
+    expect(rt, script, &ended(ran), &(code, usize::from(code == 0)));
 }
 
 #[test]
-fn formulas_are_refused_by_their_first_fault(rt: HostRuntime) -> Result<(), Fail> {
-    expect_all(&rt, rt.alloc(), &FAULTS, 1)
-}
-
-#[test]
-fn steps_of_formulas_keep_to_the_limit_of_states(rt: HostRuntime) -> Result<(), Fail> {
-    expect_all_within(&rt, rt.alloc(), &LIMITS)
-}
-
-/// Each command prints what stands beside it, and ends with this status.
-fn expect_all(rt: &impl Abort, alloc: Global, rows: &[(&str, &str)], code: u8) -> Result<(), Fail> {
-    for (script, printed) in rows {
-        expect_printed(rt, alloc, ["100000", script, printed], code)?;
+fn steps_of_formulas_are_shown(rt: HostRuntime) {
+    for (script, printed) in &STEPS {
+        let ran = run_under(rt.alloc(), "100000", script);
+        expect_run(&rt, script, &ran, printed, 0);
     }
-    Ok(())
 }
 
-/// Each command prints what stands beside it, under its limit, and ends with its status.
-fn expect_all_within(
-    rt: &impl Abort,
-    alloc: Global,
-    rows: &[(&str, &str, &str, u8)],
-) -> Result<(), Fail> {
-    for (limit, script, printed, code) in rows {
-        expect_printed(rt, alloc, [limit, script, printed], *code)?;
+#[test]
+fn formulas_are_refused_by_their_first_fault(rt: HostRuntime) {
+    for (script, printed) in &FAULTS {
+        let ran = run_under(rt.alloc(), "100000", script);
+        expect_run(&rt, script, &ran, printed, 1);
     }
-    Ok(())
 }
 
-/// Runs a script under a limit: it prints this, ends with this status, and stores something exactly where no command
-/// is refused.
-fn expect_printed(rt: &impl Abort, alloc: Global, row: [&str; 3], code: u8) -> Result<(), Fail> {
-    let [limit, script, printed] = row;
-    let words = ["walnut", "--states", limit];
-    let left = run_words(alloc, &words, script.as_bytes(), &SURE)?;
-    assert_eq!(rt; left.out.held(), printed.as_bytes(), "what {script} prints");
-    assert_eq!(rt; left.status.code(), code, "the status of {script}");
-    assert_eq!(rt;
-        left.store.len(),
-        usize::from(code == 0),
-        "what {script} stores"
-    );
-    Ok(())
+#[test]
+fn steps_of_formulas_keep_to_the_limit_of_states(rt: HostRuntime) {
+    for (limit, script, printed, code) in &LIMITS {
+        let ran = run_under(rt.alloc(), limit, script);
+        expect_run(&rt, script, &ran, printed, *code);
+    }
 }

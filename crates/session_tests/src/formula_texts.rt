@@ -1,9 +1,7 @@
 //! What formulas store, and theorems of Presburger arithmetic.
 
-use crate::whole::{Left, SURE, run_script};
+use crate::whole::{Ran, count_in, expect, expect_printed, expect_stored, run_script};
 use std::alloc::Global;
-use std::process::Abort;
-use std::test::Fail;
 use wal_outside::Folder;
 
 /// A command, and the folder, the name and the text that it stores.
@@ -100,66 +98,35 @@ static THEOREMS: [&str; 20] = [
 ];
 
 #[test]
-fn formulas_store_their_texts(rt: HostRuntime) -> Result<(), Fail> {
-    expect_texts(&rt, rt.alloc(), &TEXTS)
-}
-
-/// Each command stores its text under its name, in its folder.
-fn expect_texts(
-    rt: &impl Abort,
-    alloc: Global,
-    rows: &[(&str, Folder, &str, &str)],
-) -> Result<(), Fail> {
-    for (script, folder, name, text) in rows {
-        let left = run_script(alloc, script.as_bytes(), &SURE)?;
-        expect_text(rt, &left, *folder, name, text)?;
+fn formulas_store_their_texts(rt: HostRuntime) {
+    for (script, folder, name, text) in &TEXTS {
+        let ran = run_script(rt.alloc(), script.as_bytes());
+        expect_stored(&rt, &ran, (*folder, name), text);
     }
-    Ok(())
 }
 
-/// This text stands under a name in a folder.
-fn expect_text(
-    rt: &impl Abort,
-    left: &Left,
-    folder: Folder,
-    name: &str,
-    text: &str,
-) -> Result<(), Fail> {
-    let stored = left.store.text(folder, name).ok_or("not stored")?;
-    assert_eq!(rt; stored, text.as_bytes(), "the text of {name}");
-    Ok(())
+/// Runs a command that decides a theorem between these texts.
+fn run_theorem(alloc: Global, before: &str, theorem: &str, after: &str) -> Ran {
+    let script = format!(in alloc; "eval t \"{before}{theorem}{after}\";")?;
+    run_script(alloc, script.as_bytes())
 }
 
 #[test]
-fn theorems_are_true_and_their_negations_false(rt: HostRuntime) -> Result<(), Fail> {
-    expect_theorems(&rt, rt.alloc(), &THEOREMS)
-}
-
-/// Each sentence is true, and its negation false.
-fn expect_theorems(rt: &impl Abort, alloc: Global, theorems: &[&str]) -> Result<(), Fail> {
-    for theorem in theorems {
-        let stated = format!(in alloc; "eval t \"{theorem}\";")?;
-        expect_verdict(rt, alloc, &stated, "TRUE\n")?;
-        let negated = format!(in alloc; "eval t \"~({theorem})\";")?;
-        expect_verdict(rt, alloc, &negated, "FALSE\n")?;
+fn theorems_are_true_and_their_negations_false(rt: HostRuntime) {
+    for theorem in &THEOREMS {
+        let stated = run_theorem(rt.alloc(), "", theorem, "");
+        expect_printed(&rt, theorem, &stated, "TRUE\n");
+        let negated = run_theorem(rt.alloc(), "~(", theorem, ")");
+        expect_printed(&rt, theorem, &negated, "FALSE\n");
     }
-    Ok(())
-}
-
-/// Runs a script that prints this and no more.
-fn expect_verdict(rt: &impl Abort, alloc: Global, script: &str, printed: &str) -> Result<(), Fail> {
-    let left = run_script(alloc, script.as_bytes(), &SURE)?;
-    assert_eq!(rt; left.out.held(), printed.as_bytes(), "what {script} prints");
-    Ok(())
 }
 
 // Among commands that are answered a refused one changes nothing.
 #[test]
-fn a_refused_formula_leaves_the_others(rt: HostRuntime) -> Result<(), Fail> {
+fn a_refused_formula_leaves_the_others(rt: HostRuntime) {
     let script = b"def p \"x=0\"; eval q \"x=1 | y=2 & z=3\"; def r \"x*y=1\"; eval s \"1=1\";";
-    let left = run_script(rt.alloc(), script, &SURE)?;
-    let printed = b"error 1: F03 MixedChain at 10\nerror 1: F05 NotLinear at 1\nTRUE\n";
-    assert_eq!(rt; left.out.held(), printed.as_slice());
-    assert_eq!(rt; left.store.len(), 2);
-    Ok(())
+    let ran = run_script(rt.alloc(), script);
+    let printed = "error 1: F03 MixedChain at 10\nerror 1: F05 NotLinear at 1\nTRUE\n";
+    expect_printed(&rt, "four commands", &ran, printed);
+    expect(&rt, "four commands", &count_in(&ran), &2);
 }

@@ -2,6 +2,10 @@
 //! stores that fail.
 #![tactic(auto)]
 
+// rows without an answer
+#[cfg(test)]
+mod no_answer;
+
 // one run, and what it leaves
 #[cfg(test)]
 mod whole;
@@ -59,6 +63,18 @@ mod call_rows;
 mod word_rows;
 #[cfg(test)]
 mod word_theorems;
+
+// systems of users in commands, and the files that define them
+#[cfg(test)]
+mod tribonacci_adder;
+#[cfg(test)]
+mod user_system_faults;
+#[cfg(test)]
+mod user_system_files;
+#[cfg(test)]
+mod user_system_rows;
+#[cfg(test)]
+mod user_system_steps;
 
 // words of the command line
 #[cfg(test)]

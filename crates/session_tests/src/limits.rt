@@ -1,126 +1,94 @@
 //! The limits, at their number and one more.
 
-use crate::whole::{Left, SURE, run_script};
-use session_cli::Status;
-use std::alloc::{AllocError, Global};
-use std::test::Fail;
+use crate::no_answer::NoAnswer;
+use crate::whole::{Ran, count_in, ended, expect, expect_printed, run_script};
+use std::alloc::Global;
 
 const COMMAND_LIMIT: usize = 65_536;
 
 const SCRIPT_LIMIT: usize = 16_777_216;
 
-const HEAD: &[u8] = b"reg p {0} \"0";
+const HEAD: &str = "reg p {0} \"0";
 
-/// A `reg` whose text has so many bytes, filled with blanks inside its quotes, and its terminator.
-fn command_of(alloc: Global, length: usize) -> Result<Vec<u8>, AllocError> {
-    let mut text = Vec::from_slice(alloc, HEAD)?;
-    let blanks = length.saturating_sub(HEAD.len() + 1);
-    for _ in 0..blanks {
-        text.push(b' ')?;
-    }
-    text.extend_from_slice(b"\";")?;
-    Ok(text)
+/// A `reg` whose text has so many bytes, filled with blanks inside its quotes, its terminator, and what follows.
+fn command_of(alloc: Global, length: usize, end: &str) -> Result<String, NoAnswer> {
+    let blanks = " ".repeat(alloc, length.saturating_sub(HEAD.len() + 1))?;
+    Ok(format!(in alloc; "{HEAD}{blanks}\";{end}")?)
 }
 
-fn run_command_of(alloc: Global, length: usize) -> Result<Left, AllocError> {
-    let script = command_of(alloc, length)?;
-    run_script(alloc, &script, &SURE)
+/// Runs such a command, and what follows.
+fn run_command_of(alloc: Global, length: usize, end: &str) -> Ran {
+    run_script(alloc, command_of(alloc, length, end)?.as_bytes())
 }
 
 #[test]
-fn a_command_has_at_most_65536_bytes(rt: HostRuntime) -> Result<(), Fail> {
-    let most = run_command_of(rt.alloc(), COMMAND_LIMIT)?;
-    assert_eq!(rt; most.status, Status::Done);
-    assert_eq!(rt; most.store.len(), 1);
-    let more = run_command_of(rt.alloc(), COMMAND_LIMIT + 1)?;
-    assert_eq!(rt; more.status, Status::Refused);
-    assert_eq!(rt; more.out.held(), b"error 1: F07 Long 65536\n".as_slice());
-    assert_eq!(rt; more.store.len(), 0);
-    Ok(())
+fn a_command_has_at_most_65536_bytes(rt: HostRuntime) {
+    let most = run_command_of(rt.alloc(), COMMAND_LIMIT, "");
+    expect(&rt, "65,536 bytes", &ended(&most), &(0, 1));
+    let more = run_command_of(rt.alloc(), COMMAND_LIMIT + 1, "");
+    expect(&rt, "one byte more", &ended(&more), &(1, 0));
+    expect_printed(&rt, "one byte more", &more, "error 1: F07 Long 65536\n");
 }
 
 // A command that is too long is answered, and so is the one after it.
 #[test]
-fn a_run_goes_on_after_a_long_command(rt: HostRuntime) -> Result<(), Fail> {
-    let mut script = command_of(rt.alloc(), COMMAND_LIMIT + 1)?;
-    script.extend_from_slice(b"\nx;reg a {0} \"0\":")?;
-    let left = run_script(rt.alloc(), &script, &SURE)?;
-    assert_eq!(rt;
-        left.out.held(),
-        b"error 1: F07 Long 65536\nerror 2: F01 Command\nstep 1 regex 3 2\n".as_slice()
-    );
-    assert_eq!(rt; left.store.len(), 1);
-    Ok(())
+fn a_run_goes_on_after_a_long_command(rt: HostRuntime) {
+    let end = "\nx;reg a {0} \"0\":";
+    let ran = run_command_of(rt.alloc(), COMMAND_LIMIT + 1, end);
+    let printed = "error 1: F07 Long 65536\nerror 2: F01 Command\nstep 1 regex 3 2\n";
+    expect_printed(&rt, "three commands", &ran, printed);
+    expect(&rt, "three commands", &count_in(&ran), &1);
 }
 
-/// A script of so many bytes: a command, line ends, and at the end a command without arguments.
-fn script_of(alloc: Global, length: usize) -> Result<Vec<u8>, AllocError> {
-    let mut script = Vec::with_capacity(alloc, length)?;
-    script.extend_from_slice(b"reg p {0} \"0\";\n")?;
-    for _ in script.len()..length.saturating_sub(2) {
-        script.push(b' ')?;
-    }
-    script.extend_from_slice(b"x;")?;
-    Ok(script)
+/// A script of so many bytes: a command, a line end, blanks, and at the end a command without arguments.
+fn script_of(alloc: Global, length: usize) -> Result<String, NoAnswer> {
+    let command = "reg p {0} \"0\";";
+    let blanks = " ".repeat(alloc, length.saturating_sub(command.len() + 3))?;
+    Ok(format!(in alloc; "{command}\n{blanks}x;")?)
 }
 
-fn run_script_of(alloc: Global, length: usize) -> Result<Left, AllocError> {
-    let script = script_of(alloc, length)?;
-    run_script(alloc, &script, &SURE)
+/// Runs such a script.
+fn run_script_of(alloc: Global, length: usize) -> Ran {
+    run_script(alloc, script_of(alloc, length)?.as_bytes())
 }
 
 #[test]
-fn a_script_has_at_most_16777216_bytes(rt: HostRuntime) -> Result<(), Fail> {
-    let most = run_script_of(rt.alloc(), SCRIPT_LIMIT)?;
-    assert_eq!(rt; most.out.held(), b"error 2: F01 Command\n".as_slice());
-    assert_eq!(rt; most.status, Status::Refused);
-    let more = run_script_of(rt.alloc(), SCRIPT_LIMIT + 1)?;
-    assert_eq!(rt; more.out.held(), b"error 2: F28 ScriptLimit\n".as_slice());
-    assert_eq!(rt; more.status, Status::Refused);
-    assert_eq!(rt; more.store.len(), 1);
-    Ok(())
+fn a_script_has_at_most_16777216_bytes(rt: HostRuntime) {
+    let most = run_script_of(rt.alloc(), SCRIPT_LIMIT);
+    expect_printed(&rt, "16,777,216 bytes", &most, "error 2: F01 Command\n");
+    expect(&rt, "16,777,216 bytes", &ended(&most), &(1, 1));
+    let more = run_script_of(rt.alloc(), SCRIPT_LIMIT + 1);
+    expect_printed(&rt, "one byte more", &more, "error 2: F28 ScriptLimit\n");
+    expect(&rt, "one byte more", &ended(&more), &(1, 1));
 }
 
-// Two letters of sixteen tracks: two states with a line of 198 bytes for each of 65,536 letters.
-#[test]
-fn a_stored_text_has_at_most_16777216_bytes(rt: HostRuntime) -> Result<(), Fail> {
-    let alloc = rt.alloc();
-    let mut script = Vec::from_slice(alloc, b"reg p ")?;
-    for _ in 0..16 {
-        script.extend_from_slice(b"{-2147483648,-2147483647}")?;
-    }
-    script.extend_from_slice(b" \"..\":")?;
-    let left = run_script(alloc, &script, &SURE)?;
-    assert_eq!(rt; left.out.held(), b"error 1: F07 Long 16777216\n".as_slice());
-    assert_eq!(rt; left.status, Status::Refused);
-    assert_eq!(rt; left.store.len(), 0);
-    Ok(())
-}
-
-/// A `reg` of a digit within so many parentheses.
-fn nested(alloc: Global, depth: usize) -> Result<Vec<u8>, AllocError> {
-    let mut script = Vec::from_slice(alloc, b"reg p {0} \"")?;
-    for _ in 0..depth {
-        script.push(b'(')?;
-    }
-    script.push(b'0')?;
-    for _ in 0..depth {
-        script.push(b')')?;
-    }
-    script.extend_from_slice(b"\";")?;
-    Ok(script)
+/// Runs a command of two letters of sixteen tracks: two states with a line of 198 bytes for each of 65,536 letters.
+fn run_long_text(alloc: Global) -> Ran {
+    let sets = "{-2147483648,-2147483647}".repeat(alloc, 16)?;
+    let script = format!(in alloc; "reg p {sets} \"..\":")?;
+    run_script(alloc, script.as_bytes())
 }
 
 #[test]
-fn an_expression_has_at_most_128_parentheses_in_one_another(rt: HostRuntime) -> Result<(), Fail> {
-    let most = run_script(rt.alloc(), &nested(rt.alloc(), 128)?, &SURE)?;
-    assert_eq!(rt; most.status, Status::Done);
-    assert_eq!(rt; most.store.len(), 1);
-    let more = run_script(rt.alloc(), &nested(rt.alloc(), 129)?, &SURE)?;
-    assert_eq!(rt;
-        more.out.held(),
-        b"error 1: F06 Depth in regex at 128\n".as_slice()
-    );
-    assert_eq!(rt; more.store.len(), 0);
-    Ok(())
+fn a_stored_text_has_at_most_16777216_bytes(rt: HostRuntime) {
+    let ran = run_long_text(rt.alloc());
+    expect_printed(&rt, "a long text", &ran, "error 1: F07 Long 16777216\n");
+    expect(&rt, "a long text", &ended(&ran), &(1, 0));
+}
+
+/// Runs a `reg` of a digit within so many parentheses.
+fn run_nested(alloc: Global, depth: usize) -> Ran {
+    let before = "(".repeat(alloc, depth)?;
+    let after = ")".repeat(alloc, depth)?;
+    let script = format!(in alloc; "reg p {{0}} \"{before}0{after}\";")?;
+    run_script(alloc, script.as_bytes())
+}
+
+#[test]
+fn an_expression_has_at_most_128_parentheses_in_one_another(rt: HostRuntime) {
+    let most = run_nested(rt.alloc(), 128);
+    expect(&rt, "128", &ended(&most), &(0, 1));
+    let more = run_nested(rt.alloc(), 129);
+    expect_printed(&rt, "129", &more, "error 1: F06 Depth in regex at 128\n");
+    expect(&rt, "129", &count_in(&more), &0);
 }

@@ -1,10 +1,7 @@
 //! Expressions over base systems: what is printed, the status and what is stored; and the same under a limit of states.
 
 use crate::rows::Row;
-use crate::whole::{SURE, run_words};
-use std::alloc::Global;
-use std::process::Abort;
-use std::test::Fail;
+use crate::whole::{SURE, ended, expect, expect_printed, run_line};
 
 pub static SYSTEMS: [Row; 29] = [
     Row {
@@ -212,9 +209,9 @@ pub static SYSTEMS: [Row; 29] = [
     },
 ];
 
-/// Words that give a limit of states, a script, what is printed of it, and the status.
+/// A command line that gives a limit of states, a script, what is printed of it, and the status.
 struct Limited {
-    texts: &'static [&'static str],
+    line: &'static str,
     script: &'static str,
     printed: &'static str,
     code: u8,
@@ -222,43 +219,43 @@ struct Limited {
 
 static LIMITED: [Limited; 7] = [
     Limited {
-        texts: &["walnut", "--states", "16"],
+        line: "walnut --states 16",
         script: "reg a lsd_2 \"...............\":",
         printed: "error 1: F19 States step 1\n",
         code: 1,
     },
     Limited {
-        texts: &["walnut", "--states", "17"],
+        line: "walnut --states 17",
         script: "reg a lsd_2 \"...............\":",
         printed: "error 1: F19 States step 2\n",
         code: 1,
     },
     Limited {
-        texts: &["walnut", "--states", "24"],
+        line: "walnut --states 24",
         script: "reg a lsd_2 \"(.....)*\":",
         printed: "error 1: F19 States step 2\n",
         code: 1,
     },
     Limited {
-        texts: &["walnut", "--states", "25"],
+        line: "walnut --states 25",
         script: "reg a lsd_2 \"(.....)*\":",
         printed: "step 1 regex 6 5\nstep 2 pad 25 1\nstep 3 valid 1 1\n",
         code: 0,
     },
     Limited {
-        texts: &["walnut", "--states", "16"],
+        line: "walnut --states 16",
         script: "reg a msd_2 \"(...1.)*\":",
         printed: "error 1: F19 States step 2\n",
         code: 1,
     },
     Limited {
-        texts: &["walnut", "--states", "31"],
+        line: "walnut --states 31",
         script: "reg a msd_2 \"(...1.)*\":",
         printed: "error 1: F19 States step 2\n",
         code: 1,
     },
     Limited {
-        texts: &["walnut", "--states", "32"],
+        line: "walnut --states 32",
         script: "reg a msd_2 \"(...1.)*\":",
         printed: "step 1 regex 7 5\nstep 2 pad 32 31\nstep 3 valid 32 31\n",
         code: 0,
@@ -266,18 +263,11 @@ static LIMITED: [Limited; 7] = [
 ];
 
 #[test]
-fn steps_keep_to_the_limit_of_states(rt: HostRuntime) -> Result<(), Fail> {
-    expect_limited(&rt, rt.alloc(), &LIMITED)
-}
-
-/// Each script prints what stands beside it, under its words, and ends with its status.
-fn expect_limited(rt: &impl Abort, alloc: Global, rows: &[Limited]) -> Result<(), Fail> {
-    for row in rows {
-        let left = run_words(alloc, row.texts, row.script.as_bytes(), &SURE)?;
-        assert_eq!(rt; left.out.held(), row.printed.as_bytes());
-        assert_eq!(rt; left.status.code(), row.code);
+fn steps_keep_to_the_limit_of_states(rt: HostRuntime) {
+    for row in &LIMITED {
+        let ran = run_line(rt.alloc(), row.line, row.script.as_bytes(), &SURE);
+        expect_printed(&rt, row.script, &ran, row.printed);
         let stored = usize::from(row.code == 0);
-        assert_eq!(rt; left.store.len(), stored);
+        expect(&rt, row.script, &ended(&ran), &(row.code, stored));
     }
-    Ok(())
 }

@@ -1,9 +1,10 @@
 //! One run over the objects in memory, and what it leaves.
 
+use crate::no_answer::NoAnswer;
 use session_cli::{Status, run};
-use std::alloc::{AllocError, Global};
+use std::alloc::Global;
+use std::fmt::Debug;
 use std::process::Abort;
-use std::test::Fail;
 use wal_outside::{Folder, MemSink, MemSource, MemStore};
 
 /// What a run is over: lengths of pieces, and the numbers of the calls that fail. An empty list stands for whole pieces
@@ -38,57 +39,137 @@ pub fn over_sink(writes: &'static [usize], failing_writes: &'static [u64]) -> Ou
 /// What a run leaves.
 #[derive(Drop)]
 pub struct Left {
-    pub status: Status,
-    pub out: MemSink,
-    pub store: MemStore,
+    status: Status,
+    out: MemSink,
+    store: MemStore,
 }
 
-/// Runs a script with no words but the program's name.
-pub fn run_script(alloc: Global, script: &[u8], outside: &Outside) -> Result<Left, AllocError> {
-    run_words(alloc, &["walnut"], script, outside)
+/// A run, if its objects were made.
+pub type Ran = Result<Left, NoAnswer>;
+
+/// Runs a script with no words but the program's name, where all works.
+pub fn run_script(alloc: Global, script: &[u8]) -> Ran {
+    run_line(alloc, "walnut", script, &SURE)
 }
 
-/// Runs a script with these words of the command line.
-pub fn run_words(
-    alloc: Global,
-    texts: &[&str],
-    script: &[u8],
-    outside: &Outside,
-) -> Result<Left, AllocError> {
+/// Runs a script with the words of this command line.
+pub fn run_line(alloc: Global, line: &str, script: &[u8], outside: &Outside) -> Ran {
     let store = MemStore::new(alloc, Vec::from_slice(alloc, outside.failing_store)?);
-    run_over(alloc, texts, script, outside, store)
+    run_over(alloc, line, script, outside, store)
 }
 
-/// Runs a script over a store, with these words of the command line.
+/// Runs a script over a store, with the words of this command line.
 pub fn run_over(
     alloc: Global,
-    texts: &[&str],
+    line: &str,
     script: &[u8],
     outside: &Outside,
-    mut store: MemStore,
-) -> Result<Left, AllocError> {
-    let bytes = Vec::from_slice(alloc, script)?;
-    let mut source = MemSource::new(
-        bytes,
-        Vec::from_slice(alloc, outside.reads)?,
-        Vec::from_slice(alloc, outside.failing_reads)?,
-    );
-    let mut out = MemSink::new(
-        alloc,
-        Vec::from_slice(alloc, outside.writes)?,
-        Vec::from_slice(alloc, outside.failing_writes)?,
-    );
-    let mut words = Vec::new(alloc);
-    for text in texts {
-        words.push(String::from_str(alloc, text)?)?;
-    }
-    let status = run(alloc, &words, &mut source, &mut out, &mut store);
-    Ok(Left { status, out, store })
+    store: MemStore,
+) -> Ran {
+    let words = words_of(alloc, line)?;
+    let source = source_of(alloc, script, outside)?;
+    let out = sink_of(alloc, outside)?;
+    Ok(left_by(alloc, &words, source, out, store))
 }
 
-/// The text that stands under a name among the automata.
-pub fn expect_stored(rt: &impl Abort, left: &Left, name: &str, text: &str) -> Result<(), Fail> {
-    let stored = left.store.text(Folder::Automata, name).ok_or("not stored")?;
-    assert_eq!(rt; stored, text.as_bytes(), "the text of {name}");
-    Ok(())
+/// The words of a command line, between which stand blanks.
+fn words_of(alloc: Global, line: &str) -> Result<Vec<String>, NoAnswer> {
+    let mut words = Vec::new(alloc);
+    for word in line.split(' ') {
+        words.push(String::from_str(alloc, word)?)?;
+    }
+    Ok(words)
+}
+
+/// The source of a script.
+fn source_of(alloc: Global, script: &[u8], outside: &Outside) -> Result<MemSource, NoAnswer> {
+    let bytes = Vec::from_slice(alloc, script)?;
+    let reads = Vec::from_slice(alloc, outside.reads)?;
+    let failing = Vec::from_slice(alloc, outside.failing_reads)?;
+    Ok(MemSource::new(bytes, reads, failing))
+}
+
+/// An empty sink.
+fn sink_of(alloc: Global, outside: &Outside) -> Result<MemSink, NoAnswer> {
+    let writes = Vec::from_slice(alloc, outside.writes)?;
+    let failing = Vec::from_slice(alloc, outside.failing_writes)?;
+    Ok(MemSink::new(alloc, writes, failing))
+}
+
+/// What a run over these objects leaves.
+fn left_by(
+    alloc: Global,
+    words: &[String],
+    mut source: MemSource,
+    mut out: MemSink,
+    mut store: MemStore,
+) -> Left {
+    let status = run(alloc, words, &mut source, &mut out, &mut store);
+    Left { status, out, store }
+}
+
+/// What a run printed.
+pub fn printed_in(ran: &Ran) -> &[u8] {
+    match ran {
+        Ok(left) => left.out.held(),
+        Err(_) => b"no run",
+    }
+}
+
+/// The status of a run: 0 where each command was accepted, 1 where one was refused, 2 where the words were, and 3 where
+/// something outside failed.
+pub fn code_of(ran: &Ran) -> u8 {
+    match ran {
+        Ok(left) => left.status.code(),
+        Err(_) => u8::MAX,
+    }
+}
+
+/// How many texts a run stored.
+pub fn count_in(ran: &Ran) -> usize {
+    match ran {
+        Ok(left) => left.store.len(),
+        Err(_) => usize::MAX,
+    }
+}
+
+/// The status of a run, and how many texts it stored.
+pub fn ended(ran: &Ran) -> (u8, usize) {
+    (code_of(ran), count_in(ran))
+}
+
+/// The text that stands under a name after a run, or no bytes where none does.
+pub fn stored_in<'a>(ran: &'a Ran, folder: Folder, name: &str) -> &'a [u8] {
+    match ran {
+        Ok(left) => left.store.text(folder, name).unwrap_or(b""),
+        Err(_) => b"no run",
+    }
+}
+
+/// Whether a text stands under a name after a run.
+pub fn is_stored(ran: &Ran, folder: Folder, name: &str) -> bool {
+    match ran {
+        Ok(left) => left.store.text(folder, name).is_some(),
+        Err(_) => false,
+    }
+}
+
+/// Asserts that a row has these bytes.
+pub fn expect_bytes(rt: &impl Abort, row: &str, found: &[u8], wanted: &[u8]) {
+    assert_eq!(rt; found, wanted, "of {row}");
+}
+
+/// Asserts that a row has what is wanted.
+pub fn expect<T: Debug + PartialEq>(rt: &impl Abort, row: &str, found: &T, wanted: &T) {
+    assert!(rt; found == wanted, "of {row}: {found:?}, not {wanted:?}");
+}
+
+/// Asserts that a script prints this.
+pub fn expect_printed(rt: &impl Abort, script: &str, ran: &Ran, printed: &str) {
+    expect_bytes(rt, script, printed_in(ran), printed.as_bytes());
+}
+
+/// Asserts that a text stands under a name.
+pub fn expect_stored(rt: &impl Abort, ran: &Ran, (folder, name): (Folder, &str), text: &str) {
+    expect_bytes(rt, name, stored_in(ran, folder, name), text.as_bytes());
 }

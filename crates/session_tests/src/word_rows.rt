@@ -1,9 +1,8 @@
 //! Formulas with automatic words: what is printed and stored of scripts over stores that hold words.
 
-use crate::whole::{Left, SURE, expect_stored, run_over};
+use crate::no_answer::NoAnswer;
+use crate::whole::{Ran, SURE, expect_printed, expect_stored, run_over};
 use std::alloc::Global;
-use std::process::Abort;
-use std::test::Fail;
 use wal_outside::{Folder, MemStore};
 
 /// A file, by its name and its text.
@@ -136,57 +135,39 @@ static STORED: [(&str, &str); 3] = [
     ),
 ];
 
-/// Runs a script over a store that holds the words.
-pub fn run_over_words(alloc: Global, files: &[FileRow], script: &[u8]) -> Result<Left, Fail> {
+/// A store that holds these words.
+fn store_of_words(alloc: Global, files: &[FileRow]) -> Result<MemStore, NoAnswer> {
     let mut store = MemStore::new(alloc, Vec::new(alloc));
     for (name, text) in files {
         store.put(Folder::Words, name, text.as_bytes())?;
     }
-    Ok(run_over(alloc, &["walnut"], script, &SURE, store)?)
+    Ok(store)
 }
 
-/// A script over these words prints this.
-pub fn expect_printed(
-    rt: &impl Abort,
-    alloc: Global,
-    files: &[FileRow],
-    script: &str,
-    printed: &str,
-) -> Result<(), Fail> {
-    let left = run_over_words(alloc, files, script.as_bytes())?;
-    assert_eq!(rt; left.out.held(), printed.as_bytes(), "{script}");
-    Ok(())
-}
-
-fn expect_rows(rt: &impl Abort, alloc: Global, rows: &[(&str, &str)]) -> Result<(), Fail> {
-    for (script, printed) in rows {
-        expect_printed(rt, alloc, &FILES, script, printed)?;
-    }
-    Ok(())
+/// Runs a script over a store that holds these words.
+pub fn run_over_words(alloc: Global, files: &[FileRow], script: &str) -> Ran {
+    let store = store_of_words(alloc, files)?;
+    run_over(alloc, "walnut", script.as_bytes(), &SURE, store)
 }
 
 #[test]
-fn formulas_with_words_print_as_listed(rt: HostRuntime) -> Result<(), Fail> {
-    expect_rows(&rt, rt.alloc(), &PRINTED)
-}
-
-/// The command that defines a formula.
-fn definition(alloc: Global, formula: &str) -> Result<Vec<u8>, Fail> {
-    let mut script = Vec::from_slice(alloc, b"def w \"".as_slice())?;
-    script.extend_from_slice(formula.as_bytes())?;
-    script.extend_from_slice(b"\";")?;
-    Ok(script)
-}
-
-fn expect_texts(rt: &impl Abort, alloc: Global, rows: &[(&str, &str)]) -> Result<(), Fail> {
-    for (formula, text) in rows {
-        let left = run_over_words(alloc, &FILES, &definition(alloc, formula)?)?;
-        expect_stored(rt, &left, "w", text)?;
+fn formulas_with_words_print_as_listed(rt: HostRuntime) {
+    for (script, printed) in &PRINTED {
+        let ran = run_over_words(rt.alloc(), &FILES, script);
+        expect_printed(&rt, script, &ran, printed);
     }
-    Ok(())
+}
+
+/// Runs the command that defines a formula.
+fn run_definition(alloc: Global, formula: &str) -> Ran {
+    let script = format!(in alloc; "def w \"{formula}\";")?;
+    run_over_words(alloc, &FILES, &script)
 }
 
 #[test]
-fn formulas_with_words_store_their_texts(rt: HostRuntime) -> Result<(), Fail> {
-    expect_texts(&rt, rt.alloc(), &STORED)
+fn formulas_with_words_store_their_texts(rt: HostRuntime) {
+    for (formula, text) in &STORED {
+        let ran = run_definition(rt.alloc(), formula);
+        expect_stored(&rt, &ran, (Folder::Automata, "w"), text);
+    }
 }

@@ -1,9 +1,8 @@
 //! Theorems of the literature on automatic words, with their verdicts.
 
+use crate::whole::{Ran, expect_printed};
 use crate::word_rows::run_over_words;
-use std::alloc::{AllocError, Global};
-use std::process::Abort;
-use std::test::Fail;
+use std::alloc::Global;
 
 /// The Thue-Morse word `T`, the period-doubling word `D`, the Rudin-Shapiro word `R` and the regular paperfolding word `P`.
 static WORDS: [(&str, &str); 4] = [
@@ -74,24 +73,16 @@ static STATEMENTS: [(&str, &str); 18] = [
     ),
 ];
 
-/// The command that decides a statement, behind the one that it stands on.
-fn command(alloc: Global, statement: &str) -> Result<Vec<u8>, AllocError> {
-    let mut script = Vec::from_slice(alloc, POWER.as_bytes())?;
-    script.extend_from_slice(b"eval w \"")?;
-    script.extend_from_slice(statement.as_bytes())?;
-    script.extend_from_slice(b"\";")?;
-    Ok(script)
-}
-
-fn expect_verdicts(rt: &impl Abort, alloc: Global, rows: &[(&str, &str)]) -> Result<(), Fail> {
-    for (statement, verdict) in rows {
-        let left = run_over_words(alloc, &WORDS, &command(alloc, statement)?)?;
-        assert_eq!(rt; left.out.held(), verdict.as_bytes(), "{statement}");
-    }
-    Ok(())
+/// Runs the command that decides a statement, behind the one that it stands on.
+fn run_statement(alloc: Global, statement: &str) -> Ran {
+    let script = format!(in alloc; "{POWER}eval w \"{statement}\";")?;
+    run_over_words(alloc, &WORDS, &script)
 }
 
 #[test]
-fn automatic_words_are_as_in_the_literature(rt: HostRuntime) -> Result<(), Fail> {
-    expect_verdicts(&rt, rt.alloc(), &STATEMENTS)
+fn automatic_words_are_as_in_the_literature(rt: HostRuntime) {
+    for (statement, verdict) in &STATEMENTS {
+        let ran = run_statement(rt.alloc(), statement);
+        expect_printed(&rt, statement, &ran, verdict);
+    }
 }

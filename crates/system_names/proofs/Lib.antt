@@ -1,2 +1,3 @@
 -- Lemmas.
 pub mod OneSystem
+pub mod UserSystems

@@ -17,7 +17,7 @@ rest_of Msd kind = refl
 rest_of Lsd kind = refl
 
 -- directions differ in their names
-one_direction : (way other : Direction) → direction_part way ≡ direction_part other → way ≡ other
+pub one_direction : (way other : Direction) → direction_part way ≡ direction_part other → way ≡ other
 one_direction Msd Msd same = refl
 one_direction Lsd Lsd same = refl
 one_direction Msd Lsd same = let first : 109 ≡ 108 = ap (λ (xs : List ℕ). get_or xs 0 0) same in absurd (omega (arith, first))

@@ -1,13 +1,17 @@
-//! The names of the numeration systems that are built in: the direction and the kind that a name stands for.
+//! The names of numeration systems: the direction and the kind that a name of a built-in one stands for, and the names of those
+//! that users define.
 #![tactic(auto)]
 
 // a base, or the Fibonacci system
 mod system_kind;
 // the system of a name
 mod naming;
+// the names of users' systems
+mod users;
 // a name tells its system
 mod laws;
 
-pub use laws::names_tell_systems;
+pub use laws::{names_tell_systems, user_names_are_not_built_in, user_names_tell_systems};
 pub use naming::{BuiltIn, GREATEST_BASE, LEAST_BASE, built_in};
 pub use system_kind::SystemKind;
+pub use users::{LONGEST_PART, UserName, adder_name, all_alphanumeric, user_name};

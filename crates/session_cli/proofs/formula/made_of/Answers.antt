@@ -1,24 +1,87 @@
+use Rattle.std.proofs.Common.{◌≡◌, ◌∙◌, List, ℕ, Ok, refl, sym, ap, subst}
+use Rattle.std.specs.List.{AllByRecursion}
 use Rattle.std.proofs.lemmas.Result.{err_from_is_err_and}
-use Rattle.wal_outside.specs.declared.folder.Folder.TheVariants.{Bases}
-use Rattle.formula_parse.specs.Views.{formula_view}
-use Rattle.formula_resolve.specs.FirstMentions.{first_systems}
-use Rattle.formula_resolve.specs.Mentions.{mentions}
 use Rattle.dfa_loading.specs.Headers.{headers_of}
-use Rattle.session_cli.proofs.FormulaChains.{tables_unknown, tables_known}
-use Rattle.session_cli.proofs.FormulaRefusals.{unknown_system}
-use Rattle.session_cli.proofs.SealedLemmas.{all_known}
+use Rattle.formula_resolve.specs.FirstMentions.{first_systems}
+use Rattle.system_admission.specs.SystemSteps.{AdmitsNames}
+use Rattle.system_files.specs.SystemFiles.{Custom}
+use Rattle.session_cli.specs.Checks.{Fails}
+use Rattle.session_cli.specs.FormulaMakes.{tree_of, systems_of}
+use Rattle.session_cli.specs.SealedSystems.{HasBuiltIn}
+use Rattle.session_cli.specs.SystemChecks.{no_steps, systems_known}
+use Rattle.session_cli.specs.UserSystems.{AreAdmitted}
+use Rattle.session_cli.proofs.FormulaChains.{tables_refused, tables_known}
+use Rattle.session_cli.proofs.FormulaMaking.{made_own}
+use Rattle.session_cli.proofs.SealedLemmas.{all_there}
+use Rattle.session_cli.proofs.TextReads.{texts_none, texts_refused, texts_read}
 use Rattle.session_cli.proofs.formula.made_of.Goals as goal
 
-pub returns-in_err-seal_systems : goal.returns-in_err-seal_systems
-returns-in_err-seal_systems c =
+pub returns-in_err-headers : goal.returns-in_err-headers
+returns-in_err-headers g c =
     let p = err_from_is_err_and c.from_residual.result c.from_residual.ensures.1 in
-    let f = formula_view c.args.formula.now in
-    let fault = c.in_err-seal_systems.field-0.0 in
-    λ ledger files place stores listed. rw (p.1, p.2) (tables_unknown c.args.options.limit ledger place f c.args.tables.now fault (unknown_system (ledger Bases) c.args.tables.now f fault c.in_err-seal_systems.ensures.sealed))
+    rw (p.1, p.2) (texts_none _ _ _ refl (λ custom ledger files place stores same listed. tt))
+
+pub returns-in_err-mentions : goal.returns-in_err-mentions
+returns-in_err-mentions g c =
+    let p = err_from_is_err_and c.from_residual-in_err-mentions.result c.from_residual-in_err-mentions.ensures.1 in
+    rw (p.1, p.2) (texts_none _ _ _ refl (λ custom ledger files place stores same listed. tt))
+
+pub returns-in_err-mentioned : goal.returns-in_err-mentioned
+returns-in_err-mentioned g c =
+    let p = err_from_is_err_and c.from_residual-in_err-mentioned.result c.from_residual-in_err-mentioned.ensures.1 in
+    rw (p.1, p.2) (texts_none _ _ _ refl (λ custom ledger files place stores same listed. tt))
+
+pub returns-in_err-users : goal.returns-in_err-users
+returns-in_err-users g c =
+    let p = err_from_is_err_and c.from_residual-in_err-users.result c.from_residual-in_err-users.ensures.1 in
+    let fault = c.in_err-users.field-0.0 in
+    let limit = c.args.options.limit in
+    let f = tree_of c.args.read.now in
+    let tables = c.args.read.now.tables.items in
+    let headers = c.in_ok-headers.ensures ∙ ap headers_of c.deref.ensures.value in
+    let mentioned = c.deref-2.ensures.value ∙ c.in_ok-mentions.ensures in
+    let names : c.deref-3.result.now ≡ systems_of c.args.read.now = c.deref-3.ensures.value ∙ (c.in_ok-mentioned.ensures ∙ (λ i. first_systems (headers i) (mentioned i))) in
+    rw (p.1, p.2) (texts_refused _ _ _ _ fault c.in_err-users.ensures
+    (λ custom refused ledger files place stores same listed. tables_refused limit ledger place f tables fault
+    (subst (λ (k : Custom). Fails (systems_known limit k (systems_of c.args.read.now)) fault) (sym same) (subst (λ (ns : List (List ℕ)). Fails (systems_known limit custom ns) fault) names refused))))
+
+pub built-requires-clause-systems : goal.built-requires-clause-systems
+built-requires-clause-systems g c =
+    let headers = c.in_ok-headers.ensures ∙ ap headers_of c.deref.ensures.value in
+    let mentioned = c.deref-2.ensures.value ∙ c.in_ok-mentions.ensures in
+    let once = c.in_ok-mentioned.ensures ∙ (λ i. first_systems (headers i) (mentioned i)) in
+    let names : c.deref-3.result.now ≡ systems_of c.args.read.now = c.deref-3.ensures.value ∙ once in
+    let also : c.deref-4.result.now ≡ systems_of c.args.read.now = c.deref-4.ensures.value ∙ once in
+    let users = c.in_ok-users.users in
+    let first = c.in_ok-users.ensures in
+    let adds = c.in_ok-add_all.ensures in
+    let admitted = subst (λ (ns : List (List ℕ)). AreAdmitted c.args.options.limit ns first.stands.0 users) names (first.gives first.stands.0 first.stands.1) in
+    record {
+      mentioned = all_there users.named c.add_all.new.systems (systems_of c.args.read.now) adds.extends admitted.there (subst (AllByRecursion (HasBuiltIn c.add_all.new.systems)) also adds.there);
+      default = adds.default;
+    }
+
+pub built-requires-clause-meant : goal.built-requires-clause-meant
+built-requires-clause-meant g c =
+    let first = c.in_ok-users.ensures in
+    (first.stands.0, c.in_ok-add_all.ensures.extends.meant first.stands.0 (first.gives first.stands.0 first.stands.1).meant)
 
 pub returns : goal.returns
-returns c =
-    let f = formula_view c.args.formula.now in
-    let tables = c.args.tables.now in
-    λ ledger files place stores listed. tables_known c.args.options.limit ledger place f tables c.args.options.shown c.built.result
-    (all_known (ledger Bases) (first_systems (headers_of tables) (mentions f)) c.in_ok-seal_systems.ensures.sealed.known) (c.built.ensures ledger files place stores listed)
+returns g c =
+    let limit = c.args.options.limit in
+    let shown = c.args.options.shown in
+    let f = tree_of c.args.read.now in
+    let tables = c.args.read.now.tables.items in
+    let headers = c.in_ok-headers.ensures ∙ ap headers_of c.deref.ensures.value in
+    let mentioned = c.deref-2.ensures.value ∙ c.in_ok-mentions.ensures in
+    let names : c.deref-3.result.now ≡ systems_of c.args.read.now = c.deref-3.ensures.value ∙ (c.in_ok-mentioned.ensures ∙ (λ i. first_systems (headers i) (mentioned i))) in
+    let users = c.in_ok-users.users in
+    let first = c.in_ok-users.ensures in
+    let custom = first.stands.0 in
+    let meant = c.in_ok-add_all.ensures.extends.meant custom (first.gives custom first.stands.1).meant in
+    let own = made_own users.steps shown c.args.read.now custom c.built.result c.requires (c.built.ensures custom meant) in
+    texts_read _ _ _ _ users c.built.result own first
+    (λ k admitted ledger files place stores same listed.
+    let admits = (subst (λ (ns : List (List ℕ)). AreAdmitted limit ns k users) names admitted).admits in
+    tables_known limit ledger place f tables users.steps shown c.built.result (subst (λ (j : Custom). AdmitsNames j (systems_of c.args.read.now) (no_steps limit) (Ok tt) users.steps) (sym same) admits)
+    (c.built.ensures k (c.in_ok-add_all.ensures.extends.meant k admitted.meant) ledger files place stores same listed))

@@ -18,6 +18,9 @@ returns-in-Depth g c = rw c.in-Depth.is c.send_place-in-Depth.ensures
 pub returns-in-SystemUnknown : goal.returns-in-SystemUnknown
 returns-in-SystemUnknown g c = rw (c.in-SystemUnknown.is) (rw c.as_bytes.ensures at c.send_two.ensures)
 
+pub returns-in-NotAdmitted : goal.returns-in-NotAdmitted
+returns-in-NotAdmitted g c = rw c.in-NotAdmitted.is c.send_law.ensures
+
 pub returns-in-States : goal.returns-in-States
 returns-in-States g c = rw c.in-States.is c.send_number-in-States.ensures
 

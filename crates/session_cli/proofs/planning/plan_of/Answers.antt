@@ -1,21 +1,18 @@
-use Rattle.std.proofs.Common.{None, refl}
-use Rattle.definitions.specs.Trees.{Ledger}
+use Rattle.std.proofs.Common.{refl}
+use Rattle.definitions.proofs.CustomTexts.{stored_custom}
 use Rattle.wal_outside.specs.declared.folder.Folder.TheVariants.{Automata, Results}
 use Rattle.session_cli.specs.Outcomes.{word_text}
-use Rattle.session_cli.specs.RegOutcomes.{reg_checks}
 use Rattle.session_cli.specs.declared.command_word.CommandWord.TheVariants as words
-use Rattle.session_cli.proofs.StoreReads.{own_plan, from_none, from_part}
-use Rattle.session_cli.proofs.ReadingChecks.{no_reg_read}
+use Rattle.session_cli.proofs.StoreReads.{from_none, from_part}
+use Rattle.session_cli.proofs.TextReads.{files_of_texts}
 use Rattle.session_cli.proofs.WordSteps.{planned_by_word, planned_formula, too_long, no_word}
 use Rattle.session_cli.proofs.planning.plan_of.Goals as goal
 
-no_ledger : Ledger
-no_ledger = λ folder name. None
-
 pub returns-in-Some-Reg : goal.returns-in-Some-Reg
 returns-in-Some-Reg g c =
-    from_none _ _ c.plan_reg.result (own_plan (reg_checks c.args.options.limit no_ledger c.args.text.now) (no_reg_read c.args.options.limit no_ledger c.args.text.now) c.args.options.shown c.plan_reg.result (c.plan_reg.ensures no_ledger))
-    (λ found ledger stores. planned_by_word words.Reg c.args.options.limit ledger c.args.text.now c.args.options.shown c.plan_reg.result c.if-text-gt-COMMAND_LIMIT.false (rw c.in-Some-Reg.field-0-is at c.in-Some-Reg.ensures) (c.plan_reg.ensures ledger))
+    files_of_texts _ _ _ _ c.plan_reg.result c.plan_reg.ensures
+    (λ found plans ledger stores. planned_by_word words.Reg c.args.options.limit ledger c.args.text.now c.args.options.shown c.plan_reg.result c.if-text-gt-COMMAND_LIMIT.false (rw c.in-Some-Reg.field-0-is at c.in-Some-Reg.ensures)
+    (plans ledger (stored_custom ledger found stores)))
 
 pub returns-in-Some-Eval : goal.returns-in-Some-Eval
 returns-in-Some-Eval g c =

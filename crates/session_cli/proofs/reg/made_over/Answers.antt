@@ -1,35 +1,32 @@
-use Rattle.std.proofs.Common.{List, ℕ, refl, sym, subst}
-use Rattle.std.proofs.lemmas.Result.{err_from_is_err_and}
+use Rattle.std.proofs.Common.{ℕ, List, [], refl, sym, subst}
 use Rattle.command_head.specs.Heads as heads
 use Rattle.command_head.specs.HeadViews.{alphabets_of}
 use Rattle.command_head.specs.declared.head.Alphabets.{Alphabets}
-use Rattle.definitions.specs.Tracks.{OverSets, OverSystems}
-use Rattle.definitions.specs.Named.{Custom}
-use Rattle.session_cli.specs.TrackSystems.{named_in}
-use Rattle.session_cli.specs.RegOutcomes.{after_head}
+use Rattle.definitions.specs.Tracks.{OverSets}
 use Rattle.session_cli.specs.Plans.{Makes}
-use Rattle.session_cli.proofs.RegSteps.{tracks_made, tracks_fail}
-use Rattle.session_cli.proofs.KnownSteps.{named_so}
+use Rattle.session_cli.specs.RegOutcomes.{after_head, after_tracks}
+use Rattle.session_cli.specs.SystemChecks.{no_steps}
+use Rattle.session_cli.proofs.ReadingChecks.{no_track_read}
+use Rattle.session_cli.proofs.RegSteps.{tracks_made}
+use Rattle.session_cli.proofs.StoreReads.{own_made}
+use Rattle.session_cli.proofs.TextReads.{texts_none, texts_part, no_texts}
 use Rattle.session_cli.proofs.reg.made_over.Goals as goal
 
-pub returns-in_err-systems-in-Systems : goal.returns-in_err-systems-in-Systems
-returns-in_err-systems-in-Systems c =
-    let p = err_from_is_err_and c.from_residual.result c.from_residual.ensures.1 in
-    let P : Alphabets → Type 0 = λ a. (custom : Custom) (name : List ℕ) → Makes (after_head c.args.limit custom (record { name = name; alphabets = alphabets_of a; body = c.args.body.now })) c.args.shown c.from_residual.result in
-    subst P (sym c.in-Systems.is)
-    (λ custom name. rw (p.1, p.2) (tracks_fail c.args.limit custom (record { name = name; alphabets = heads.Systems c.in-Systems.names.items; body = c.args.body.now }) c.in_err-systems-in-Systems.field-0.0 (c.in_err-systems-in-Systems.ensures custom)))
-
 pub returns-in-Sets : goal.returns-in-Sets
-returns-in-Sets c =
-    let P : Alphabets → Type 0 = λ a. (custom : Custom) (name : List ℕ) → Makes (after_head c.args.limit custom (record { name = name; alphabets = alphabets_of a; body = c.args.body.now })) c.args.shown c.regex_over.result in
-    subst P (sym c.in-Sets.is)
-    (λ custom name. tracks_made c.args.limit custom (record { name = name; alphabets = heads.Sets c.in-Sets.sets; body = c.args.body.now }) (OverSets c.in-Sets.sets) c.args.shown c.regex_over.result refl (c.regex_over.ensures name))
+returns-in-Sets g c =
+    let limit = c.args.options.limit in
+    let shown = c.args.options.shown in
+    let tracks = OverSets c.in-Sets.sets in
+    let own = own_made no_texts (after_tracks (no_steps limit) no_texts [] c.args.body.now tracks) (no_track_read (no_steps limit) no_texts [] c.args.body.now tracks) shown c.regex_over.result (c.regex_over.ensures no_texts []) in
+    texts_none _ _ _ own (λ custom name.
+    let P : Alphabets → Type 0 = λ a. Makes custom (after_head limit custom (record { name = name; alphabets = alphabets_of a; body = c.args.body.now })) shown c.regex_over.result in
+    subst P (sym c.in-Sets.is) (tracks_made limit custom (record { name = name; alphabets = heads.Sets c.in-Sets.sets; body = c.args.body.now }) (no_steps limit) tracks shown c.regex_over.result (refl, refl) refl (c.regex_over.ensures custom name)))
 
-pub returns-in_ok-systems-in-Systems : goal.returns-in_ok-systems-in-Systems
-returns-in_ok-systems-in-Systems c =
-    let b = c.in_ok-systems-in-Systems.systems in
-    let are = c.in_ok-systems-in-Systems.ensures in
-    let P : Alphabets → Type 0 = λ a. (custom : Custom) (name : List ℕ) → Makes (after_head c.args.limit custom (record { name = name; alphabets = alphabets_of a; body = c.args.body.now })) c.args.shown c.regex_over_systems.result in
-    subst P (sym c.in-Systems.is)
-    (λ custom name. tracks_made c.args.limit custom (record { name = name; alphabets = heads.Systems c.in-Systems.names.items; body = c.args.body.now }) (OverSystems b.direction (named_in b.systems.items)) c.args.shown c.regex_over_systems.result
-    (named_so custom b c.in-Systems.names.items are) (c.regex_over_systems.ensures name))
+pub returns-in-Systems : goal.returns-in-Systems
+returns-in-Systems g c =
+    let limit = c.args.options.limit in
+    let shown = c.args.options.shown in
+    texts_part _ _ _ _ c.regex_over_names.result c.regex_over_names.ensures (λ custom makes name.
+    let P : Alphabets → Type 0 = λ a. Makes custom (after_head limit custom (record { name = name; alphabets = alphabets_of a; body = c.args.body.now })) shown c.regex_over_names.result in
+    let Q : List (List ℕ) → Type 0 = λ ns. Makes custom (after_head limit custom (record { name = name; alphabets = heads.Systems ns; body = c.args.body.now })) shown c.regex_over_names.result in
+    subst P (sym c.in-Systems.is) (subst Q c.deref.ensures.value (makes name)))

@@ -1,19 +1,34 @@
-use Rattle.std.proofs.Common.{refl}
-use Rattle.wal_outside.specs.declared.folder.Folder.TheVariants.{Bases}
+use Rattle.std.proofs.Common.{Ok, refl, sym, subst}
 use Rattle.command_head.specs.HeadViews.{head_view}
+use Rattle.system_files.specs.SystemFiles.{Custom}
+use Rattle.session_cli.specs.Checks.{Fails}
+use Rattle.session_cli.specs.Plans.{Makes}
+use Rattle.session_cli.specs.RegOutcomes.{after_head}
 use Rattle.session_cli.proofs.RegSteps.{head_syntax, head_number, reg_planned, reg_failed}
+use Rattle.session_cli.proofs.TextReads.{texts_none, texts_read, texts_refused}
 use Rattle.session_cli.proofs.reg.plan_reg.Goals as goal
 
 pub returns-in-Ok-made_over : goal.returns-in-Ok-made_over
-returns-in-Ok-made_over c =
-    λ ledger. reg_planned c.args.limit ledger c.args.text.now c.args.shown (head_view c.in-Ok.field-0) _ c.in-Ok.ensures.read refl refl (c.in-Ok-made_over.ensures (ledger Bases) c.in-Ok.field-0.name)
+returns-in-Ok-made_over g c =
+    let head = head_view c.in-Ok.field-0 in
+    texts_read _ _ _ _ _ _ tt c.in-Ok-made_over.ensures
+    (λ custom makes ledger same. reg_planned c.args.options.limit ledger c.args.text.now c.args.options.shown head _ c.in-Ok.ensures.read refl refl
+    (subst (λ (k : Custom). Makes k (after_head c.args.options.limit k head) c.args.options.shown (Ok c.in-Ok-made_over.made)) (sym same) (makes c.in-Ok.field-0.name)))
 
 pub returns-in-Err : goal.returns-in-Err
-returns-in-Err c =
-    λ ledger. reg_failed c.args.limit ledger c.args.text.now c.args.shown (head_view c.in-Ok.field-0) c.in-Err.fault c.in-Ok.ensures.read (c.in-Err.ensures (ledger Bases) c.in-Ok.field-0.name)
+returns-in-Err g c =
+    let head = head_view c.in-Ok.field-0 in
+    texts_refused _ _ _ _ c.in-Err.fault c.in-Err.ensures
+    (λ custom refused ledger same. reg_failed c.args.options.limit ledger c.args.text.now c.args.options.shown head c.in-Err.fault c.in-Ok.ensures.read
+    (subst (λ (k : Custom). Fails (after_head c.args.options.limit k head) c.in-Err.fault) (sym same) (refused c.in-Ok.field-0.name)))
 
 pub returns-in-Err-Syntax : goal.returns-in-Err-Syntax
-returns-in-Err-Syntax c = λ ledger. rw c.in-Err-Syntax.field-0-is (head_syntax c.args.limit ledger c.args.text.now c.in-Err-Syntax.at c.requires (rw c.in-Err-Syntax.field-0-is at c.in-Err-Syntax.ensures.read))
+returns-in-Err-Syntax g c =
+    rw c.in-Err-Syntax.field-0-is (texts_none _ _ _ refl (λ custom ledger same. head_syntax c.args.options.limit ledger c.args.text.now c.in-Err-Syntax.at c.requires (rw c.in-Err-Syntax.field-0-is at c.in-Err-Syntax.ensures.read)))
 
 pub returns-in-Err-Number : goal.returns-in-Err-Number
-returns-in-Err-Number c = λ ledger. rw c.in-Err-Number.field-0-is (head_number c.args.limit ledger c.args.text.now c.in-Err-Number.at c.requires (rw c.in-Err-Number.field-0-is at c.in-Err-Number.ensures.read))
+returns-in-Err-Number g c =
+    rw c.in-Err-Number.field-0-is (texts_none _ _ _ refl (λ custom ledger same. head_number c.args.options.limit ledger c.args.text.now c.in-Err-Number.at c.requires (rw c.in-Err-Number.field-0-is at c.in-Err-Number.ensures.read)))
+
+pub returns-in-Err-Memory : goal.returns-in-Err-Memory
+returns-in-Err-Memory g c = texts_none _ _ _ refl (λ custom ledger same. tt)

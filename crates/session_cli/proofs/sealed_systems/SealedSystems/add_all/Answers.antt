@@ -1,23 +1,28 @@
-use Rattle.std.proofs.Common.{◌≡◌, ◌+◌, take, sym, ap, ◌∙◌, ◌∷◌, ◌++◌, [], subst}
+use Rattle.std.proofs.Common.{◌≡◌, ◌∙◌, ◌+◌, ◌∷◌, ◌++◌, [], take, sym, ap, subst, arith}
 use Rattle.std.specs.List.{AllByRecursion}
 use Rattle.std.proofs.lemmas.List.{take_more}
 use Rattle.std.proofs.lemmas.Result.{err_from_is_err_and}
-use Rattle.session_cli.specs.SealedSystems.{HasSystemIn}
-use Rattle.session_cli.proofs.SealedLemmas.{all_stay, all_have, unknown_after}
+use Rattle.session_cli.specs.SealedSystems.{HasBuiltIn}
+use Rattle.session_cli.proofs.SealedLemmas.{extends_both, all_stay, all_have, default_added}
 use Rattle.session_cli.proofs.sealed_systems.SealedSystems.add_all.Goals as goal
 
-pub returns-in_err-add-clause-sealed : goal.returns-in_err-add-clause-sealed
-returns-in_err-add-clause-sealed c =
+pub returns-in_err-add : goal.returns-in_err-add
+returns-in_err-add c =
     let p = err_from_is_err_and c.from_residual.result c.from_residual.ensures.1 in
-    rw (p.1, p.2) (unknown_after c.loop-name.self.systems c.args.names.now c.loop-name.name-index c.name-item.result c.in_err-add.field-0.0 c.loop-name-test.true c.name-item.is c.are_meant.ensures c.loop-name.invariant.0 c.in_err-add.ensures.sealed)
+    rw (p.1, p.2) (record { extends = extends_both c.args.systems.now c.loop-name.systems c.add.new.systems c.loop-name.invariant.0 c.in_err-add.ensures.extends; there = tt; default = tt })
 
 pub loop-name-preserved : goal.loop-name-preserved
 loop-name-preserved c =
     let names = c.args.names.now in
     let i = c.loop-name.name-index in
     let name = c.name-item.result in
+    let mid = c.loop-name.systems in
+    let more = c.add.new.systems in
     let front : take (i + 1) names ≡ take i names ++ name ∷ [] = take_more names i name c.loop-name-test.true ∙ ap (λ n. take i names ++ n ∷ []) (sym c.name-item.is) in (
-      subst (AllByRecursion (HasSystemIn c.add.new.self.systems)) (sym front)
-          (all_have c.add.new.self.systems (take i names) name (all_stay c.loop-name.self.systems c.add.new.self.systems (take i names) c.in_ok-add.ensures.kept c.loop-name.invariant.0) c.in_ok-add.ensures.sealed),
-      c.in_ok-add.ensures.headers ∙ c.loop-name.invariant.1,
+      extends_both c.args.systems.now mid more c.loop-name.invariant.0 c.in_ok-add.ensures.extends,
+      subst (AllByRecursion (HasBuiltIn more)) (sym front) (all_have more (take i names) name (all_stay mid more (take i names) c.in_ok-add.ensures.extends c.loop-name.invariant.1) c.in_ok-add.ensures.there),
     )
+
+pub returns : goal.returns
+returns c =
+    default_added c.args.names.now c.loop-name.name-index c.in_ok-default.default c.args.systems.now c.loop-name.systems c.add-2.new.systems c.add-2.result (omega (arith, c.loop-name-test.false)) c.in_ok-default.ensures c.loop-name.invariant c.add-2.ensures

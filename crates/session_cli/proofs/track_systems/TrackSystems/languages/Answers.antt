@@ -2,10 +2,9 @@ use Rattle.std.proofs.Common.{◌≡◌, ◌∙◌, ◌+◌, ◌<◌, [], ◌∷
 use Rattle.std.specs.Rc.{rc_value}
 use Rattle.std.proofs.lemmas.List.{take_more, map-append}
 use Rattle.reg_steps.specs.Relations.{AreSystemLanguages}
-use Rattle.session_cli.specs.KnownSystems.{system_of}
-use Rattle.session_cli.specs.TrackSystems.{named_in, IsIn}
+use Rattle.session_cli.specs.TrackSystems.{system_of, named_in, IsIn}
 use Rattle.definitions.specs.Tracks.{systems_of}
-use Rattle.session_cli.proofs.KnownSteps.{languages_push, systems_push, known_language}
+use Rattle.session_cli.proofs.KnownSteps.{languages_push, systems_push, language_in}
 use Rattle.session_cli.proofs.track_systems.TrackSystems.languages.Goals as goal
 
 pub loop-system-preserved : goal.loop-system-preserved
@@ -15,12 +14,12 @@ loop-system-preserved c =
     let i = c.loop-system.system-index in
     let s = c.system-item.result in
     let ls = c.loop-system.languages.items in
+    let l = c.in_ok-language.field-0 in
     let within : i < length items = omega (arith, c.loop-system-test.true, ap length c.deref-system-items.ensures.value) in
     let is : s ≡ get_or items i s = c.system-item.is ∙ ap (λ xs. get_or xs i s) c.deref-system-items.ensures.value in
     let front : take (i + 1) items ≡ take i items ++ s ∷ [] = take_more items i s within ∙ ap (λ x. take i items ++ x ∷ []) (sym is) in
-    let language = known_language d s c.in_ok-language.language c.in_ok-canonical.field-0 (subst (IsIn d) (sym is) (c.requires i s within)) c.in_ok-language.ensures c.in_ok-canonical.ensures.sizes c.in_ok-canonical.ensures.language c.in_ok-canonical.ensures.canonical in
-    let more = languages_push d (systems_of (named_in (take i items))) (map rc_value ls) (system_of s) c.in_ok-canonical.field-0 c.loop-system.invariant language in
+    let language = language_in d s (rc_value l) (subst (IsIn d) (sym is) (c.requires i s within)) c.in_ok-language.ensures in
+    let more = languages_push d (systems_of (named_in (take i items))) (map rc_value ls) (system_of s) (rc_value l) c.loop-system.invariant language in
     let systems : systems_of (named_in (take i items)) ++ system_of s ∷ [] ≡ systems_of (named_in (take (i + 1) items)) = sym (systems_push (take i items) s) ∙ ap (λ xs. systems_of (named_in xs)) (sym front) in
-    let pushed : map rc_value c.push.new.self.items ≡ map rc_value ls ++ c.in_ok-canonical.field-0 ∷ [] =
-    ap (map rc_value) c.in_ok-push.ensures.items ∙ map-append rc_value ls (c.in_ok-new.field-0 ∷ []) ∙ ap (λ x. map rc_value ls ++ x ∷ []) c.in_ok-new.ensures.ok in
+    let pushed : map rc_value c.push.new.self.items ≡ map rc_value ls ++ rc_value l ∷ [] = ap (map rc_value) c.in_ok-push.ensures.items ∙ map-append rc_value ls (l ∷ []) in
     subst (λ ss. AreSystemLanguages d ss (map rc_value c.push.new.self.items)) systems (subst (λ xs. AreSystemLanguages d (systems_of (named_in (take i items)) ++ system_of s ∷ []) xs) (sym pushed) more)

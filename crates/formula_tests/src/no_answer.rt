@@ -1,0 +1,13 @@
+//! Texts without an answer.
+
+use std::fmt::Debug;
+
+/// A text has no answer, since a call failed that was to succeed.
+#[derive(Clone, Copy)]
+pub(crate) struct NoAnswer;
+
+impl<E: Debug + Drop> From<E> for NoAnswer {
+    fn from(_error: E) -> NoAnswer {
+        NoAnswer
+    }
+}

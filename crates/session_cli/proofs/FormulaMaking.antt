@@ -1,0 +1,33 @@
+-- What is made of a formula after its systems comes from no file.
+use Rattle.std.proofs.Common.{Bool, [], Result}
+use Rattle.digit_tuple.specs.Steps.{StepLog}
+use Rattle.formula_resolve.specs.FirstMentions.{first_files}
+use Rattle.formula_resolve.specs.Mentions.{mentions}
+use Rattle.wal_outside.specs.Files.{Files}
+use Rattle.wal_outside.specs.Places.{Place}
+use Rattle.wal_outside.specs.declared.folder.Folder.TheVariants.{Results}
+use Rattle.system_files.specs.SystemFiles.{Custom}
+use Rattle.definitions.proofs.CustomTexts.{found_custom}
+use Rattle.definitions.specs.Trees.{Ledger, ledger_of, custom_of}
+use Rattle.session_cli.specs.declared.fault.Fault.{Fault}
+use Rattle.session_cli.specs.declared.formula.ReadFormula.{ReadFormula}
+use Rattle.session_cli.specs.declared.plan.Made.{Made}
+use Rattle.session_cli.specs.FormulaMakes.{tree_of, IsReadFormula, MakesAfterSystems}
+use Rattle.session_cli.specs.FormulaOutcomes.{after_systems}
+use Rattle.session_cli.proofs.CommandSteps.{files_store}
+use Rattle.session_cli.proofs.FilesElsewhere.{listed_elsewhere}
+use Rattle.session_cli.proofs.ReadingChecks.{no_file_read}
+use Rattle.session_cli.proofs.StoreReads.{IsOwn, own_made}
+use Rattle.session_cli.proofs.TextReads.{with_bases}
+
+nowhere : Place
+nowhere = (Results, [])
+
+-- so it is refused by no fault of the store
+pub made_own : (admitted : StepLog) (shown : Bool) (read : ReadFormula) (custom : Custom) (r : Result Made Fault) → IsReadFormula read → MakesAfterSystems admitted shown read custom r → IsOwn r
+made_own admitted shown read custom r is makes =
+    let files : Files = with_bases is.files custom in
+    let ledger : Ledger = ledger_of files in
+    let tables = read.tables.items in
+    own_made (custom_of ledger) (after_systems ledger nowhere tables (tree_of read) admitted) (no_file_read admitted ledger nowhere (tree_of read) tables) shown r
+    (makes ledger files nowhere (files_store files) (found_custom files) (listed_elsewhere is.files custom (first_files (mentions (tree_of read))) tables is.listed))

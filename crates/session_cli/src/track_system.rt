@@ -1,0 +1,69 @@
+//! The system of a track, under its name.
+
+ghost use Rattle.std.specs.Prelude.{◌≡◌, IfOk};
+ghost use Rattle.reg_steps.specs.Relations.{IsSystemLanguage};
+ghost use Rattle.session_cli.specs.TrackSystems.{system_of, way_of};
+
+use crate::known_system::KnownSystem;
+use digit_tuple::dfa::Dfa;
+use digit_tuple::direction::Direction;
+use digit_tuple::faults::OutOfMemory;
+use digit_tuple::name::Name;
+use minimise::canonical::canonical;
+use num_system::system::System;
+use numeration::num_system::NumSystem;
+use std::alloc::Global;
+use std::rc::Rc;
+
+/// What the name of a track's system stands for.
+#[derive(Drop)]
+pub(crate) enum Meaning {
+    /// A system that is built in.
+    BuiltIn(KnownSystem),
+    /// One that a user defines.
+    Admitted(Rc<System>),
+}
+
+/// The system of a track, under its name.
+#[derive(Drop)]
+pub(crate) struct TrackSystem {
+    /// The name.
+    pub(crate) name: Name,
+    /// What it stands for.
+    pub(crate) meaning: Meaning,
+}
+
+impl TrackSystem {
+    /// The direction in which its words are read.
+    pub(crate) fn direction(&self) -> Direction
+        ensures { result ≡ way_of self.now }
+    {
+        match &self.meaning {
+            Meaning::BuiltIn(system) => system.direction(),
+            Meaning::Admitted(system) => system.direction(),
+        }
+    }
+
+    /// How many digits it has.
+    pub(crate) fn digits(&self) -> u32
+        ensures { result ≡ (system_of self.now).digits }
+    {
+        match &self.meaning {
+            Meaning::BuiltIn(system) => system.digits(),
+            Meaning::Admitted(system) => system.digits(),
+        }
+    }
+
+    /// The canonical automaton of its words.
+    pub(crate) fn language(&self, alloc: Global) -> Result<Rc<Dfa>, OutOfMemory>
+        ensures { IfOk result (λ language. IsSystemLanguage (way_of self.now) (system_of self.now) language.value) }
+    {
+        match &self.meaning {
+            Meaning::BuiltIn(system) => {
+                let language = system.language(alloc)?;
+                Ok(Rc::new(alloc, canonical(alloc, &language)?)?)
+            }
+            Meaning::Admitted(system) => Ok(system.language().clone()?),
+        }
+    }
+}

@@ -1,0 +1,11 @@
+pub mod TupleWords
+pub mod BranchTables
+pub mod FileMeanings
+pub mod FileTables
+pub mod NumberSteps
+pub mod AdmittedSystems
+pub mod OneFiles
+pub mod OneAdmissions
+pub mod OneNames
+pub mod AddedSteps
+pub mod NameAnswers

@@ -1,0 +1,48 @@
+-- The steps of a system's numbers are done only where three tracks have an alphabet.
+use Rattle.std.proofs.Common.{◌≡◌, ℕ, Bool, List, [], ◌∷◌, ◌++◌, Result, Ok, Err, refl, ap, ◌∙◌, subst, inl, inr}
+use Rattle.digit_tuple.specs.Automaton.{Branching}
+use Rattle.digit_tuple.specs.Deterministic.{Automaton}
+use Rattle.digit_tuple.specs.Letters.{IsAlphabet}
+use Rattle.digit_tuple.specs.Steps.{StepLog}
+use Rattle.digit_tuple.specs.declared.direction.Direction.{Direction}
+use Rattle.digit_tuple.specs.declared.step_fault.StepFault.{StepFault}
+use Rattle.num_system.proofs.SuccessorLemmas.{chain_sizes_are}
+use Rattle.adder_check.specs.Admission.{DoesAdmission, DoesLanguage}
+use Rattle.adder_check.specs.Faults.{fault_of}
+use Rattle.adder_check.specs.LanguageLaws.{KeepsZeros, IsEndless, language_in}
+use Rattle.adder_check.specs.LanguageSteps.{DoesFile, IsFirstLanguageFault}
+use Rattle.adder_check.specs.SuccessorPlan.{DoesSuccessor}
+use Rattle.adder_check.specs.declared.admit_fault.AdmitFault.{AdmitFault}
+use Rattle.adder_check.specs.declared.user_system.UserSystem.{UserSystem}
+use Rattle.adder_check.proofs.OneAnswers.{from_err, ok_not_err}
+use Rattle.system_admission.specs.Admissions.{StopsAtLanguage}
+
+-- the file of a language is read and keeps the laws, or not
+module _ (way : Direction) (listed : Branching) (reversed : Bool) (old mid : StepLog) where
+  pub file_refused : (fault : StepFault) → DoesFile listed reversed old (Err fault) mid → DoesLanguage way listed reversed old (Err (fault_of fault)) mid
+  file_refused fault does = inr (fault_of fault, (fault, does, refl), refl)
+
+  pub language_refused : (d : Automaton) (fault : AdmitFault) → DoesFile listed reversed old (Ok d) mid → IsFirstLanguageFault way d fault → DoesLanguage way listed reversed old (Err fault) mid
+  language_refused d fault does wrong = inl (d, mid, does, (refl, wrong))
+
+  pub language_done : (d : Automaton) → DoesFile listed reversed old (Ok d) mid → KeepsZeros (language_in way d) → IsEndless (language_in way d) → DoesLanguage way listed reversed old (Ok d) mid
+  language_done d does keeps endless = inl (d, mid, does, (refl, (refl, keeps, endless)))
+
+pub successor_fits : (way : Direction) (d : Automaton) (digits : ℕ) → d.sizes ≡ digits ∷ [] → (old new : StepLog) (next : Automaton) → DoesSuccessor way d old (Ok next) new → IsAlphabet (digits ∷ digits ∷ digits ∷ [])
+successor_fits way d digits one old new next (inr (f, does, none)) = absurd (ok_not_err next f none)
+successor_fits way d digits one old new next (inl (less, mid, order, inr (f, does, none))) = absurd (ok_not_err next f none)
+successor_fits way d digits one old new next (inl (less, mid, order, inl (chain, after, chains, rest))) =
+    let pair : less.sizes ≡ digits ∷ digits ∷ [] = order.step.order_is.sizes ∙ ap (λ (ns : List ℕ). ns ++ ns) one in
+    subst IsAlphabet (chain_sizes_are less digits pair) chains.step.alphabet
+
+-- what stops at the language stops so whatever the adder is
+pub stops_admission : (way : Direction) (language adder : Branching) (reversed : Bool) (old new : StepLog) (result : Result UserSystem AdmitFault) → StopsAtLanguage way language reversed old result new
+    → DoesAdmission way language adder reversed old result new
+stops_admission way language adder reversed old new result (inl (next, mid, does, none)) = absurd none
+stops_admission way language adder reversed old new result (inr (fault, inl (d, mid, words, next), is)) = inl (d, mid, words, inr (fault, next, is))
+stops_admission way language adder reversed old new result (inr (fault, inr (other, words, same), is)) = inr (other, words, is ∙ ap (λ (f : AdmitFault). Err f) (from_err fault other same))
+
+-- and gives no system
+pub not_stopped : (way : Direction) (language : Branching) (reversed : Bool) (old new : StepLog) (user : UserSystem) → StopsAtLanguage way language reversed old (Ok user) new → ⊥
+not_stopped way language reversed old new user (inl (next, mid, does, none)) = none
+not_stopped way language reversed old new user (inr (fault, does, is)) = ok_not_err user fault is

@@ -1,0 +1,133 @@
+-- Admissions of names have one outcome.
+use Rattle.std.proofs.Common.{◌≡◌, ◌⊎◌, ℕ, List, [], ◌∷◌, Result, Ok, Err, inl, inr, refl, sym, ap, ◌∙◌, subst}
+use Rattle.std.specs.Prelude.{⊤}
+use Rattle.digit_tuple.specs.Steps.{StepLog}
+use Rattle.digit_tuple.specs.declared.direction.Direction.{Direction}
+use Rattle.digit_tuple.specs.declared.step_fault.StepFault.TheVariants as steps
+use Rattle.dfa_loading.specs.declared.fault.LoadFault.{LoadFault}
+use Rattle.adder_check.specs.Admission.{user_system}
+use Rattle.adder_check.specs.OneAnswer.{AreOne, HasOneAnswer}
+use Rattle.adder_check.specs.declared.admit_fault.AdmitFault.{AdmitFault}
+use Rattle.adder_check.specs.declared.admit_fault.AdmitFault.TheVariants as admits
+use Rattle.adder_check.specs.declared.user_system.UserSystem.{UserSystem}
+use Rattle.adder_check.proofs.OneAnswers.{from_err, ok_not_err, then_one}
+use Rattle.system_names.specs.UserNames.{IsUserName}
+use Rattle.system_names.proofs.UserSystems.{one_user_system}
+use Rattle.system_files.specs.SystemFiles.{Custom, SystemFiles, AreFilesOf, RefusesFiles}
+use Rattle.system_files.specs.UserSystems.{IsDefinedBy}
+use Rattle.system_admission.specs.AdmissionLaws.{AdmissionsHaveOneOutcome, AdmittedSystemsAreMeant}
+use Rattle.system_admission.specs.Admissions.{AdmitsFiles}
+use Rattle.system_admission.specs.SystemSteps.{AdmitsName, AdmitsNames, AdmitsOther, HasFiles, IsAdmittedName, IsNotAdmitted, RefusesName, fault_of}
+use Rattle.system_admission.specs.declared.system_fault.SystemFault.{SystemFault}
+use Rattle.system_admission.specs.declared.system_fault.SystemFault.TheVariants as faults
+use Rattle.system_admission.proofs.OneAdmissions.{files_define, files_one}
+use Rattle.system_admission.proofs.OneFiles.{not_refused, one_files, one_refusal}
+
+pub admitted_are_meant : AdmittedSystemsAreMeant
+admitted_are_meant custom name old new user is =
+    let made = files_define is.way is.files old new user is.admits in
+    let way : is.way ≡ user.direction = sym made.direction in
+    record {
+      part = is.has_files.part;
+      is_name = subst (λ (turn : Direction). IsUserName turn is.has_files.part name) way is.has_files.is_name;
+      files = is.files;
+      found = subst (λ (turn : Direction). AreFilesOf custom turn is.has_files.part is.files) way is.has_files.found;
+      defined = subst (λ (turn : Direction). IsDefinedBy turn is.files (user_system user)) way made.defined;
+    }
+
+module _ (custom : Custom) (name : List ℕ) where
+  -- a name has one pair of files in one direction
+  same_way : (way turn : Direction) (files others : SystemFiles) → HasFiles custom name way files → HasFiles custom name turn others → way ≡ turn
+  same_way way turn files others one other = (one_user_system way turn one.part other.part name one.is_name other.is_name).0
+
+  same_files : (way turn : Direction) (files others : SystemFiles) → HasFiles custom name way files → HasFiles custom name turn others → files ≡ others
+  same_files way turn files others one other =
+      let told = one_user_system way turn one.part other.part name one.is_name other.is_name in
+      one_files custom turn other.part files others
+      (subst (λ (w : Direction). AreFilesOf custom w other.part files) told.0 (subst (λ (p : List ℕ). AreFilesOf custom way p files) told.1 one.found)) other.found
+
+  -- and one admission
+  both : (way turn : Direction) (files others : SystemFiles) (old : StepLog) (r s : Result UserSystem AdmitFault) (m n : StepLog) → HasFiles custom name way files → HasFiles custom name turn others
+      → AdmitsFiles way files old r m → AdmitsFiles turn others old s n → AreOne admits.Memory r m s n
+  both way turn files others old r s m n one other does also =
+      let ways = same_way way turn files others one other in
+      let same = same_files way turn files others one other in
+      files_one way files old r s m n does
+      (subst (λ (w : Direction). AdmitsFiles w files old s n) (sym ways) (subst (λ (f : SystemFiles). AdmitsFiles turn f old s n) (sym same) also))
+
+  -- files that are there are not refused
+  there_or_not : (way turn : Direction) (part : List ℕ) (files : SystemFiles) (load : LoadFault) → HasFiles custom name way files → IsUserName turn part name → RefusesFiles custom turn part load → ⊥
+  there_or_not way turn part files load has named refuses =
+      let told = one_user_system way turn has.part part name has.is_name named in
+      not_refused custom turn part files load (subst (λ (w : Direction). AreFilesOf custom w part files) told.0 (subst (λ (p : List ℕ). AreFilesOf custom way p files) told.1 has.found)) refuses
+
+  abbrev memory : SystemFault
+  memory = faults.Step steps.Memory
+
+  -- what was admitted and what was not
+  not_both : (old m n : StepLog) (user : UserSystem) (fault : SystemFault) → IsAdmittedName custom name old user m → IsNotAdmitted custom name old fault n → fault ≡ memory
+  not_both old m n user fault is not = not.fault_is ∙ ap (fault_of name) (by (both is.way not.way is.files not.files old (Ok user) (Err not.refusal) m n is.has_files not.has_files is.admits not.admits))
+    where
+      by : (let good : Result UserSystem AdmitFault = Ok user in AreOne admits.Memory good m (Err not.refusal) n) → not.refusal ≡ admits.Memory
+      by (inl none) = absurd (ok_not_err user admits.Memory none)
+      by (inr (inl ran_out)) = from_err {A = UserSystem} not.refusal admits.Memory ran_out
+      by (inr (inr same)) = absurd (ok_not_err user not.refusal same.0)
+
+  admitted_or_refused : (old m n : StepLog) (user : UserSystem) (fault : SystemFault) → IsAdmittedName custom name old user m → RefusesName custom name old fault n → fault ≡ memory
+  admitted_or_refused old m n user fault is (inl (none, told, same)) = absurd (none (is.way, is.has_files.part, is.has_files.is_name))
+  admitted_or_refused old m n user fault is (inr (inl (way, part, named, (load, refuses, told), same))) = absurd (there_or_not is.way way part is.files load is.has_files named refuses)
+  admitted_or_refused old m n user fault is (inr (inr not)) = not_both old m n user fault is not
+
+  abbrev AreOneFault : SystemFault → StepLog → SystemFault → StepLog → Type 0
+  AreOneFault fault m other n = (fault ≡ memory) ⊎ ((other ≡ memory) ⊎ ((fault ≡ other) × (m ≡ n)))
+
+  refused_one : (old m n : StepLog) (fault other : SystemFault) → RefusesName custom name old fault m → RefusesName custom name old other n → AreOneFault fault m other n
+  refused_one old m n fault other (inl (none, told, same)) (inl (also_none, also_told, also_same)) = inr (inr (told ∙ sym also_told, same ∙ sym also_same))
+  refused_one old m n fault other (inl (none, told, same)) (inr (inl (way, part, named, rest, also))) = absurd (none (way, part, named))
+  refused_one old m n fault other (inl (none, told, same)) (inr (inr not)) = absurd (none (not.way, not.has_files.part, not.has_files.is_name))
+  refused_one old m n fault other (inr (inl (way, part, named, rest, also))) (inl (none, told, same)) = absurd (none (way, part, named))
+  refused_one old m n fault other (inr (inr not)) (inl (none, told, same)) = absurd (none (not.way, not.has_files.part, not.has_files.is_name))
+  refused_one old m n fault other (inr (inl (way, part, named, (load, refuses, told), same))) (inr (inl (turn, another, also_named, (also_load, also_refuses, also_told), also_same))) =
+      let names = one_user_system way turn part another name named also_named in
+      let here = subst (λ (w : Direction). RefusesFiles custom w another load) names.0 (subst (λ (p : List ℕ). RefusesFiles custom way p load) names.1 refuses) in
+      inr (inr (told ∙ ap faults.Load (one_refusal custom turn another load also_load here also_refuses) ∙ sym also_told, same ∙ sym also_same))
+  refused_one old m n fault other (inr (inl (way, part, named, (load, refuses, told), same))) (inr (inr not)) = absurd (there_or_not not.way way part not.files load not.has_files named refuses)
+  refused_one old m n fault other (inr (inr not)) (inr (inl (way, part, named, (load, refuses, told), same))) = absurd (there_or_not not.way way part not.files load not.has_files named refuses)
+  refused_one old m n fault other (inr (inr one)) (inr (inr not)) = by (both one.way not.way one.files not.files old (Err one.refusal) (Err not.refusal) m n one.has_files not.has_files one.admits not.admits)
+    where
+      by : (let bad : AdmitFault → Result UserSystem AdmitFault = λ x. Err x in AreOne admits.Memory (bad one.refusal) m (bad not.refusal) n) → AreOneFault fault m other n
+      by (inl ran_out) = inl (one.fault_is ∙ ap (fault_of name) (from_err {A = UserSystem} one.refusal admits.Memory ran_out))
+      by (inr (inl ran_out)) = inr (inl (not.fault_is ∙ ap (fault_of name) (from_err {A = UserSystem} not.refusal admits.Memory ran_out)))
+      by (inr (inr same)) = inr (inr (one.fault_is ∙ ap (fault_of name) (from_err {A = UserSystem} one.refusal not.refusal same.0) ∙ sym not.fault_is, same.1))
+
+  same_admitted : (old m n : StepLog) (user other : UserSystem) → IsAdmittedName custom name old user m → IsAdmittedName custom name old other n → m ≡ n
+  same_admitted old m n user other one also = by (both one.way also.way one.files also.files old (Ok user) (Ok other) m n one.has_files also.has_files one.admits also.admits)
+    where
+      by : (let good : UserSystem → Result UserSystem AdmitFault = λ x. Ok x in AreOne admits.Memory (good user) m (good other) n) → m ≡ n
+      by (inl none) = absurd (ok_not_err user admits.Memory none)
+      by (inr (inl none)) = absurd (ok_not_err other admits.Memory none)
+      by (inr (inr same)) = same.1
+
+  -- one name has one outcome
+  other_one : (old : StepLog) (r s : Result ⊤ SystemFault) (m n : StepLog) → AdmitsOther custom name old r m → AdmitsOther custom name old s n → AreOne memory r m s n
+  other_one old (Ok a) (Ok b) m n (user, one) (another, other) = inr (inr (refl, same_admitted old m n user another one other))
+  other_one old (Ok a) (Err fault) m n (user, one) other = inr (inl (ap (λ (f : SystemFault). Err f) (admitted_or_refused old m n user fault one other)))
+  other_one old (Err fault) (Ok b) m n one (user, other) = inl (ap (λ (f : SystemFault). Err f) (admitted_or_refused old n m user fault other one))
+  other_one old (Err fault) (Err other) m n one also = by (refused_one old m n fault other one also)
+    where
+      by : AreOneFault fault m other n → (let bad : SystemFault → Result ⊤ SystemFault = λ x. Err x in AreOne memory (bad fault) m (bad other) n)
+      by (inl ran_out) = inl (ap (λ (f : SystemFault). Err f) ran_out)
+      by (inr (inl ran_out)) = inr (inl (ap (λ (f : SystemFault). Err f) ran_out))
+      by (inr (inr same)) = inr (inr (ap (λ (f : SystemFault). Err f) same.0, same.1))
+
+  name_one : HasOneAnswer memory (AdmitsName custom name)
+  name_one old r s m n (inl (built_in, one, same)) (inl (also_built_in, other, also)) = inr (inr (one ∙ sym other, same ∙ sym also))
+  name_one old r s m n (inl (built_in, rest, same)) (inr (none, other)) = absurd (none built_in)
+  name_one old r s m n (inr (none, one)) (inl (built_in, rest, same)) = absurd (none built_in)
+  name_one old r s m n (inr (none, one)) (inr (also_none, other)) = other_one old r s m n one other
+
+-- and so have names one after another
+pub names_one : AdmissionsHaveOneOutcome
+names_one custom [] old r s m n one other = inr (inr (one.0 ∙ sym other.0, one.1 ∙ sym other.1))
+names_one custom (name ∷ names) old r s m n one other =
+    then_one (faults.Step steps.Memory) (AdmitsName custom name) (λ done. AdmitsNames custom names) (name_one custom name) (λ done old mid does. names_one custom names) old r s m n one other

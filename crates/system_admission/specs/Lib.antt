@@ -1,0 +1,5 @@
+-- Definitions that the contracts cite, in reading order.
+pub mod Admissions
+pub mod SystemSteps
+pub mod NameAdmissions
+pub mod AdmissionLaws

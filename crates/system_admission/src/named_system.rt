@@ -1,0 +1,96 @@
+//! The system of a name that is not built in.
+
+ghost use Rattle.std.specs.Prelude.{◌≡◌, ◌∷◌, ◌⊎◌, [], IfOk, OnOk, MatchResult};
+ghost use Rattle.digit_tuple.specs.Letters.{IsAlphabet};
+ghost use Rattle.digit_tuple.specs.declared.step_fault.StepFault.TheVariants.{Memory};
+ghost use Rattle.dfa_loading.specs.Places.{HasRead};
+ghost use Rattle.system_names.specs.Names.{IsBuiltInName};
+ghost use Rattle.system_files.specs.SystemFiles.{Custom};
+ghost use Rattle.system_files.specs.SystemTexts.{Agrees, HasFound};
+ghost use Rattle.system_admission.specs.Admissions.{IsSystemIn};
+ghost use Rattle.system_admission.specs.NameAdmissions.{AdmitsUnder, FailsName, IsNamedSystem, as_loading};
+ghost use Rattle.system_admission.specs.SystemSteps.{fault_of};
+ghost use Rattle.system_admission.specs.declared.system_fault.SystemFault.TheVariants as faults;
+
+use crate::admission::admit_files;
+use crate::system_fault::SystemFault;
+use adder_check::admit_fault::AdmitFault;
+use adder_check::user_system::UserSystem;
+use dfa_loading::LoadFault;
+use digit_tuple::direction::Direction;
+use digit_tuple::name::Name;
+use digit_tuple::step_fault::StepFault;
+use digit_tuple::steps::Steps;
+use num_system::seal::seal_built_in;
+use num_system::sealed::is_sealed;
+use num_system::system::System;
+use std::alloc::Global;
+use system_files::{SystemFiles, SystemTexts, load_system};
+use system_names::user_name;
+use wal_outside::{Folder, Store};
+
+/// The system of a name that is not built in, sealed: its files are read from the store, each that was not
+/// read before, and it is admitted by the next steps. The texts grow by what was read. What was read and
+/// what was admitted before stay as they are; no text of the store is changed. The costs are those of
+/// reading the texts, of the steps, and of sealing.
+///
+/// # Errors
+/// `Load` with `Unknown` where no user's system may have the name, or where the language or its adder is
+/// missing; with `File` where one of them breaks the format; and with `Store` where the store failed. Then
+/// `NotAdmitted` with the first law that does not hold, and `Step` with the first step that passes a
+/// limit. `Memory` may come at any time, also where 2^32 - 1 states are not enough.
+pub fn admit_system<T: Store>(
+    alloc: Global,
+    name: &Name,
+    texts: &mut SystemTexts,
+    store: &mut T,
+    steps: &mut Steps,
+) -> Result<System, SystemFault>
+    requires { ¬ IsBuiltInName name.now }
+    ensures gives { (custom : Custom) → Agrees custom texts.new → MatchResult result (IsNamedSystem custom name.now steps.old steps.new) (FailsName custom name.now steps.old steps.new) }
+    ensures found { HasFound texts.old (T.view store.old) texts.new }
+    ensures read { HasRead (T.view store.old) (as_loading result) (T.view store.new) }
+{
+    let Some(user) = user_name(name.as_str()) else {
+        let missing = name.copy(alloc)?;
+        return Err(SystemFault::Load(LoadFault::Unknown(Folder::Bases, missing)));
+    };
+    let files = load_system(alloc, &user, texts, store)?;
+    let admitted = admit_named(alloc, name, &files, user.direction, steps)?;
+    let sealed = seal_built_in(alloc, &admitted)?;
+    is_sealed(&sealed);
+    Ok(sealed)
+}
+
+// The system that the files define. A fault of its admission is that of the system of this name.
+fn admit_named(
+    alloc: Global,
+    name: &Name,
+    files: &SystemFiles,
+    direction: Direction,
+    steps: &mut Steps,
+) -> Result<UserSystem, SystemFault>
+    ensures steps { AdmitsUnder name.now direction files.now steps.old steps.new result }
+    ensures defined { IfOk result (IsSystemIn direction files.now) }
+    ensures fits { OnOk result (IsAlphabet (files.now.digits ∷ files.now.digits ∷ files.now.digits ∷ [])) }
+{
+    match admit_files(alloc, files, direction, steps) {
+        Ok(user) => Ok(user),
+        Err(fault) => Err(named_fault(alloc, name, fault)),
+    }
+}
+
+// The fault of the admission of the system of this name.
+fn named_fault(alloc: Global, name: &Name, fault: AdmitFault) -> SystemFault
+    ensures { (result ≡ faults.Step Memory) ⊎ (result ≡ fault_of name.now fault) }
+{
+    match fault {
+        AdmitFault::NotAdmitted(law) => match name.copy(alloc) {
+            Ok(system) => SystemFault::NotAdmitted(system, law),
+            Err(_) => SystemFault::Step(StepFault::Memory),
+        },
+        AdmitFault::Letters(step) => SystemFault::Step(StepFault::Letters(step)),
+        AdmitFault::States(step) => SystemFault::Step(StepFault::States(step)),
+        AdmitFault::Memory => SystemFault::Step(StepFault::Memory),
+    }
+}
