@@ -105,6 +105,14 @@ mod word_files;
 #[cfg(test)]
 mod reading_steps;
 
+// fixed points of morphisms
+#[cfg(test)]
+mod promotions;
+
+// words of several relations
+#[cfg(test)]
+mod combined_words;
+
 // scripts and their items
 #[cfg(test)]
 mod scripts;

@@ -70,6 +70,14 @@ fn line_text(alloc: Global, line: StepLine) -> Result<String, RowFault> {
     Ok(format!(in alloc; "{kind} {} {}, ", line.width, line.size)?)
 }
 
+/// A blank and a letter, or a blank and a dash where there is none.
+pub fn letter_text(alloc: Global, letter: Option<i32>) -> Result<String, RowFault> {
+    match letter {
+        Some(letter) => Ok(format!(in alloc; " {letter}")?),
+        None => Ok(String::from_str(alloc, " -")?),
+    }
+}
+
 /// Asserts that a row has this text.
 pub fn expect_text(rt: &impl Abort, row: &str, found: &str, wanted: &str) {
     assert_eq!(rt; found, wanted, "of {row}");

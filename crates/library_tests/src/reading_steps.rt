@@ -121,8 +121,8 @@ fn files_have_these_edges(rt: HostRuntime) {
     expect_value(&rt, "files", &found, &Some(EDGES.len()));
 }
 
-// A system: the base of this number, or the Fibonacci system where it is None.
-type Numerals = Option<u32>;
+/// A system: the base of this number, or the Fibonacci system where it is None.
+pub type Numerals = Option<u32>;
 
 // The sealed system.
 fn sealed(alloc: Global, numerals: Numerals, direction: Direction) -> Result<System, RowFault> {
@@ -270,11 +270,15 @@ static ROWS: [Row; 11] = [
     },
 ];
 
-// The systems of a row, sealed.
-fn systems_for(alloc: Global, row: &Row) -> Result<Vec<Rc<System>>, RowFault> {
+/// Systems of one direction, sealed.
+pub fn systems_for(
+    alloc: Global,
+    listed: &[Numerals],
+    direction: Direction,
+) -> Result<Vec<Rc<System>>, RowFault> {
     let mut systems = Vec::new(alloc);
-    for numerals in row.systems {
-        systems.push(Rc::new(alloc, sealed(alloc, *numerals, row.direction)?)?)?;
+    for numerals in listed {
+        systems.push(Rc::new(alloc, sealed(alloc, *numerals, direction)?)?)?;
     }
     Ok(systems)
 }
@@ -304,16 +308,26 @@ fn may_stand(sizes: &[u32], systems: &[Rc<System>]) -> bool
     }
 }
 
-// The relation of a row, by the next steps.
-fn relation_of(alloc: Global, row: &Row, steps: &mut Steps) -> Result<Relation, RowFault> {
-    let systems = systems_for(alloc, row)?;
-    let digits = digits_of(alloc, &systems)?;
-    let table = branching(alloc, row.text, &digits)?;
-    if may_stand(table.alphabet().sizes(), &systems) {
-        Ok(reading_steps(alloc, &table, &systems, steps)?)
+/// The relation of a file over systems, by the next steps.
+pub fn relation_over(
+    alloc: Global,
+    text: &[u8],
+    systems: &[Rc<System>],
+    steps: &mut Steps,
+) -> Result<Relation, RowFault> {
+    let digits = digits_of(alloc, systems)?;
+    let table = branching(alloc, text, &digits)?;
+    if may_stand(table.alphabet().sizes(), systems) {
+        Ok(reading_steps(alloc, &table, systems, steps)?)
     } else {
         Err(RowFault::Form)
     }
+}
+
+// The relation of a row, by the next steps.
+fn relation_of(alloc: Global, row: &Row, steps: &mut Steps) -> Result<Relation, RowFault> {
+    let systems = systems_for(alloc, row.systems, row.direction)?;
+    relation_over(alloc, row.text, &systems, steps)
 }
 
 // The step of this name, width and size has this number, counted from 0.

@@ -3,6 +3,7 @@
 use dfa_reading::FileFault;
 use digit_tuple::faults::{OpFault, OutOfMemory};
 use digit_tuple::step_fault::StepFault;
+use morph_words::RulesFault;
 use regex_build::fault::RegexFault;
 use std::alloc::{AllocError, AllocFailed};
 use std::num::{ParseIntError, TryFromIntError};
@@ -56,6 +57,12 @@ impl From<RegexFault> for RowFault {
 
 impl From<FileFault> for RowFault {
     fn from(_fault: FileFault) -> RowFault {
+        RowFault::Form
+    }
+}
+
+impl From<RulesFault> for RowFault {
+    fn from(_fault: RulesFault) -> RowFault {
         RowFault::Form
     }
 }

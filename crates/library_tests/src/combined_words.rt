@@ -1,0 +1,296 @@
+//! Words of several relations: the line of the step and some letters, or why there is no word.
+
+use crate::outcomes::{expect, letter_text, lines_of};
+use crate::reading_steps::{Numerals, relation_over, systems_for};
+use crate::row_fault::RowFault;
+use combinations::combine::combine;
+use combinations::combine_fault::CombineFault;
+use combinations::part::Part;
+use digit_tuple::direction::Direction;
+use digit_tuple::steps::Steps;
+use num_system::system::System;
+use number_relations::relation::Relation;
+use std::alloc::Global;
+use std::rc::Rc;
+use word_output::word::Word;
+
+// A sentence that is true, or the relation of a file over systems of this direction.
+#[derive(Clone, Copy)]
+enum Listed {
+    Truth,
+    File(&'static [u8], Direction, &'static [Numerals]),
+}
+
+// The relation.
+fn relation_of(alloc: Global, listed: Listed) -> Result<Relation, RowFault> {
+    match listed {
+        Listed::Truth => Ok(Relation::truth(alloc, true)?),
+        Listed::File(text, direction, numerals) => {
+            let systems = systems_for(alloc, numerals, direction)?;
+            let mut steps = Steps::new(alloc, 1000);
+            relation_over(alloc, text, &systems, &mut steps)
+        }
+    }
+}
+
+// Relations, each with its letter.
+fn parts_of(alloc: Global, list: &[(Listed, i32)]) -> Result<Vec<Part>, RowFault> {
+    let mut parts = Vec::new(alloc);
+    for (listed, letter) in list {
+        let relation = Rc::new(alloc, relation_of(alloc, *listed)?)?;
+        parts.push(Part::new(relation, *letter))?;
+    }
+    Ok(parts)
+}
+
+// The word of relations over the systems of the first, or of none over one system.
+fn word_of(
+    alloc: Global,
+    parts: &[Part],
+    systems: &[Rc<System>],
+    steps: &mut Steps,
+) -> Result<Result<Word, CombineFault>, RowFault> {
+    match (parts, systems) {
+        ([first, ..], _) => Ok(combine(alloc, parts, first.relation().systems(), steps)),
+        ([], [_]) => Ok(combine(alloc, parts, systems, steps)),
+        _ => Err(RowFault::Form),
+    }
+}
+
+// The letters of some words.
+fn letters_of(alloc: Global, word: &Word, words: &[&[u32]]) -> Result<String, RowFault> {
+    let mut text = String::new(alloc);
+    for digits in words {
+        text.push_str(&letter_text(alloc, word.value(digits))?)?;
+    }
+    Ok(text)
+}
+
+// A name, relations with their letters, the system where there is none, the limit, words of digits, and what is given: the line of the
+// step and the letters of these words, or the fault after no line.
+struct Row {
+    name: &'static str,
+    list: &'static [(Listed, i32)],
+    system: Numerals,
+    limit: u32,
+    words: &'static [&'static [u32]],
+    wanted: &'static str,
+}
+
+// The lines of the steps and the letters of some words, or the lines and the fault.
+fn combined(
+    alloc: Global,
+    list: &[(Listed, i32)],
+    system: Numerals,
+    limit: u32,
+    words: &[&[u32]],
+) -> Result<String, RowFault> {
+    let parts = parts_of(alloc, list)?;
+    let systems = systems_for(alloc, &[system], Direction::Msd)?;
+    let mut steps = Steps::new(alloc, limit);
+    let answer = match word_of(alloc, &parts, &systems, &mut steps)? {
+        Ok(word) => letters_of(alloc, &word, words)?,
+        Err(fault) => format!(in alloc; "{fault:?}")?,
+    };
+    let lines = lines_of(alloc, &steps)?;
+    Ok(format!(in alloc; "{lines}{answer}")?)
+}
+
+// The numbers below 3 and those below 5, in msd_2.
+const BELOW_3: Listed = Listed::File(
+    b"msd_2\n0 1\n0 -> 0\n1 -> 1\n1 1\n0 -> 2\n2 1\n",
+    Direction::Msd,
+    &[Some(2)],
+);
+
+const BELOW_5: Listed = Listed::File(
+    b"msd_2\n0 1\n0 -> 0\n1 -> 1\n1 1\n0 -> 2\n1 -> 3\n2 1\n0 -> 4\n3 1\n4 1\n",
+    Direction::Msd,
+    &[Some(2)],
+);
+
+// Two numbers of which the first is less.
+const LESS: Listed = Listed::File(
+    b"msd_2 msd_2\n0 0\n0 0 -> 0\n1 1 -> 0\n0 1 -> 1\n1 1\n* * -> 1\n",
+    Direction::Msd,
+    &[Some(2), Some(2)],
+);
+
+// Any number, in other systems.
+const IN_LSD_2: Listed = Listed::File(b"lsd_2\n0 1\n* -> 0\n", Direction::Lsd, &[Some(2)]);
+
+const IN_MSD_3: Listed = Listed::File(b"msd_3\n0 1\n* -> 0\n", Direction::Msd, &[Some(3)]);
+
+const IN_MSD_FIB: Listed = Listed::File(b"msd_fib\n0 1\n* -> 0\n", Direction::Msd, &[None]);
+
+// The spellings of 0 to 6 in msd_2. In msd_fib 11 and 110 spell no number.
+const NUMBERS: &[&[u32]] = &[
+    &[],
+    &[1],
+    &[1, 0],
+    &[1, 1],
+    &[1, 0, 0],
+    &[1, 0, 1],
+    &[0, 1, 1, 0],
+];
+
+// The spellings of (0, 0), (0, 1), (1, 0), (2, 3), (3, 2) and (1, 2).
+const PAIRS: &[&[u32]] = &[&[], &[1], &[2], &[3, 1], &[3, 2], &[1, 2]];
+
+static WORDS: [Row; 9] = [
+    // the first that holds decides, also where its letter is 0
+    Row {
+        name: "below 3, below 5",
+        list: &[(BELOW_3, 7), (BELOW_5, 9)],
+        system: None,
+        limit: 5,
+        words: NUMBERS,
+        wanted: "combine 5 5,  7 7 7 9 9 0 0",
+    },
+    Row {
+        name: "below 3 once more",
+        list: &[(BELOW_3, 7), (BELOW_5, 9), (BELOW_3, 8)],
+        system: None,
+        limit: 5,
+        words: NUMBERS,
+        wanted: "combine 5 5,  7 7 7 9 9 0 0",
+    },
+    Row {
+        name: "below 5, below 3",
+        list: &[(BELOW_5, 9), (BELOW_3, 7)],
+        system: None,
+        limit: 5,
+        words: NUMBERS,
+        wanted: "combine 5 5,  9 9 9 9 9 0 0",
+    },
+    Row {
+        name: "the letter 0",
+        list: &[(BELOW_3, 0), (BELOW_5, -9)],
+        system: None,
+        limit: 5,
+        words: NUMBERS,
+        wanted: "combine 5 5,  0 0 0 -9 -9 0 0",
+    },
+    // the width counts what no letter tells
+    Row {
+        name: "one letter",
+        list: &[(BELOW_3, 0)],
+        system: None,
+        limit: 4,
+        words: NUMBERS,
+        wanted: "combine 4 1,  0 0 0 0 0 0 0",
+    },
+    // two tracks
+    Row {
+        name: "less",
+        list: &[(LESS, 5)],
+        system: None,
+        limit: 3,
+        words: PAIRS,
+        wanted: "combine 3 3,  0 5 0 5 0 5",
+    },
+    // other words than spellings have no letter
+    Row {
+        name: "any number in msd_fib",
+        list: &[(IN_MSD_FIB, 4)],
+        system: None,
+        limit: 3,
+        words: NUMBERS,
+        wanted: "combine 3 2,  4 4 4 - 4 4 -",
+    },
+    // no relation
+    Row {
+        name: "none over msd_2",
+        list: &[],
+        system: Some(2),
+        limit: 1,
+        words: NUMBERS,
+        wanted: "combine 1 1,  0 0 0 0 0 0 0",
+    },
+    Row {
+        name: "none over msd_fib",
+        list: &[],
+        system: None,
+        limit: 3,
+        words: NUMBERS,
+        wanted: "combine 3 2,  0 0 0 - 0 0 -",
+    },
+];
+
+#[test]
+fn words_have_the_letter_of_the_first_relation_that_holds(rt: HostRuntime) {
+    for row in &WORDS {
+        let found = combined(rt.alloc(), row.list, row.system, row.limit, row.words);
+        expect(&rt, row.name, &found, row.wanted);
+    }
+}
+
+// Names, relations with their letters, limits, and the fault.
+static REFUSED: [(&str, &[(Listed, i32)], u32, &str); 11] = [
+    ("true", &[(Listed::Truth, 1)], 9, "Shape(0, 0)"),
+    (
+        "true, below 3",
+        &[(Listed::Truth, 1), (BELOW_3, 2)],
+        9,
+        "Shape(0, 0)",
+    ),
+    (
+        "below 3, true",
+        &[(BELOW_3, 1), (Listed::Truth, 2)],
+        9,
+        "Shape(0, 1)",
+    ),
+    (
+        "below 3, less",
+        &[(BELOW_3, 1), (LESS, 2)],
+        9,
+        "Shape(0, 1)",
+    ),
+    (
+        "below 3, below 5, less",
+        &[(BELOW_3, 1), (BELOW_5, 2), (LESS, 3)],
+        9,
+        "Shape(0, 2)",
+    ),
+    // systems that differ in their direction, their digits or their language alone
+    (
+        "msd_2, lsd_2",
+        &[(BELOW_3, 1), (IN_LSD_2, 2)],
+        9,
+        "Shape(0, 1)",
+    ),
+    (
+        "msd_2, msd_3",
+        &[(BELOW_3, 1), (IN_MSD_3, 2)],
+        9,
+        "Shape(0, 1)",
+    ),
+    (
+        "msd_2, msd_fib",
+        &[(BELOW_3, 1), (IN_MSD_FIB, 2)],
+        9,
+        "Shape(0, 1)",
+    ),
+    // the shape before the limit
+    (
+        "below 3, less under no state",
+        &[(BELOW_3, 1), (LESS, 2)],
+        0,
+        "Shape(0, 1)",
+    ),
+    (
+        "below 3, below 5 under 4 states",
+        &[(BELOW_3, 7), (BELOW_5, 9)],
+        4,
+        "Step(States(1))",
+    ),
+    ("less under 2 states", &[(LESS, 5)], 2, "Step(States(1))"),
+];
+
+#[test]
+fn relations_of_several_shapes_and_words_past_the_limit_are_refused(rt: HostRuntime) {
+    for (row, list, limit, wanted) in &REFUSED {
+        let found = combined(rt.alloc(), list, Some(2), *limit, NUMBERS);
+        expect(&rt, row, &found, wanted);
+    }
+}
