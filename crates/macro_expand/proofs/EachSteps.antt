@@ -60,3 +60,11 @@ piece_put of_call bytes old new (Ok nothing) h same made =
 piece_put of_call bytes old new (Err fault) h same made =
     Fails-handed_on fault (limited (old.bytes ++ bytes)) (each (expand_piece of_call) (map byte bytes) old)
     (λ e refused. each_plain of_call bytes old h ∙ ap (λ r. r >>= λ all. Ok (record { bytes = all; calls = old.calls })) refused) made
+
+-- no limit asks for a macro
+pub limited_known : (bytes name : List ℕ) → limited bytes ≡ Err (faults.Unknown name) → ⊥
+limited_known bytes name h = by (nat_le (length bytes) 65536) h
+  where
+    by : (t : Bool) → cond t (Ok bytes) (Err faults.MacroLong) ≡ Err (faults.Unknown name) → ⊥
+    by true h = absurd (cc)
+    by false h = absurd (cc)

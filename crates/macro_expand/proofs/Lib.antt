@@ -1,4 +1,5 @@
 pub mod AnswerSteps
+pub mod SourceSteps
 pub mod FrontSteps
 pub mod NumberSteps
 pub mod SegmentSteps
@@ -7,7 +8,10 @@ pub mod PieceSteps
 pub mod EachSteps
 pub mod FillSteps
 pub mod TextSteps
+pub mod GivenSteps
 pub mod CallSteps
+pub mod SourceCalls
+pub mod AddedTexts
 pub mod MapSteps
 pub mod PlainTexts
 pub mod OneAnswers

@@ -6,7 +6,7 @@ use Rattle.std.proofs.lemmas.List.{take_at, drop_at, drop-drop}
 use Rattle.text_grammar.specs.declared.class.Class.TheVariants.{NameByte}
 use Rattle.text_grammar.specs.Bytes.{is_name_byte}
 use Rattle.text_grammar.specs.Fronts.{front_len}
-use Rattle.macro_expand.specs.Texts.{Texts}
+use Rattle.macro_expand.specs.Texts.{TextOf}
 use Rattle.macro_expand.specs.Calls.{Call, call_after}
 use Rattle.macro_expand.specs.Pieces.{byte, call, pieces_from}
 use Rattle.macro_expand.specs.Filling as filling
@@ -42,7 +42,7 @@ bytes_put of_call text done h =
 text_kept : (of_call : OfCalls) (text : List ℕ) (calls : ℕ) → HasNo 35 text → length text ≤ 65536 → expand_text of_call text calls ≡ Ok (record { bytes = text; calls = calls })
 text_kept of_call text calls all h = rw (pieces_only 0 text all) (bytes_put of_call text (record { bytes = []; calls = calls }) h)
 
-pub text_keeps : (macros : Texts) (text : List ℕ) → HasNo 35 text → length text ≤ 65536 → expansion macros text ≡ Ok text
+pub text_keeps : (macros : TextOf) (text : List ℕ) → HasNo 35 text → length text ≤ 65536 → expansion macros text ≡ Ok text
 text_keeps macros text all h = rw (text_kept (expand_call_within macros 16) text 0 all h) refl
 
 -- a name is the front before a byte that is of no name
@@ -68,13 +68,13 @@ pieces_named at name after is =
     (ap (λ more. call (call_of_name name) ∷ more) (pieces_skip (at + 1) (length name + 0 + 0 + 2) (name ++ 40 ∷ 41 ∷ after) ∙ ap (pieces_from (at + 1 + (length name + 0 + 0 + 2)) 0) rest))
 
 -- what a call without arguments of such a macro expands to
-call_given : (macros : Texts) (levels : ℕ) (name text : List ℕ) → 0 < levels → IsPlainMacro macros name text → length text ≤ 65536
+call_given : (macros : TextOf) (levels : ℕ) (name text : List ℕ) → 0 < levels → IsPlainMacro macros name text → length text ≤ 65536
     → expand_call_within macros levels (call_of_name name) 0 ≡ Ok (record { bytes = text; calls = 1 })
 call_given macros levels name text h is short =
     rw (call_one_deeper macros levels h, is.added, segments_bytes text is.no_place, missing_plain 0 text, filled_plain [] text, limited_short text short)
     (text_kept (expand_call_within macros (levels - 1)) text 1 is.no_call short)
 
-pub call_gives : (macros : Texts) (name text before after : List ℕ) → IsPlainMacro macros name text → HasNo 35 before → HasNo 35 after → length (before ++ (text ++ after)) ≤ 65536
+pub call_gives : (macros : TextOf) (name text before after : List ℕ) → IsPlainMacro macros name text → HasNo 35 before → HasNo 35 after → length (before ++ (text ++ after)) ≤ 65536
     → expansion macros (before ++ (35 ∷ name ++ 40 ∷ 41 ∷ after)) ≡ Ok (before ++ (text ++ after))
 call_gives macros name text before after is first last h =
     let l = length-append before (text ++ after) in

@@ -1,6 +1,6 @@
 -- The expansion of a text, piece after piece.
 use Rattle.std.proofs.Common.{◌≡◌, sym, ap, subst, ◌∙◌, ℕ, ◌+◌, ◌≤◌, List, ◌++◌, length, drop, Result, Ok, Err, arith}
-use Rattle.std.proofs.lemmas.List.{drop-drop, length-drop}
+use Rattle.std.proofs.lemmas.List.{drop-drop, drop_all, length-drop}
 use Rattle.macro_expand.specs.declared.fault.MacroFault.{MacroFault}
 use Rattle.macro_expand.specs.declared.piece.Piece.{Piece as Piece'}
 use Rattle.macro_expand.specs.Pieces.{pieces_from}
@@ -24,10 +24,14 @@ module _ (of_call : OfCalls) (text : List ℕ) (at len : ℕ) (first : Piece') (
       → each (expand_piece of_call) (pieces_from (at + len) 0 (drop (at + len) text)) new ≡ whole
   left_after done new whole told h = sym (left done ∙ ap (λ r. r >>= each (expand_piece of_call) (pieces_from (at + len) 0 (drop (at + len) text))) h) ∙ told
 
-  -- the first piece has a fault
-  pub left_refused : (done : Expanded) (whole : Result Expanded MacroFault) (e : MacroFault) → each (expand_piece of_call) (pieces_from at 0 (drop at text)) done ≡ whole → each (expand_piece of_call) (pieces_view first) done ≡ Err e → whole ≡ Err e
-  left_refused done whole e told h = sym told ∙ (left done ∙ ap (λ r. r >>= each (expand_piece of_call) (pieces_from (at + len) 0 (drop (at + len) text))) h)
-
   -- the first piece lies within the text
   pub left_within : at ≤ length text → at + len ≤ length text
   left_within h = omega (arith, is.within, length-drop at text)
+
+  -- the first piece has a fault
+  pub left_refused_so : (done : Expanded) (e : MacroFault) → each (expand_piece of_call) (pieces_view first) done ≡ Err e → each (expand_piece of_call) (pieces_from at 0 (drop at text)) done ≡ Err e
+  left_refused_so done e h = left done ∙ ap (λ r. r >>= each (expand_piece of_call) (pieces_from (at + len) 0 (drop (at + len) text))) h
+
+-- nothing is left behind the last byte
+pub nothing_left : (of_call : OfCalls) (text : List ℕ) (at : ℕ) (done : Expanded) → length text ≤ at → each (expand_piece of_call) (pieces_from at 0 (drop at text)) done ≡ Ok done
+nothing_left of_call text at done h = ap (λ bs. each (expand_piece of_call) (pieces_from at 0 bs) done) (drop_all at text h)

@@ -4,10 +4,9 @@
 -- may have calls, one level deeper. The calls of a whole expansion are counted in the order in which they are met: the
 -- count so far goes into each expansion, and a new one comes out of it.
 use Rattle.std.specs.Prelude.{ℕ, zero, suc, ◌+◌, nat_le, if◌then◌else◌, List, [], ◌∷◌, ◌++◌, length, Option, None, Some, Result, Ok, Err}
-use Rattle.std.specs.FinMap.{get}
 use Rattle.macro_expand.specs.declared.fault.MacroFault.{MacroFault}
 use Rattle.macro_expand.specs.declared.fault.MacroFault.TheVariants as faults
-use Rattle.macro_expand.specs.Texts.{Texts}
+use Rattle.macro_expand.specs.Texts.{TextOf}
 use Rattle.macro_expand.specs.Calls.{Call}
 use Rattle.macro_expand.specs.Pieces.{Piece, byte, call, stray, pieces}
 use Rattle.macro_expand.specs.Arguments.{arguments_of}
@@ -79,15 +78,15 @@ filled_text name arguments None = Err (faults.Unknown name)
 filled_text name arguments (Some text) = with_arguments name arguments (segments text) (missing (length arguments) (segments text))
 
 -- what a call expands to, where texts one level deeper expand so
-abbrev pub expand_call : Texts → OfTexts → OfCalls
+abbrev pub expand_call : TextOf → OfTexts → OfCalls
 expand_call macros of_text c calls =
     if nat_le 65536 calls then Err faults.MacroLong
     else (expand_arguments of_text (arguments_of c.inside) (calls + 1) >>= λ given.
-    filled_text c.name given.texts (get macros c.name) >>= λ text.
+    filled_text c.name given.texts (macros c.name) >>= λ text.
     of_text text given.calls)
 
 -- what a call expands to, where it and the calls in it may stand on so many levels
-unfoldable pub expand_call_within : Texts → ℕ → OfCalls
+unfoldable pub expand_call_within : TextOf → ℕ → OfCalls
 expand_call_within macros zero = λ c calls. Err (faults.MacroDepth c.name)
 expand_call_within macros (suc levels) = expand_call macros (expand_text (expand_call_within macros levels))
 
@@ -96,5 +95,5 @@ abbrev pub bytes_of : Result Expanded MacroFault → Result (List ℕ) MacroFaul
 bytes_of result = result >>= λ all. Ok all.bytes
 
 -- the expansion of a text, whose calls may stand on 16 levels
-abbrev pub expansion : Texts → List ℕ → Result (List ℕ) MacroFault
+abbrev pub expansion : TextOf → List ℕ → Result (List ℕ) MacroFault
 expansion macros text = bytes_of (expand_text (expand_call_within macros 16) text 0)

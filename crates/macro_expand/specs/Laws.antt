@@ -1,11 +1,10 @@
 -- What holds of the expansions of all texts.
 use Rattle.std.specs.Prelude.{◌≡◌, ◌≢◌, ℕ, ◌≤◌, true, List, ◌∷◌, ◌++◌, length, Some, Ok, Result, Err}
 use Rattle.std.specs.List.{AllByRecursion}
-use Rattle.std.specs.FinMap.{get}
 use Rattle.text_grammar.specs.Bytes.{is_name_byte}
 use Rattle.macro_expand.specs.declared.fault.MacroFault.{MacroFault}
 use Rattle.macro_expand.specs.declared.fault.MacroFault.TheVariants as faults
-use Rattle.macro_expand.specs.Texts.{Texts}
+use Rattle.macro_expand.specs.Texts.{TextOf}
 use Rattle.macro_expand.specs.Calls.{is_name}
 use Rattle.macro_expand.specs.Expansion.{expansion}
 use Rattle.macro_expand.specs.Views.{Answers}
@@ -16,7 +15,7 @@ HasNo mark text = AllByRecursion (λ b. b ≢ mark) text
 
 -- a text of at most 65,536 bytes without `#` is its own expansion
 abbrev pub KeepsPlainTexts : Type 0
-KeepsPlainTexts = (macros : Texts) (text : List ℕ) → HasNo 35 text → length text ≤ 65536 → expansion macros text ≡ Ok text
+KeepsPlainTexts = (macros : TextOf) (text : List ℕ) → HasNo 35 text → length text ≤ 65536 → expansion macros text ≡ Ok text
 
 -- the name of a macro
 pub record IsName (name : List ℕ) : Type 0 where
@@ -24,18 +23,18 @@ pub record IsName (name : List ℕ) : Type 0 where
   pub form : is_name name ≡ true
 
 -- a macro whose text has neither `#` nor `%`
-pub record IsPlainMacro (macros : Texts) (name text : List ℕ) : Type 0 where
+pub record IsPlainMacro (macros : TextOf) (name text : List ℕ) : Type 0 where
   pub named : IsName name
-  pub added : get macros name ≡ Some text
+  pub added : macros name ≡ Some text
   pub no_call : HasNo 35 text
   pub no_place : HasNo 37 text
 
 -- such a macro's text stands in the place of its call without arguments, where all is at most 65,536 bytes
 abbrev pub GivesPlainTexts : Type 0
-GivesPlainTexts = (macros : Texts) (name text before after : List ℕ) → IsPlainMacro macros name text → HasNo 35 before → HasNo 35 after → length (before ++ (text ++ after)) ≤ 65536
+GivesPlainTexts = (macros : TextOf) (name text before after : List ℕ) → IsPlainMacro macros name text → HasNo 35 before → HasNo 35 after → length (before ++ (text ++ after)) ≤ 65536
     → expansion macros (before ++ (35 ∷ name ++ 40 ∷ 41 ∷ after)) ≡ Ok (before ++ (text ++ after))
 
 -- an expansion has one answer, beside want of memory
 abbrev pub OneAnswer : Type 0
-OneAnswer = (macros : Texts) (text : List ℕ) (result other : Result (List ℕ) MacroFault) → Answers (λ made. made) result (expansion macros text) → Answers (λ made. made) other (expansion macros text)
+OneAnswer = (macros : TextOf) (text : List ℕ) (result other : Result (List ℕ) MacroFault) → Answers (λ made. made) result (expansion macros text) → Answers (λ made. made) other (expansion macros text)
     → result ≢ Err faults.Memory → other ≢ Err faults.Memory → result ≡ other

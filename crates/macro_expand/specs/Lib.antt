@@ -5,4 +5,5 @@ pub mod Arguments
 pub mod Filling
 pub mod Expansion
 pub mod Views
+pub mod Sources
 pub mod Laws

@@ -2,8 +2,11 @@
 
 ghost use Rattle.std.specs.Prelude.{◌≡◌, ◌≤◌, length, map, OnOk, IsAscii};
 ghost use Rattle.macro_expand.specs.Expansion.{each, expand_piece as with_piece, expand_text as text_expanded, expand_arguments as arguments_expanded, expand_call_within, expansion};
+ghost use Rattle.macro_expand.specs.Texts.{text_in};
+ghost use Rattle.macro_expand.specs.Sources.{AnswersFrom};
 ghost use Rattle.macro_expand.specs.Views.{Answers, IsNamed, call_view, pieces_view, expanded_view, given_view};
 
+use crate::added::Added;
 use crate::arguments::arguments_of;
 use crate::bytes::after;
 use crate::call::Call;
@@ -12,6 +15,7 @@ use crate::filling::filled_text;
 use crate::limited::put;
 use crate::macros::Macros;
 use crate::piece::{Piece, first_piece};
+use crate::texts::MacroTexts;
 use std::alloc::Global;
 
 /// On how many levels calls may stand.
@@ -51,7 +55,22 @@ struct Given {
 /// `MacroArgs`, and `MacroLong` where the text that the arguments fill in has more than 65,536 bytes; then the faults of
 /// that text. `MacroLong` also comes where an expansion grows past 65,536 bytes. `Memory` answers a refused growth.
 pub fn expand(alloc: Global, text: &[u8], macros: &Macros) -> Result<Vec<u8>, MacroFault>
-    ensures { Answers (λ made. made.items) result (expansion macros.now text.now) }
+    ensures { Answers (λ made. made.items) result (expansion (text_in macros.now) text.now) }
+{
+    expand_from(alloc, text, &mut Added { macros })
+}
+
+/// The expansion of the text, as `expand` gives it, by the texts of a source: a macro's text is looked for where a call of
+/// it is met, behind the call's arguments, and no other.
+///
+/// # Errors
+/// As for `expand`. `Unknown` comes where the source found no text of that name.
+pub fn expand_from<M: MacroTexts>(
+    alloc: Global,
+    text: &[u8],
+    macros: &mut M,
+) -> Result<Vec<u8>, MacroFault>
+    ensures { AnswersFrom M.found M.becomes M.lacks (λ made. made.items) (λ texts. expansion texts text.now) macros.old result macros.new }
 {
     let expanded = expand_text(alloc, macros, text, MOST_LEVELS, 0)?;
     Ok(expanded.bytes)
@@ -59,14 +78,14 @@ pub fn expand(alloc: Global, text: &[u8], macros: &Macros) -> Result<Vec<u8>, Ma
 
 /// The expansion of a text whose calls may stand on so many levels, where some calls were met before.
 #[cycle(expansion)]
-fn expand_text(
+fn expand_text<M: MacroTexts>(
     alloc: Global,
-    macros: &Macros,
+    macros: &mut M,
     text: &[u8],
     levels: usize,
     calls: usize,
 ) -> Result<Expanded, MacroFault>
-    ensures { Answers expanded_view result (text_expanded (expand_call_within macros.now levels) text.now calls) }
+    ensures { AnswersFrom M.found M.becomes M.lacks expanded_view (λ texts. text_expanded (expand_call_within texts levels) text.now calls) macros.old result macros.new }
 {
     let mut done = Expanded {
         bytes: Vec::new(alloc),
@@ -83,16 +102,16 @@ fn expand_text(
 
 /// Puts what a piece expands to after what was expanded so far.
 #[cycle(expansion)]
-fn expand_piece(
+fn expand_piece<M: MacroTexts>(
     alloc: Global,
-    macros: &Macros,
+    macros: &mut M,
     piece: &Piece<'_>,
     levels: usize,
     done: &mut Expanded,
 ) -> Result<(), MacroFault>
     requires named { IsNamed piece.now }
     requires short { length done.old.bytes.items ≤ 65536 }
-    ensures made { Answers (λ nothing. expanded_view done.new) result (each (with_piece (expand_call_within macros.now levels)) (pieces_view piece.now) (expanded_view done.old)) }
+    ensures made { AnswersFrom M.found M.becomes M.lacks (λ nothing. expanded_view done.new) (λ texts. each (with_piece (expand_call_within texts levels)) (pieces_view piece.now) (expanded_view done.old)) macros.old result macros.new }
     ensures short { OnOk result (length done.new.bytes.items ≤ 65536) }
 {
     match piece {
@@ -109,15 +128,15 @@ fn expand_piece(
 
 /// The expansion of a call, where it and the calls in it may stand on so many levels, and some were met before.
 #[cycle(expansion)]
-fn expand_call(
+fn expand_call<M: MacroTexts>(
     alloc: Global,
-    macros: &Macros,
+    macros: &mut M,
     call: &Call<'_>,
     levels: usize,
     calls: usize,
 ) -> Result<Expanded, MacroFault>
     requires { IsAscii call.now.name.now }
-    ensures { Answers expanded_view result (expand_call_within macros.now levels (call_view call.now) calls) }
+    ensures { AnswersFrom M.found M.becomes M.lacks expanded_view (λ texts. expand_call_within texts levels (call_view call.now) calls) macros.old result macros.new }
 {
     if levels == 0 {
         return Err(MacroFault::MacroDepth(name_of(alloc, call.name)?));
@@ -127,29 +146,32 @@ fn expand_call(
     }
     let arguments = arguments_of(alloc, call.inside)?;
     let given = expand_arguments(alloc, macros, &arguments, levels - 1, calls + 1)?;
-    let text = filled_text(alloc, macros, call.name, &given.texts)?;
+    let name = name_of(alloc, call.name)?;
+    let text = filled_text(alloc, macros, name, &given.texts)?;
     expand_text(alloc, macros, &text, levels - 1, given.calls)
 }
 
 /// The expansions of a call's arguments, in which calls may stand on so many levels, where some were met before.
 #[cycle(expansion)]
-fn expand_arguments(
+fn expand_arguments<M: MacroTexts>(
     alloc: Global,
-    macros: &Macros,
+    macros: &mut M,
     arguments: &[&[u8]],
     levels: usize,
     calls: usize,
 ) -> Result<Given, MacroFault>
-    ensures { Answers given_view result (arguments_expanded (text_expanded (expand_call_within macros.now levels)) (map (λ argument. argument.now) arguments.now) calls) }
+    ensures { AnswersFrom M.found M.becomes M.lacks given_view (λ texts. arguments_expanded (text_expanded (expand_call_within texts levels)) (map (λ argument. argument.now) arguments.now) calls) macros.old result macros.new }
 {
     let mut given = Given {
         texts: Vec::new(alloc),
         calls,
     };
-    for argument in arguments {
+    let mut left = arguments;
+    'arguments: while let [argument, others @ ..] = left {
         let Expanded { bytes, calls } = expand_text(alloc, macros, argument, levels, given.calls)?;
         given.texts.push(bytes)?;
         given.calls = calls;
+        left = others;
     }
     Ok(given)
 }

@@ -1,16 +1,17 @@
 //! A macro's text with arguments in its places.
 
-ghost use Rattle.std.specs.Prelude.{◌≡◌, map, IsAscii};
-ghost use Rattle.std.specs.FinMap.{get};
+ghost use Rattle.std.specs.Prelude.{◌≡◌, map};
 ghost use Rattle.macro_expand.specs.Filling.{segments, missing, filled};
 ghost use Rattle.macro_expand.specs.Expansion.{limited, filled_text as text_filled};
+ghost use Rattle.macro_expand.specs.Sources.{AnswersFrom};
 ghost use Rattle.macro_expand.specs.Views.{Answers};
 
 use crate::bytes::after;
-use crate::fault::{MacroFault, name_of};
+use crate::fault::MacroFault;
 use crate::limited::put;
-use crate::macros::Macros;
 use crate::segment::first_segment;
+use crate::texts::MacroTexts;
+use digit_tuple::name::Name;
 use std::alloc::Global;
 
 /// The first number of a place of the text for which so many arguments are too few.
@@ -43,21 +44,21 @@ fn fill(alloc: Global, text: &[u8], arguments: &[Vec<u8>]) -> Result<Vec<u8>, Ma
 }
 
 /// The text of the macro of this name, with arguments in its places.
-pub(crate) fn filled_text(
+pub(crate) fn filled_text<M: MacroTexts>(
     alloc: Global,
-    macros: &Macros,
-    name: &[u8],
+    macros: &mut M,
+    name: Name,
     arguments: &[Vec<u8>],
 ) -> Result<Vec<u8>, MacroFault>
-    requires { IsAscii name.now }
-    ensures { Answers (λ made. made.items) result (text_filled name.now (map (λ argument. argument.items) arguments.now) (get macros.now name.now)) }
+    ensures { AnswersFrom M.found M.becomes M.lacks (λ made. made.items) (λ texts. text_filled name (map (λ argument. argument.items) arguments.now) (texts name)) macros.old result macros.new }
 {
-    let Some(text) = macros.text_of(name) else {
-        return Err(MacroFault::Unknown(name_of(alloc, name)?));
+    macros.find(&name)?;
+    let Some(text) = macros.text_of(&name) else {
+        return Err(MacroFault::Unknown(name));
     };
     if let Some(place) = missing_place(text, arguments.len()) {
         return Err(MacroFault::MacroArgs {
-            name: name_of(alloc, name)?,
+            name,
             place,
             given: arguments.len(),
         });

@@ -12,6 +12,10 @@
 mod fault;
 // the texts of macros, by their names
 mod macros;
+// where texts come from
+mod texts;
+// macros that were added, as a source of texts
+mod added;
 // fronts of texts, and what stands after them
 mod bytes;
 // calls, and the ends of their parentheses
@@ -31,7 +35,8 @@ mod expanding;
 // what holds of all expansions
 mod laws;
 
-pub use expanding::expand;
+pub use expanding::{expand, expand_from};
 pub use fault::MacroFault;
 pub use laws::{gives_plain_texts, keeps_plain_texts, one_answer};
 pub use macros::Macros;
+pub use texts::MacroTexts;
