@@ -1,10 +1,10 @@
 -- The texts of users' systems are those of files, and change where something is entered among them alone.
 use Rattle.std.proofs.Common.{◌≡◌, ◌≢◌, ℕ, false, List, Option, None, Some, if◌then◌else◌, option_and_then, option_map, refl, sym, ap}
 use Rattle.wal_outside.specs.declared.folder.Folder.{Folder}
-use Rattle.wal_outside.specs.declared.folder.Folder.TheVariants.{Bases}
+use Rattle.wal_outside.specs.declared.folder.Folder.TheVariants.{Bases, Words}
 use Rattle.wal_outside.specs.Files.{Files, same_file}
 use Rattle.system_files.specs.SystemFiles.{Custom}
-use Rattle.definitions.specs.Trees.{File, Regex, Formula, Entry, Bytes, Defined, Ledger, ledger_of, entered, bytes_of, tree_of, custom_of}
+use Rattle.definitions.specs.Trees.{File, Regex, Formula, Fixed, Image, Combine, Entry, Bytes, Defined, Ledger, ledger_of, entered, bytes_of, tree_of, custom_of}
 use Rattle.definitions.specs.Texts.{HasTextIn, HasTextAt, Stores}
 use Rattle.definitions.specs.Laws.{CustomTextsAreFiles}
 
@@ -14,6 +14,9 @@ entry_text custom (Bytes bytes) text has = ap Some (sym has.1)
 entry_text custom (Defined (File bytes)) text has = ap Some (sym has.1)
 entry_text custom (Defined (Regex tracks e)) text has = absurd (has.0.1 refl)
 entry_text custom (Defined (Formula variables formula bindings)) text has = absurd (has.0.1 refl)
+entry_text custom (Defined (Fixed rules)) text has = absurd (let no : Bases ≡ Words = has.0 in cc)
+entry_text custom (Defined (Image way system rules tree)) text has = absurd (let no : Bases ≡ Words = has.0 in cc)
+entry_text custom (Defined (Combine way named parts)) text has = absurd (let no : Bases ≡ Words = has.0 in cc)
 
 entry_there : (custom : Custom) (entry : Option Entry) (text : Option (List ℕ)) → HasTextAt custom Bases entry text → option_and_then (λ e. bytes_of (tree_of e)) entry ≡ text
 entry_there custom None None has = refl

@@ -2,11 +2,16 @@ pub mod UserDigits
 pub mod NameLemmas
 pub mod FileNames
 pub mod RegexTexts
+pub mod OneWordTexts
 pub mod OneTexts
 pub mod TextMeanings
 pub mod AssignedLemmas
 pub mod SameMeanings
+pub mod FileTables
+pub mod WordLetters
+pub mod WordTextLetters
 pub mod WordTexts
+pub mod WordValueTexts
 pub mod FileBindings
 pub mod CustomTexts
 pub mod TableSystems
@@ -15,5 +20,3 @@ pub mod BranchTables
 pub mod TableWords
 pub mod TableRelations
 pub mod OneTable
-pub mod FileTables
-pub mod WordLetters

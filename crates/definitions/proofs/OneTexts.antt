@@ -15,12 +15,14 @@ use Rattle.regex_build.specs.Expression.{Expression}
 use Rattle.reg_steps.proofs.OneRegex.{same_truth}
 use Rattle.reg_steps.proofs.RelationLemmas.{relation_is_one}
 use Rattle.definitions.specs.Tracks.{Tracks, OverSets, OverSystems, systems_of, letter_sets, header_of}
-use Rattle.definitions.specs.Trees.{Variable, Tree, File, Regex, Formula, Bindings, Bytes, Defined}
+use Rattle.definitions.specs.Trees.{Variable, Tree, File, Regex, Formula, Fixed, Image, Combine, Bindings, Bytes, Defined}
 use Rattle.system_files.specs.SystemFiles.{Custom}
 use Rattle.definitions.specs.FormulaTexts.{IsSolvedBy, named_systems, IsSolutionText, HasTruth, truth_text, IsFormulaText, HasVerdict}
+use Rattle.definitions.specs.TreeMeanings.{tree_letter}
 use Rattle.definitions.specs.Texts.{IsTrackText, HasTreeText}
 use Rattle.definitions.specs.Laws.{OneText}
 use Rattle.definitions.proofs.RegexTexts.{one_regex_text}
+use Rattle.definitions.proofs.OneWordTexts.{one_word_text, one_fixed_text}
 
 -- canonical automata that hold of one relation are one
 pub one_holding : (way : Direction) (ss : List System) (holds : List ℕ → Type 0) (c d : Automaton) → IsCanonical c → IsCanonical d → HoldsOf way ss holds c → HoldsOf way ss holds d → c ≡ d
@@ -74,6 +76,9 @@ pub one_tree_text : (custom : Custom) (tree : Tree) (text other : List ℕ) → 
 one_tree_text custom (File bytes) text other a b = a ∙ sym b
 one_tree_text custom (Regex tracks e) text other a b = one_track_text custom tracks e text other a b
 one_tree_text custom (Formula variables formula bindings) text other a b = one_formula_text custom bindings variables formula text other a b
+one_tree_text custom (Fixed rules) text other a b = one_fixed_text custom rules text other a b
+one_tree_text custom (Image way system rules tree) text other a b = one_word_text custom way (system ∷ []) (λ ns letter. tree_letter custom (Image way system rules tree) ns letter) text other a b
+one_tree_text custom (Combine way named parts) text other a b = one_word_text custom way named (λ ns letter. tree_letter custom (Combine way named parts) ns letter) text other a b
 
 -- an entry has one text
 pub one_text_of : OneText

@@ -1,5 +1,4 @@
 -- A formula means the same where its names are bound to what holds of the same numbers.
-use Rattle.wal_outside.specs.declared.folder.Folder.TheVariants.{Automata}
 use Rattle.formula_truth.proofs.MeaningLemmas.{MeanTheSame, meanings_matter}
 use Rattle.definitions.specs.Trees.{Bindings}
 use Rattle.system_files.specs.SystemFiles.{Custom}
@@ -9,8 +8,8 @@ use Rattle.definitions.specs.Laws.{BindTheSame, BindingsMatterByMeaning}
 -- names that are bound to the same mean the same
 pub same_meanings : (custom : Custom) (bindings others : Bindings) → BindTheSame custom bindings others → MeanTheSame (meanings_in custom bindings) (meanings_in custom others)
 same_meanings custom bindings others same = record {
-  holds_there = λ name ns. (same.holds Automata name ns).0;
-  holds_back = λ name ns. (same.holds Automata name ns).1;
+  holds_there = λ name ns. (same.holds name ns).0;
+  holds_back = λ name ns. (same.holds name ns).1;
   letter_there = λ name ns letter. (same.letters name ns letter).0;
   letter_back = λ name ns letter. (same.letters name ns letter).1;
 }

@@ -10,6 +10,7 @@ use Rattle.digit_tuple.specs.declared.direction.Direction.{Direction}
 use Rattle.digit_tuple.specs.declared.header.Header.{Header}
 use Rattle.digit_tuple.specs.declared.header.Header.TheVariants as headers
 use Rattle.digit_tuple.proofs.SystemLemmas.{length-digit_set}
+use Rattle.wal_outside.specs.declared.folder.Folder.TheVariants.{Automata, Words}
 use Rattle.formula_parse.specs.Trees as trees
 use Rattle.numeration.specs.Systems.{System}
 use Rattle.numeration.specs.Spelling as spelling
@@ -29,7 +30,7 @@ use Rattle.dfa_text.specs.RelationText.{relation_text}
 use Rattle.dfa_text.proofs.ListedPaths.{accepts_listed}
 use Rattle.dfa_text.proofs.PrintedRelations.{text_lists}
 use Rattle.definitions.specs.Tracks.{NamedSystem, Tracks, OverSets, OverSystems, names_of, systems_of, letter_sets, header_of}
-use Rattle.definitions.specs.Trees.{Variable, File, Regex, Formula, Bindings}
+use Rattle.definitions.specs.Trees.{Variable, File, Regex, Formula, Fixed, Image, Combine, Bindings}
 use Rattle.system_files.specs.SystemFiles.{Custom}
 use Rattle.definitions.specs.Named.{AreNamed}
 use Rattle.definitions.specs.Files.{HasListedWord, HoldsUnder, ListedHolds, FileHolds}
@@ -169,7 +170,14 @@ module _ (custom : Custom) (bindings : Bindings) (formula : trees.Formula) where
   formula_text_holds [] text is ns = sentence_text_holds text is ns
   formula_text_holds (v ∷ variables) text is ns = solution_text_holds (v ∷ variables) text (omega arith) is ns
 
+-- words do not stand among automata
+not_among : {P : Type 0} → Automata ≡ Words → P
+not_among same = absurd (cc)
+
 pub text_means : TextsMeanTheirTrees
-text_means custom (File bytes) text is ns = (λ h. subst (λ (file : List ℕ). FileHolds custom file ns) is h, λ h. subst (λ (file : List ℕ). FileHolds custom file ns) (sym is) h)
-text_means custom (Regex tracks e) text is ns = track_text_holds custom tracks e text is ns
-text_means custom (Formula variables formula bindings) text is ns = formula_text_holds custom bindings formula variables text is ns
+text_means custom (File bytes) text may is ns = (λ h. subst (λ (file : List ℕ). FileHolds custom file ns) is h, λ h. subst (λ (file : List ℕ). FileHolds custom file ns) (sym is) h)
+text_means custom (Regex tracks e) text may is ns = track_text_holds custom tracks e text is ns
+text_means custom (Formula variables formula bindings) text may is ns = formula_text_holds custom bindings formula variables text is ns
+text_means custom (Fixed rules) text may is ns = not_among may
+text_means custom (Image way system rules tree) text may is ns = not_among may
+text_means custom (Combine way named parts) text may is ns = not_among may

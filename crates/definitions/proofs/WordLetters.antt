@@ -27,7 +27,7 @@ file_is_word text listed reads =
     record { states = word_has_states text listed reads (ap has_states word.header); word = word }
 
 -- a text that lists something has the letters of this
-file_letter : (custom : Custom) (text : List ℕ) (listed : Listed) (ns : List ℕ) (letter : ℤ) → word_of text ≡ Ok listed → FileLetter custom text ns letter → ListedLetter custom listed ns letter
+pub file_letter : (custom : Custom) (text : List ℕ) (listed : Listed) (ns : List ℕ) (letter : ℤ) → word_of text ≡ Ok listed → FileLetter custom text ns letter → ListedLetter custom listed ns letter
 file_letter custom text listed ns letter reads (other, also, has) =
     let same : other ≡ listed = let e : Ok other ≡ Ok listed = sym also ∙ reads in cc in
     subst (λ (l : Listed). ListedLetter custom l ns letter) same has

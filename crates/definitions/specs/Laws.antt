@@ -1,7 +1,7 @@
 -- What holds of all definitions.
 use Rattle.std.specs.Prelude.{◌≡◌, ◌≢◌, ◌↔◌, ℕ, ℤ, List}
 use Rattle.wal_outside.specs.declared.folder.Folder.{Folder}
-use Rattle.wal_outside.specs.declared.folder.Folder.TheVariants.{Bases, Words}
+use Rattle.wal_outside.specs.declared.folder.Folder.TheVariants.{Automata, Bases, Words}
 use Rattle.wal_outside.specs.Files.{Files}
 use Rattle.formula_parse.specs.Trees as trees
 use Rattle.formula_resolve.specs.declared.file.File as formula_file
@@ -16,17 +16,17 @@ use Rattle.definitions.specs.Texts.{HasTreeText, HasText, Stores}
 abbrev pub OneText : Type 0
 OneText = (custom : Custom) (entry : Entry) (text other : List ℕ) → HasText custom entry text → HasText custom entry other → text ≡ other
 
--- the text of a definition, read as a file, holds of the numbers of which the definition holds
+-- the text of a definition that may stand among automata, read as a file, holds of the numbers of which the definition holds
 abbrev pub TextsMeanTheirTrees : Type 0
-TextsMeanTheirTrees = (custom : Custom) (tree : Tree) (text : List ℕ) → HasTreeText custom tree text → (ns : List ℕ) → FileHolds custom text ns ↔ tree_holds custom tree ns
+TextsMeanTheirTrees = (custom : Custom) (tree : Tree) (text : List ℕ) → MayStandIn Automata tree → HasTreeText custom tree text → (ns : List ℕ) → FileHolds custom text ns ↔ tree_holds custom tree ns
 
 -- the text of a definition that may stand among words, read as a word's file, has the letters of the definition
 abbrev pub WordTextsMeanTheirTrees : Type 0
 WordTextsMeanTheirTrees = (custom : Custom) (tree : Tree) (text : List ℕ) → MayStandIn Words tree → HasTreeText custom tree text → (ns : List ℕ) (letter : ℤ) → FileLetter custom text ns letter ↔ tree_letter custom tree ns letter
 
--- names are bound to what holds of the same numbers, and names of words to what has the same letters
+-- names of automata are bound to what holds of the same numbers, and names of words to what has the same letters
 pub record BindTheSame (custom : Custom) (bindings others : Bindings) : Type 0 where
-  pub holds : (folder : Folder) (name ns : List ℕ) → bound_holds custom bindings folder name ns ↔ bound_holds custom others folder name ns
+  pub holds : (name ns : List ℕ) → bound_holds custom bindings Automata name ns ↔ bound_holds custom others Automata name ns
   pub letters : (name ns : List ℕ) (letter : ℤ) → bound_letter custom bindings Words name ns letter ↔ bound_letter custom others Words name ns letter
 
 -- a formula holds of the same numbers where its names are bound to the same

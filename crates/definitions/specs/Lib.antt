@@ -5,6 +5,7 @@ pub mod Files
 pub mod WordFiles
 pub mod TreeMeanings
 pub mod FormulaTexts
+pub mod WordTexts
 pub mod Texts
 pub mod Laws
 pub mod TableSteps

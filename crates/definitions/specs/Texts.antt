@@ -1,8 +1,9 @@
 -- Which text stores an entry.
-use Rattle.std.specs.Prelude.{◌≡◌, ◌↔◌, ℕ, ◌<◌, ℤ, List, length, Option, None, Some, ⊤}
+use Rattle.std.specs.Prelude.{◌≡◌, ◌↔◌, ℕ, ◌<◌, ℤ, List, [], ◌∷◌, length, Option, None, Some, ⊤}
 use Rattle.std.specs.List.{AllByRecursion}
 use Rattle.digit_tuple.specs.Deterministic.{Automaton}
 use Rattle.digit_tuple.specs.declared.direction.Direction.{Direction}
+use Rattle.digit_tuple.specs.declared.direction.Direction.TheVariants.{Msd}
 use Rattle.digit_tuple.specs.declared.header.Header.TheVariants as headers
 use Rattle.regex_build.specs.Expression.{Expression}
 use Rattle.regex_build.specs.Matches.{Matches}
@@ -14,7 +15,11 @@ use Rattle.wal_outside.specs.Files.{Files}
 use Rattle.reg_steps.specs.RegexSteps.{IsRegexAutomaton}
 use Rattle.reg_steps.specs.Relations.{IsRelation}
 use Rattle.definitions.specs.Tracks.{NamedSystem, systems_of, Tracks, OverSets, OverSystems, letter_sets, header_of}
-use Rattle.definitions.specs.Trees.{Tree, File, Regex, Formula, MayStandIn, Entry, Bytes, Defined, Ledger, tree_of, custom_of}
+use Rattle.morph_words.specs.MorphismKinds.{HasFixedPoint}
+use Rattle.morph_words.specs.Rules.{Rules}
+use Rattle.definitions.specs.Trees.{Tree, File, Regex, Formula, Fixed, Image, Combine, MayStandIn, Entry, Bytes, Defined, Ledger, tree_of, custom_of}
+use Rattle.definitions.specs.TreeMeanings.{tree_letter}
+use Rattle.definitions.specs.WordTexts.{IsWordText, msd_base}
 use Rattle.system_files.specs.SystemFiles.{Custom}
 use Rattle.definitions.specs.Named.{AreNamed}
 use Rattle.definitions.specs.FormulaTexts.{IsFormulaText}
@@ -42,11 +47,20 @@ abbrev pub IsTrackText : Custom → Tracks → Expression (List ℤ) → List �
 IsTrackText custom (OverSets sets) expression text = IsRegexText sets expression text
 IsTrackText custom (OverSystems way named) expression text = IsSpelledText custom way named expression text
 
+-- the text of a fixed point, which is in the base that is the length of all images
+pub record IsFixedText (custom : Custom) (rules : Rules) (text : List ℕ) : Type 0 where
+  pub k : ℕ
+  pub has : HasFixedPoint rules k
+  pub word : IsWordText custom Msd (msd_base k ∷ []) (λ ns letter. tree_letter custom (Fixed rules) ns letter) text
+
 -- the text of a definition
 abbrev pub HasTreeText : Custom → Tree → List ℕ → Type 0
 HasTreeText custom (File bytes) text = text ≡ bytes
 HasTreeText custom (Regex tracks expression) text = IsTrackText custom tracks expression text
 HasTreeText custom (Formula variables formula bindings) text = IsFormulaText custom bindings variables formula text
+HasTreeText custom (Fixed rules) text = IsFixedText custom rules text
+HasTreeText custom (Image way system rules tree) text = IsWordText custom way (system ∷ []) (λ ns letter. tree_letter custom (Image way system rules tree) ns letter) text
+HasTreeText custom (Combine way named parts) text = IsWordText custom way named (λ ns letter. tree_letter custom (Combine way named parts) ns letter) text
 
 -- the text of an entry
 abbrev pub HasText : Custom → Entry → List ℕ → Type 0

@@ -1,14 +1,16 @@
 -- Of which numbers a definition holds, and which letters it has as a word.
-use Rattle.std.specs.Prelude.{◌≡◌, ℕ, ℤ, Bool, true, false, List, [], ◌∷◌, length}
+use Rattle.std.specs.Prelude.{◌≡◌, ◌⊎◌, ℕ, ℤ, pos, Bool, true, false, List, [], ◌∷◌, length}
 use Rattle.wal_outside.specs.declared.folder.Folder.{Folder}
 use Rattle.wal_outside.specs.declared.folder.Folder.TheVariants.{Automata, Words}
 use Rattle.wal_outside.specs.Files.{same_file}
 use Rattle.formula_truth.specs.Assignments.{Assignment, with_value}
 use Rattle.formula_truth.specs.Truth.{Meanings, Holds}
+use Rattle.morph_words.specs.FixedPoint.{IsLetterAt}
+use Rattle.morph_words.specs.ImageLetters.{IsImageLetter}
 use Rattle.regex_build.specs.Expression.{Expression}
 use Rattle.reg_steps.specs.Relations.{HasMatch}
 use Rattle.definitions.specs.Tracks.{Tracks, OverSets, OverSystems, systems_of, letter_sets}
-use Rattle.definitions.specs.Trees.{Variable, Tree, File, Regex, Formula, Bindings, unbound, bound}
+use Rattle.definitions.specs.Trees.{Variable, Tree, File, Regex, Formula, Fixed, Image, Combine, Bindings, unbound, bound, Parts, no_parts, part}
 use Rattle.system_files.specs.SystemFiles.{Custom}
 use Rattle.definitions.specs.Files.{FileHolds}
 use Rattle.definitions.specs.WordFiles.{FileLetter}
@@ -24,6 +26,10 @@ abbrev pub RegexHolds : Tracks → Expression (List ℤ) → List ℕ → Type 0
 RegexHolds (OverSets sets) expression ns = ⊥
 RegexHolds (OverSystems way named) expression ns = HasMatch way (systems_of named) (letter_sets (OverSystems way named)) expression ns
 
+-- the place is one number, of which this holds
+abbrev pub AtNumber : (ℕ → Type 0) → List ℕ → Type 0
+AtNumber Holds ns = (n : ℕ) × (ns ≡ n ∷ []) × Holds n
+
 -- the one where it is so, and else the other
 abbrev pub chosen : Bool → Type 0 → Type 0 → Type 0
 chosen true P Q = P
@@ -31,22 +37,35 @@ chosen false P Q = Q
 
 abbrev mutual
   -- a file holds as it lists; an expression of the numbers of which a spelling matches; a formula of those for which it is true, one for
-  -- each free variable
+  -- each free variable; a word holds of none
   pub tree_holds : Custom → Tree → List ℕ → Type 0
   tree_holds custom (File bytes) ns = FileHolds custom bytes ns
   tree_holds custom (Regex tracks expression) ns = RegexHolds tracks expression ns
   tree_holds custom (Formula variables formula bindings) ns = (length ns ≡ length variables) × Holds (record { holds_of = λ name ms. bound_holds custom bindings Automata name ms; has_letter = λ name ms letter. bound_letter custom bindings Words name ms letter }) formula (assigned variables ns)
+  tree_holds custom (Fixed rules) ns = ⊥
+  tree_holds custom (Image way system rules tree) ns = ⊥
+  tree_holds custom (Combine way named parts) ns = ⊥
 
   -- what a name is bound to holds of the numbers
   pub bound_holds : Custom → Bindings → Folder → List ℕ → List ℕ → Type 0
   bound_holds custom unbound folder name ns = ⊥
   bound_holds custom (bound bindings at under tree) folder name ns = chosen (same_file at under folder name) (tree_holds custom tree ns) (bound_holds custom bindings folder name ns)
 
-  -- a file has the letters that it lists; an expression and a formula are no words
+  -- A file has the letters that it lists; an expression and a formula are no words. A fixed point has its letters, the image of a word those
+  -- of the images of the word's letters, one after another, and definitions in a list make their letter at each tuple of numbers, one for
+  -- each system.
   pub tree_letter : Custom → Tree → List ℕ → ℤ → Type 0
   tree_letter custom (File bytes) ns letter = FileLetter custom bytes ns letter
   tree_letter custom (Regex tracks expression) ns letter = ⊥
   tree_letter custom (Formula variables formula bindings) ns letter = ⊥
+  tree_letter custom (Fixed rules) ns letter = AtNumber (λ n. IsLetterAt rules n letter) ns
+  tree_letter custom (Image way system rules tree) ns letter = AtNumber (λ n. IsImageLetter rules (λ m of_word. tree_letter custom tree (m ∷ []) of_word) n letter) ns
+  tree_letter custom (Combine way named parts) ns letter = (length ns ≡ length named) × first_letter custom parts ns letter
+
+  -- the letter of the first definition that holds of the numbers, and 0 where none holds
+  pub first_letter : Custom → Parts → List ℕ → ℤ → Type 0
+  first_letter custom no_parts ns letter = letter ≡ pos 0
+  first_letter custom (part tree own parts) ns letter = (tree_holds custom tree ns × (letter ≡ own)) ⊎ ((¬ tree_holds custom tree ns) × first_letter custom parts ns letter)
 
   -- what a name is bound to has this letter at the place
   pub bound_letter : Custom → Bindings → Folder → List ℕ → List ℕ → ℤ → Type 0

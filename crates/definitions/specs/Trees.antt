@@ -1,5 +1,5 @@
 -- Definitions that commands make, and the ledger of what stands under each name.
-use Rattle.std.specs.Prelude.{◌≢◌, ℕ, ℤ, List, Option, None, Some, option_and_then, ⊤, if◌then◌else◌}
+use Rattle.std.specs.Prelude.{◌≡◌, ◌≢◌, ℕ, ℤ, List, Option, None, Some, option_and_then, ⊤, if◌then◌else◌}
 use Rattle.std.specs.List.{fold}
 use Rattle.std.specs.Option.{option_map}
 use Rattle.wal_outside.specs.declared.folder.Folder.{Folder}
@@ -9,6 +9,7 @@ use Rattle.digit_tuple.specs.declared.direction.Direction.{Direction}
 use Rattle.formula_parse.specs.Trees as trees
 use Rattle.formula_resolve.specs.declared.file.File as formula_file
 use Rattle.formula_resolve.specs.declared.file.File.TheVariants.{Automaton, Word}
+use Rattle.morph_words.specs.Rules.{Rules}
 use Rattle.regex_build.specs.Expression.{Expression}
 use Rattle.system_files.specs.SystemFiles.{Custom}
 use Rattle.definitions.specs.Tracks.{NamedSystem, Tracks}
@@ -20,23 +21,36 @@ pub record Variable : Type 0 where
   pub system : NamedSystem
 
 mutual
-  -- A definition: the bytes of a file; an expression over tracks; or a formula, with its free variables in byte order and the definitions
-  -- that its names stand for.
+  -- A definition: the bytes of a file; an expression over tracks; a formula, with its free variables in byte order and the definitions that
+  -- its names stand for; the fixed point of a morphism; the image of a word, over the word's system; or the word that definitions in a list
+  -- make together, over systems that are read in one direction.
   pub data Tree : Type 0 where
     File : List ℕ → Tree
     Regex : Tracks → Expression (List ℤ) → Tree
     Formula : List Variable → trees.Formula → Bindings → Tree
+    Fixed : Rules → Tree
+    Image : Direction → NamedSystem → Rules → Tree → Tree
+    Combine : Direction → List NamedSystem → Parts → Tree
+
+  -- definitions in a list, each with a letter
+  pub data Parts : Type 0 where
+    no_parts : Parts
+    part : Tree → ℤ → Parts → Parts
 
   -- what names in folders stand for; the last one of a name counts
   pub data Bindings : Type 0 where
     unbound : Bindings
     bound : Bindings → Folder → List ℕ → Tree → Bindings
 
--- A definition may stand in the folder. An expression and a formula are neither words nor files of a user's system, and stand elsewhere.
+-- A definition may stand in the folder. An expression and a formula are neither words nor files of a user's system, and stand elsewhere;
+-- and a definition of a word stands among words.
 abbrev pub MayStandIn : Folder → Tree → Type 0
 MayStandIn folder (File bytes) = ⊤
 MayStandIn folder (Regex tracks expression) = (folder ≢ Words) × (folder ≢ Bases)
 MayStandIn folder (Formula variables formula bindings) = (folder ≢ Words) × (folder ≢ Bases)
+MayStandIn folder (Fixed rules) = folder ≡ Words
+MayStandIn folder (Image way system rules tree) = folder ≡ Words
+MayStandIn folder (Combine way named parts) = folder ≡ Words
 
 -- what stands under a name: bytes, or a definition
 pub data Entry : Type 0 where
@@ -60,6 +74,9 @@ abbrev pub bytes_of : Tree → Option (List ℕ)
 bytes_of (File bytes) = Some bytes
 bytes_of (Regex tracks expression) = None
 bytes_of (Formula variables formula bindings) = None
+bytes_of (Fixed rules) = None
+bytes_of (Image way system rules tree) = None
+bytes_of (Combine way named parts) = None
 
 -- the definition of an entry
 abbrev pub tree_of : Entry → Tree
@@ -83,3 +100,8 @@ with_file ledger bindings (Word name) = with_entry bindings Words name (ledger W
 -- the definitions for which the files of a formula stand now
 abbrev pub bindings_of : Ledger → List formula_file.File → Bindings
 bindings_of ledger files = fold (with_file ledger) unbound files
+
+-- the definitions of automata in a list, with these letters; a name under which nothing stands adds none
+abbrev pub with_part : Option Entry → ℤ → Parts → Parts
+with_part None letter parts = parts
+with_part (Some entry) letter parts = part (tree_of entry) letter parts

@@ -7,7 +7,7 @@ pub fn one_text()
     ensures { OneText }
 {}
 
-/// The text of a definition, read as a file, holds of the numbers of which the definition holds.
+/// The text of a definition that may stand among automata, read as a file, holds of the numbers of which the definition holds.
 pub fn texts_mean_their_trees()
     ensures { TextsMeanTheirTrees }
 {}

@@ -1,19 +1,20 @@
 -- What an automaton lists accepts the words of the automaton, under any header.
 use Rattle.std.proofs.Common.{◌≡◌, ◌≢◌, ◌⊎◌, inl, inr, ◌↔◌, ℕ, zero, suc, ◌+◌, ◌<◌, ◌≤◌, Bool, true, false, List, [], ◌∷◌, map, ℤ, pos, Option, None, Some, refl, sym, ap, ◌∙◌, subst, arith, IsTrue}
 use Rattle.std.specs.List.{AllZip, Contains, flat_map, range_with_len}
-use Rattle.std.specs.Option.{IfSome, option_map_or}
+use Rattle.std.specs.Option.{IfSome, option_and_then, option_map_or}
 use Rattle.std.proofs.lemmas.Bool.{cases_order, cases_lt}
 use Rattle.std.proofs.lemmas.List.{get_or_past}
 use Rattle.std.proofs.lemmas.List.Elements.{Contains-append_left, Contains-append_right, Contains-append_cases}
+use Rattle.std.proofs.lemmas.Option.{none-some, same_Some}
 use Rattle.std.proofs.lemmas.List.FromFn.{length-map-range_with_len, get_or-map-range_with_len}
-use Rattle.digit_tuple.specs.Deterministic.{Automaton, IsTable, letters_of, states_of, edges_of, accepting_of, step_of, accepts_from, accepts_of}
+use Rattle.digit_tuple.specs.Deterministic.{Automaton, IsTable, letters_of, states_of, edges_of, accepting_of, step_of, run_of, accepts_from, accepts_of}
 use Rattle.digit_tuple.specs.Letters.{code_of, AreDigits}
 use Rattle.digit_tuple.specs.declared.header.Header.{Header}
 use Rattle.digit_tuple.proofs.DfaLemmas.{row_at, target_by-in_range}
 use Rattle.digit_tuple.proofs.LetterLemmas.{code_of-below, code_of-injective}
 use Rattle.dfa_reading.specs.Branching.{IsLetterOfDigits}
 use Rattle.dfa_reading.specs.Listed.{ListedLine, Takes, Moves, MovesAlong, IsAccepting, ListedAccepts, output_of}
-use Rattle.dfa_text.specs.Lists.{digits_of_letter, output_listed, step_listed, steps_listed, automaton_listed}
+use Rattle.dfa_text.specs.Lists.{digits_of_letter, output_listed, step_listed, steps_listed, word_listed, automaton_listed}
 use Rattle.dfa_text.proofs.ListedParts.{contains_none, contains_here, contains_only}
 use Rattle.dfa_text.proofs.PrintedRelations.{letter_digits}
 
@@ -130,3 +131,27 @@ module _ (header : Header) (d : Automaton) (table : IsTable (letters_of d) d.sta
     (λ h. accepted_from_moves word letters 0 h.0 codes h.1 h.2),
     (λ h. moves_from_accepted word letters 0 table.initial codes h),
   )
+
+  -- whatever the outputs are, a listed path leads where the word of letters leads
+  run_from_moves : (outputs : List ℤ) (word : List (List ℕ)) (letters : List ℕ) (p q : ℕ) → AllZip (IsLetterOfDigits d.sizes) word letters → MovesAlong d.sizes (word_listed header d outputs) p word q → run_of d p letters ≡ Some q
+  run_from_moves outputs [] [] p q codes h = ap Some h
+  run_from_moves outputs [] (a ∷ letters) p q codes h = absurd codes
+  run_from_moves outputs (tuple ∷ word) [] p q codes h = absurd codes
+  run_from_moves outputs (tuple ∷ word) (a ∷ letters) p q codes (r, move, more) =
+      ap (λ (o : Option ℕ). option_and_then (λ k. run_of d k letters) o) (ap (step_of d p) codes.0.letter_is ∙ step_from_move p tuple r move) ∙ run_from_moves outputs word letters r q codes.1 more
+
+  moves_from_run : (outputs : List ℤ) (word : List (List ℕ)) (letters : List ℕ) (p q : ℕ) → p < states_of d → AllZip (IsLetterOfDigits d.sizes) word letters → run_of d p letters ≡ Some q → MovesAlong d.sizes (word_listed header d outputs) p word q
+  moves_from_run outputs [] [] p q within codes h = same_Some p q h
+  moves_from_run outputs [] (a ∷ letters) p q within codes h = absurd codes
+  moves_from_run outputs (tuple ∷ word) [] p q within codes h = absurd codes
+  moves_from_run outputs (tuple ∷ word) (a ∷ letters) p q within codes h =
+      elim (option_cases (step_of d p a)) [
+        | inl none ↦ absurd (none-some q (sym (ap (λ (o : Option ℕ). option_and_then (λ k. run_of d k letters) o) none) ∙ h))
+        | inr (r, is) ↦
+            let inside : r < states_of d = subst (λ (o : Option ℕ). IfSome o (λ t. t < states_of d)) is (target_by-in_range (letters_of d) (states_of d) (edges_of d p) a (row_at d p table within).in_range) in
+            let rest = moves_from_run outputs word letters r q inside codes.1 (sym (ap (λ (o : Option ℕ). option_and_then (λ k. run_of d k letters) o) is) ∙ h) in
+            (r, move_from_step p tuple r within codes.0.fit (sym (ap (step_of d p) codes.0.letter_is) ∙ is), rest)
+      ]
+
+  pub runs_listed : (outputs : List ℤ) (word : List (List ℕ)) (letters : List ℕ) (q : ℕ) → AllZip (IsLetterOfDigits d.sizes) word letters → MovesAlong d.sizes (word_listed header d outputs) 0 word q ↔ (run_of d 0 letters ≡ Some q)
+  runs_listed outputs word letters q codes = (run_from_moves outputs word letters 0 q codes, moves_from_run outputs word letters 0 q table.initial codes)

@@ -3,55 +3,55 @@ use Rattle.std.proofs.Common.{◌≡◌, ℕ, zero, suc, ◌<◌, ◌≤◌, Boo
 use Rattle.std.specs.Map.{keys_of}
 use Rattle.std.proofs.lemmas.Bool.{cases_eq, cases_lt, false≢true}
 use Rattle.morph_words.specs.Rules.{IsMorphism, Rules, has, image_of}
-use Rattle.fixed_points.specs.FixedPoint.{image}
 use Rattle.fixed_points.specs.Laws.{MorphismsArePromotedOrRefused, MorphismsHaveOneKind}
-use Rattle.fixed_points.specs.LeastLetters.{IsLeastOf, LacksAmong, LacksBelow, lesser}
+use Rattle.fixed_points.specs.LeastLetters.{LacksAmong, LacksBelow, lesser}
 use Rattle.fixed_points.specs.LetterGraphLaws.{zero_ruled}
-use Rattle.fixed_points.specs.MorphismKinds.{AreClosed, AreUniform, BeginsItself, HasFixedPoint, HasOtherLength, HasRule, IsBase, IsLacking, IsLeast, IsNotUniform, IsOdd, IsRefusedAs}
-use Rattle.fixed_points.specs.declared.morphism_kind.MorphismKind.{MorphismKind}
-use Rattle.fixed_points.specs.declared.morphism_kind.MorphismKind.TheVariants.{NotUniform, Length, NotClosed, NotFixed}
-use Rattle.fixed_points.proofs.LeastLemmas.{among_more, among_none, among_stay, below_more, below_none, closed_from_none, lacking_all, odd_least, uniform_all}
-use Rattle.fixed_points.proofs.RuleLemmas.{first_least, one_least}
+use Rattle.morph_words.specs.MorphismKinds.{AreClosed, BeginsItself, HasFixedPoint, IsBase, IsLacking, IsRefusedAs}
+use Rattle.morph_words.specs.declared.morphism_kind.MorphismKind.{MorphismKind}
+use Rattle.morph_words.specs.declared.morphism_kind.MorphismKind.TheVariants.{NotUniform, Length, NotClosed, NotFixed}
+use Rattle.fixed_points.proofs.LeastLemmas.{among_more, among_none, among_stay, below_more, below_none, closed_from_none, lacking_all}
+use Rattle.morph_words.proofs.RuleLemmas.{first_least, one_least}
+use Rattle.morph_words.proofs.UniformLemmas.{not_uniform, one_length, outside_not, uniform_or_odd}
+use Rattle.morph_words.specs.Images.{image}
+use Rattle.morph_words.specs.Uniform.{AreUniform, HasOtherLength, HasRule, IsLeast, IsLeastOf, IsLengthRefused, IsNotUniform, IsOdd}
 
 module _ (rules : Rules) where
-  not_uniform : (letter : ℤ) (k : ℕ) → IsOdd rules letter → AreUniform rules k → ⊥
-  not_uniform letter k odd uniform = odd.other (uniform letter odd.has_rule ∙ sym (uniform odd.first odd.first_is.holds))
-
-  one_length : (letter : ℤ) (j k : ℕ) → HasRule rules letter → AreUniform rules j → AreUniform rules k → j ≡ k
-  one_length letter j k ruled one two = sym (one letter ruled) ∙ two letter ruled
-
-  outside_not : (letter : ℤ) (k : ℕ) → HasOtherLength rules letter → AreUniform rules k → IsBase k → ⊥
-  outside_not letter k h uniform base = h.outside (subst IsBase (one_length letter k h.k h.first.holds uniform h.uniform) base)
-
   not_closed : (letter : ℤ) → IsLacking rules letter → AreClosed rules → ⊥
   not_closed letter lacking closed = lacking.lacks (closed lacking.from letter lacking.has_rule lacking.within)
 
   pub one_base : (j k : ℕ) → HasFixedPoint rules j → HasFixedPoint rules k → j ≡ k
-  one_base j k one two = one_length (pos 0) j k (zero_ruled rules j one) one.uniform two.uniform
+  one_base j k one two = one_length rules (pos 0) j k (zero_ruled rules j one) one.uniform two.uniform
 
   pub apart : (k : ℕ) (kind : MorphismKind) → HasFixedPoint rules k → IsRefusedAs rules kind → ⊥
-  apart k (NotUniform letter) fixed h = not_uniform letter k h.holds fixed.uniform
-  apart k (Length letter) fixed h = outside_not letter k h fixed.uniform fixed.base
+  apart k (NotUniform letter) fixed h = not_uniform rules letter k h.holds fixed.uniform
+  apart k (Length letter) fixed h = outside_not rules IsBase letter k h fixed.uniform fixed.base
   apart k (NotClosed letter) fixed h = not_closed letter h.lacking.holds fixed.closed
   apart k (NotFixed letter) fixed h = h.begins_not fixed.begins
 
   pub one_kind : (kind other : MorphismKind) → IsRefusedAs rules kind → IsRefusedAs rules other → kind ≡ other
   one_kind (NotUniform a) (NotUniform b) h g = ap NotUniform (one_least (IsOdd rules) a b h g)
-  one_kind (NotUniform a) (Length b) h g = absurd (not_uniform a g.k h.holds g.uniform)
-  one_kind (NotUniform a) (NotClosed b) h g = absurd (not_uniform a g.k h.holds g.uniform)
-  one_kind (NotUniform a) (NotFixed b) h g = absurd (not_uniform a g.k h.holds g.uniform)
-  one_kind (Length a) (NotUniform b) h g = absurd (not_uniform b h.k g.holds h.uniform)
+  one_kind (NotUniform a) (Length b) h g = absurd (not_uniform rules a g.k h.holds g.uniform)
+  one_kind (NotUniform a) (NotClosed b) h g = absurd (not_uniform rules a g.k h.holds g.uniform)
+  one_kind (NotUniform a) (NotFixed b) h g = absurd (not_uniform rules a g.k h.holds g.uniform)
+  one_kind (Length a) (NotUniform b) h g = absurd (not_uniform rules b h.k g.holds h.uniform)
   one_kind (Length a) (Length b) h g = ap Length (one_least (HasRule rules) a b h.first g.first)
-  one_kind (Length a) (NotClosed b) h g = absurd (outside_not a g.k h g.uniform g.base)
-  one_kind (Length a) (NotFixed b) h g = absurd (outside_not a g.k h g.uniform g.base)
-  one_kind (NotClosed a) (NotUniform b) h g = absurd (not_uniform b h.k g.holds h.uniform)
-  one_kind (NotClosed a) (Length b) h g = absurd (outside_not b h.k g h.uniform h.base)
+  one_kind (Length a) (NotClosed b) h g = absurd (outside_not rules IsBase a g.k h g.uniform g.base)
+  one_kind (Length a) (NotFixed b) h g = absurd (outside_not rules IsBase a g.k h g.uniform g.base)
+  one_kind (NotClosed a) (NotUniform b) h g = absurd (not_uniform rules b h.k g.holds h.uniform)
+  one_kind (NotClosed a) (Length b) h g = absurd (outside_not rules IsBase b h.k g h.uniform h.base)
   one_kind (NotClosed a) (NotClosed b) h g = ap NotClosed (one_least (IsLacking rules) a b h.lacking g.lacking)
   one_kind (NotClosed a) (NotFixed b) h g = absurd (not_closed a h.lacking.holds g.closed)
-  one_kind (NotFixed a) (NotUniform b) h g = absurd (not_uniform b h.k g.holds h.uniform)
-  one_kind (NotFixed a) (Length b) h g = absurd (outside_not b h.k g h.uniform h.base)
+  one_kind (NotFixed a) (NotUniform b) h g = absurd (not_uniform rules b h.k g.holds h.uniform)
+  one_kind (NotFixed a) (Length b) h g = absurd (outside_not rules IsBase b h.k g h.uniform h.base)
   one_kind (NotFixed a) (NotClosed b) h g = absurd (not_closed b g.lacking.holds h.closed)
   one_kind (NotFixed a) (NotFixed b) h g = ap NotFixed (h.zero_is ∙ sym g.zero_is)
+
+-- a morphism that is refused for the length of its images is refused
+pub length_refused : (rules : Rules) (kind : MorphismKind) → IsLengthRefused IsBase rules kind → IsRefusedAs rules kind
+length_refused rules (NotUniform letter) h = h
+length_refused rules (Length letter) h = h
+length_refused rules (NotClosed letter) h = absurd h
+length_refused rules (NotFixed letter) h = absurd h
 
 pub one_kinds : MorphismsHaveOneKind
 one_kinds rules = record { one_base = one_base rules; one_kind = one_kind rules; apart = apart rules }
@@ -75,21 +75,6 @@ module _ (rules : Rules) (is : IsMorphism rules) where
 
   first_is : IsLeast (HasRule rules) first
   first_is = first_least rules is
-
-  -- the first letter that tells, or none
-  odd_or_not : (n : ℕ) → n ≤ length letters → ((letter : ℤ) × IsNotUniform rules letter) ⊎ ((i : ℕ) → i < n → length (image rules (get_or letters i (pos 0))) ≡ m)
-  odd_or_not zero within = inr (λ i less. absurd (omega (arith, less)))
-  odd_or_not (suc n) within = by (odd_or_not n (omega (arith, within))) (cases_eq (length (image rules (get_or letters n (pos 0)))) m)
-    where
-      by : ((letter : ℤ) × IsNotUniform rules letter) ⊎ ((i : ℕ) → i < n → length (image rules (get_or letters i (pos 0))) ≡ m) → (length (image rules (get_or letters n (pos 0))) ≡ m) ⊎ ¬ (length (image rules (get_or letters n (pos 0))) ≡ m)
-          → ((letter : ℤ) × IsNotUniform rules letter) ⊎ ((i : ℕ) → i < suc n → length (image rules (get_or letters i (pos 0))) ≡ m)
-      by (inl found) last = inl found
-      by (inr all) (inl same) = inr (λ i less. at i less (cases_lt i n))
-        where
-          at : (i : ℕ) → i < suc n → (i < n) ⊎ (n ≤ i) → length (image rules (get_or letters i (pos 0))) ≡ m
-          at i less (inl before) = all i before
-          at i less (inr past) = ap (λ j. length (image rules (get_or letters j (pos 0)))) (let here : i ≡ n = omega (arith, less, past) in here) ∙ same
-      by (inr all) (inr other) = inl (get_or letters n (pos 0), odd_least rules is letters refl first first_is m refl n (omega (arith, within)) all other)
 
   -- the least letter of a word that has no rule
   among : (word : List ℤ) (n : ℕ) → n ≤ length word → (found : Option ℤ) × IsLeastOf (LacksAmong rules word n) found
@@ -140,7 +125,7 @@ module _ (rules : Rules) (is : IsMorphism rules) where
   Found = ((k : ℕ) × HasFixedPoint rules k) ⊎ ((kind : MorphismKind) × IsRefusedAs rules kind)
 
   pub found : Found
-  found = by_length (odd_or_not (length letters) (omega arith))
+  found = by_length (uniform_or_odd rules is)
     where
       by_begin : IsBase m → AreUniform rules m → AreClosed rules → BeginsItself rules ⊎ ¬ BeginsItself rules → Found
       by_begin base uniform closed (inl begins) = inl (m, record { base = base; uniform = uniform; closed = closed; begins = begins })
@@ -156,9 +141,9 @@ module _ (rules : Rules) (is : IsMorphism rules) where
           let lacking = below (length letters) (omega arith) in
           by_lacking base uniform lacking.0 (lacking_all rules letters (length letters) lacking.0 refl (omega arith) lacking.1)
 
-      by_length : ((letter : ℤ) × IsNotUniform rules letter) ⊎ ((i : ℕ) → i < length letters → length (image rules (get_or letters i (pos 0))) ≡ m) → Found
+      by_length : ((letter : ℤ) × IsNotUniform rules letter) ⊎ AreUniform rules m → Found
       by_length (inl odd) = inr (NotUniform odd.0, odd.1)
-      by_length (inr all) = by_base (uniform_all rules is letters refl first first_is m refl (length letters) (omega arith) all) (base_or_not m)
+      by_length (inr uniform) = by_base uniform (base_or_not m)
 
 pub promoted_or_refused : MorphismsArePromotedOrRefused
 promoted_or_refused rules is = found rules is

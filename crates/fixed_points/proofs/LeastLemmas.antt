@@ -8,10 +8,11 @@ use Rattle.std.proofs.lemmas.Bool.{cases_lt, false≢true}
 use Rattle.std.proofs.lemmas.Int.{ints}
 use Rattle.std.proofs.lemmas.List.{get_or_default}
 use Rattle.morph_words.specs.Rules.{IsMorphism, Rules, has, image_of}
-use Rattle.fixed_points.specs.FixedPoint.{image}
-use Rattle.fixed_points.specs.LeastLetters.{IsLeastOf, LacksAmong, LacksBelow, lesser}
-use Rattle.fixed_points.specs.MorphismKinds.{AreClosed, AreUniform, HasRule, IsLacking, IsLeast, IsOdd}
-use Rattle.fixed_points.proofs.RuleLemmas.{in_order, one_least, place_of_ruled, ruled_at}
+use Rattle.fixed_points.specs.LeastLetters.{LacksAmong, LacksBelow, lesser}
+use Rattle.morph_words.specs.MorphismKinds.{AreClosed, IsLacking}
+use Rattle.morph_words.proofs.RuleLemmas.{in_order, one_least, place_of_ruled, ruled_at}
+use Rattle.morph_words.specs.Images.{image}
+use Rattle.morph_words.specs.Uniform.{AreUniform, HasRule, IsLeast, IsLeastOf, IsOdd}
 
 -- the lesser of the least of two kinds of letters is the least of both
 pub lesser_least : (P Q R : ℤ → Type 0) (one other : Option ℤ) → ((a : ℤ) → P a → R a) → ((a : ℤ) → Q a → R a) → ((a : ℤ) → R a → P a ⊎ Q a) → IsLeastOf P one → IsLeastOf Q other → IsLeastOf R (lesser one other)
@@ -147,42 +148,6 @@ module _ (rules : Rules) where
       by : (b : Bool) → has rules letter ≡ b → HasRule rules letter
       by true is = is
       by false is = absurd (none letter (record { from = from; has_rule = ruled; within = at; lacks = λ there. false≢true (sym is ∙ there) }))
-
-module _ (rules : Rules) (is : IsMorphism rules) (letters : List ℤ) (are : letters ≡ keys_of rules) (least : ℤ) (first : IsLeast (HasRule rules) least) (m : ℕ) (long : length (image rules least) ≡ m) where
-  -- the first letter whose image has another length is the least one
-  pub odd_least : (n : ℕ) → n < length letters → ((i : ℕ) → i < n → length (image rules (get_or letters i (pos 0))) ≡ m) → ¬ (length (image rules (get_or letters n (pos 0))) ≡ m) → IsLeast (IsOdd rules) (get_or letters n (pos 0))
-  odd_least n within before other = record {
-    holds = record {
-      has_rule = subst (λ xs. HasRule rules (get_or xs n (pos 0))) (sym are) (ruled_at rules n (subst (λ xs. n < length xs) are within));
-      first = least;
-      first_is = first;
-      other = λ same. other (same ∙ long);
-    };
-    least = λ letter odd. from letter odd (place_of_ruled rules letter odd.has_rule);
-  }
-    where
-      from : (letter : ℤ) → IsOdd rules letter → (i : ℕ) × (i < length (keys_of rules)) × (get_or (keys_of rules) i (pos 0) ≡ letter) → get_or letters n (pos 0) ≤ℤ letter
-      from letter odd place = by (cases_lt place.0 n)
-        where
-          at : get_or letters place.0 (pos 0) ≡ letter
-          at = ap (λ (xs : List ℤ). get_or xs place.0 (pos 0)) are ∙ place.2
-
-          by : (place.0 < n) ⊎ (n ≤ place.0) → get_or letters n (pos 0) ≤ℤ letter
-          by (inl less) =
-              let here : length (image rules letter) ≡ m = sym (ap (λ b. length (image rules b)) at) ∙ before place.0 less in
-              let one : odd.first ≡ least = one_least (HasRule rules) odd.first least odd.first_is first in
-              absurd (odd.other (here ∙ sym long ∙ sym (ap (λ b. length (image rules b)) one)))
-          by (inr more) =
-              subst (λ b. get_or letters n (pos 0) ≤ℤ b) place.2
-              (subst (λ xs. get_or xs n (pos 0) ≤ℤ get_or (keys_of rules) place.0 (pos 0)) (sym are) (in_order (keys_of rules) n place.0 is.ascending more place.1))
-
-  -- where no letter tells, all images have one length
-  pub uniform_all : (n : ℕ) → length letters ≤ n → ((i : ℕ) → i < n → length (image rules (get_or letters i (pos 0))) ≡ m) → AreUniform rules m
-  uniform_all n whole all letter ruled =
-      let place = place_of_ruled rules letter ruled in
-      let inside : place.0 < length letters = subst (λ (xs : List ℤ). place.0 < length xs) (sym are) place.1 in
-      let at : get_or letters place.0 (pos 0) ≡ letter = ap (λ (xs : List ℤ). get_or xs place.0 (pos 0)) are ∙ place.2 in
-      sym (ap (λ (b : ℤ). length (image rules b)) at) ∙ all place.0 (omega (arith, inside, whole))
 
 -- an image that is found says that the letter has a rule
 copied_there : {X : Type 0} (o : Option (Bor X)) → is_some (option_copied o) ≡ is_some o

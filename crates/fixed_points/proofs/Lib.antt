@@ -1,6 +1,5 @@
 pub mod ListLemmas
 pub mod PowerLemmas
-pub mod RuleLemmas
 pub mod LeastLemmas
 pub mod ReachedLemmas
 pub mod OccurrenceLemmas

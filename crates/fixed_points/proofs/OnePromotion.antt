@@ -17,7 +17,7 @@ use Rattle.word_output.proofs.LetterEquality.{letter_functions}
 use Rattle.word_output.proofs.OptionLemmas.{some_value}
 use Rattle.morph_words.specs.Rules.{Rules}
 use Rattle.fixed_points.specs.Laws.{PromotionsHaveOneOutcome}
-use Rattle.fixed_points.specs.MorphismKinds.{HasFixedPoint}
+use Rattle.morph_words.specs.MorphismKinds.{HasFixedPoint}
 use Rattle.fixed_points.specs.Promotion.{IsFixedWord, IsPromoteRefused, IsPromoteStep}
 use Rattle.fixed_points.specs.declared.promote_fault.PromoteFault.{PromoteFault}
 use Rattle.fixed_points.specs.declared.promote_fault.PromoteFault.TheVariants.{Morphism, Step}

@@ -11,10 +11,12 @@ use Rattle.digit_tuple.specs.Letters.{IsWord}
 use Rattle.base_k.specs.Positional.{value}
 use Rattle.morph_words.specs.Rules.{Rules}
 use Rattle.morph_words.proofs.ListSteps.{all_append}
-use Rattle.fixed_points.specs.FixedPoint.{IsLetterAt, applied, image, power}
+use Rattle.morph_words.specs.Images.{applied, image}
+use Rattle.morph_words.specs.Uniform.{HasRule}
+use Rattle.morph_words.specs.FixedPoint.{IsLetterAt, power}
 use Rattle.fixed_points.specs.LetterGraph.{letter_by, reached}
 use Rattle.fixed_points.specs.LetterGraphLaws.{digit_ruled, zero_ruled}
-use Rattle.fixed_points.specs.MorphismKinds.{BeginsItself, HasFixedPoint, HasRule}
+use Rattle.morph_words.specs.MorphismKinds.{BeginsItself, HasFixedPoint}
 use Rattle.fixed_points.proofs.ListLemmas.{AllByRecursion-each, slice_get-append_left, slice_get-append_right, slice_get-stays}
 
 -- a place is in one word alone

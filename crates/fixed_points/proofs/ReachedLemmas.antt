@@ -14,10 +14,11 @@ use Rattle.numeration.proofs.RankLemmas.{rank-find}
 use Rattle.base_k.specs.Positional.{RankIsPositional, are_digits, value}
 use Rattle.base_k.specs.BaseLaws.{base_is_system, digits_over}
 use Rattle.morph_words.specs.Rules.{Rules}
-use Rattle.fixed_points.specs.FixedPoint.{IsLetterAt}
+use Rattle.morph_words.specs.Uniform.{HasRule}
+use Rattle.morph_words.specs.FixedPoint.{IsLetterAt}
 use Rattle.fixed_points.specs.LetterGraph.{IsLetterGraph, IsLetterKey, key_after, key_of, letter_by, letter_of, reached}
 use Rattle.fixed_points.specs.LetterGraphLaws.{digit_ruled, zero_ruled}
-use Rattle.fixed_points.specs.MorphismKinds.{HasFixedPoint, HasRule}
+use Rattle.morph_words.specs.MorphismKinds.{HasFixedPoint}
 use Rattle.fixed_points.specs.Occurrences.{Occurs, SoManyOccur, SomeOccur}
 use Rattle.fixed_points.proofs.PowerLemmas.{letter_of_word, one_letter, reached_ruled}
 

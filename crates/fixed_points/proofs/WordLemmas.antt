@@ -22,9 +22,9 @@ use Rattle.word_output.specs.Words.{HasLetter, SpellsPlace, WordValue}
 use Rattle.word_output.proofs.LsdLetterLemmas.{letter_led-explored}
 use Rattle.word_output.proofs.OptionLemmas.{some_there}
 use Rattle.morph_words.specs.Rules.{Rules}
-use Rattle.fixed_points.specs.FixedPoint.{IsLetterAt}
+use Rattle.morph_words.specs.FixedPoint.{IsLetterAt}
 use Rattle.fixed_points.specs.LetterGraph.{IsLetterGraph, key_after, key_of, letter_of, letters_at, reached}
-use Rattle.fixed_points.specs.MorphismKinds.{HasFixedPoint}
+use Rattle.morph_words.specs.MorphismKinds.{HasFixedPoint}
 use Rattle.fixed_points.specs.Promotion.{IsFixedWord}
 use Rattle.fixed_points.proofs.PowerLemmas.{letter_of_word}
 use Rattle.fixed_points.proofs.ReachedLemmas.{reached_at, ruled, run_is, word_of_place}

@@ -5,11 +5,12 @@ use Rattle.digit_tuple.specs.Steps.{StepLog}
 use Rattle.digit_tuple.specs.declared.step_fault.StepFault.TheVariants.{Memory}
 use Rattle.morph_words.specs.Rules.{Rules, IsMorphism}
 use Rattle.word_output.specs.Words.{WordValue}
-use Rattle.fixed_points.specs.FixedPoint.{IsLetterAt, image}
-use Rattle.fixed_points.specs.MorphismKinds.{HasFixedPoint, IsRefusedAs}
+use Rattle.morph_words.specs.FixedPoint.{IsLetterAt}
+use Rattle.morph_words.specs.MorphismKinds.{HasFixedPoint, IsRefusedAs}
 use Rattle.fixed_points.specs.Occurrences.{SomeOccur, SoManyOccur}
 use Rattle.fixed_points.specs.Promotion.{IsPromoteRefused, IsPromoteStep}
-use Rattle.fixed_points.specs.declared.morphism_kind.MorphismKind.{MorphismKind}
+use Rattle.morph_words.specs.declared.morphism_kind.MorphismKind.{MorphismKind}
+use Rattle.morph_words.specs.Images.{image}
 use Rattle.fixed_points.specs.declared.promote_fault.PromoteFault.{PromoteFault}
 use Rattle.fixed_points.specs.declared.promote_fault.PromoteFault.TheVariants.{Step}
 

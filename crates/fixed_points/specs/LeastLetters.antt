@@ -1,14 +1,9 @@
--- The least of some letters, if there is one. Nobody has to believe this: it serves the code that finds the kind of refusal.
+-- The letters that lack rules. Nobody has to believe this: it serves the code that finds the kind of refusal.
 use Rattle.std.specs.Prelude.{◌≡◌, ℕ, ◌<◌, ℤ, pos, List, length, Option, None, Some, slice_index_or, if◌then◌else◌, int_lt}
 use Rattle.std.specs.List.{Contains}
-use Rattle.std.specs.Option.{MatchOption}
 use Rattle.morph_words.specs.Rules.{Rules}
-use Rattle.fixed_points.specs.FixedPoint.{image}
-use Rattle.fixed_points.specs.MorphismKinds.{HasRule, IsLeast}
-
--- the least letter of which this holds; none where it holds of none
-abbrev pub IsLeastOf : (ℤ → Type 0) → Option ℤ → Type 0
-IsLeastOf Holds found = MatchOption found ((letter : ℤ) → ¬ Holds letter) (IsLeast Holds)
+use Rattle.morph_words.specs.Images.{image}
+use Rattle.morph_words.specs.Uniform.{HasRule, IsLeast}
 
 -- the letter is one of the first so many of a word, and has no rule
 pub record LacksAmong (rules : Rules) (word : List ℤ) (count : ℕ) (letter : ℤ) : Type 0 where

@@ -2,8 +2,9 @@
 use Rattle.std.specs.Prelude.{◌≡◌, ℕ, Bool, true, ℤ, pos, List, [], ◌∷◌, Option, Some, map, slice_index, slice_index_or}
 use Rattle.std.specs.Int.{cast_signed, cast_unsigned, w32}
 use Rattle.morph_words.specs.Rules.{Rules}
-use Rattle.fixed_points.specs.FixedPoint.{image}
-use Rattle.fixed_points.specs.MorphismKinds.{HasFixedPoint, HasRule}
+use Rattle.morph_words.specs.Images.{image}
+use Rattle.morph_words.specs.Uniform.{HasRule}
+use Rattle.morph_words.specs.MorphismKinds.{HasFixedPoint}
 
 -- the letter to which a digit leads: the one at its place of the image
 abbrev pub letter_by : Rules → ℤ → ℕ → ℤ

@@ -4,9 +4,10 @@ use Rattle.std.proofs.Common.{length, refl, sym, ap, ◌∙◌, subst, arith}
 use Rattle.std.specs.Prelude.{is_some}
 use Rattle.std.proofs.lemmas.List.{get_or_default}
 use Rattle.morph_words.specs.Rules.{Rules}
-use Rattle.fixed_points.specs.FixedPoint.{image}
+use Rattle.morph_words.specs.Images.{image}
+use Rattle.morph_words.specs.Uniform.{HasRule}
 use Rattle.fixed_points.specs.LetterGraph.{IsLetterGraph, IsLetterKey, key_after, key_of, letter_by, letter_of}
-use Rattle.fixed_points.specs.MorphismKinds.{HasFixedPoint, HasRule}
+use Rattle.morph_words.specs.MorphismKinds.{HasFixedPoint}
 
 pub zero_ruled : (rules : Rules) (k : ℕ) → HasFixedPoint rules k → HasRule rules (pos 0)
 zero_ruled rules k has = ap is_some has.begins.1

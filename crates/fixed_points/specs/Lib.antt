@@ -1,5 +1,3 @@
-pub mod FixedPoint
-pub mod MorphismKinds
 pub mod LetterGraph
 pub mod Occurrences
 pub mod LeastLetters

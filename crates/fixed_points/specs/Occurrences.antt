@@ -2,7 +2,7 @@
 use Rattle.std.specs.Prelude.{◌≡◌, ◌≢◌, ℕ, ℤ, List, length}
 use Rattle.std.specs.List.{All, AllPairs, Contains}
 use Rattle.morph_words.specs.Rules.{Rules}
-use Rattle.fixed_points.specs.FixedPoint.{IsLetterAt}
+use Rattle.morph_words.specs.FixedPoint.{IsLetterAt}
 
 -- the letter stands at some place
 abbrev pub Occurs : Rules → ℤ → Type 0

@@ -10,8 +10,8 @@ use Rattle.base_k.specs.Positional.{base}
 use Rattle.num_system.specs.Tracks.{systems_of, way_of}
 use Rattle.word_output.specs.Words.{HasLetter, IsWordValue, WordValue}
 use Rattle.morph_words.specs.Rules.{Rules}
-use Rattle.fixed_points.specs.FixedPoint.{IsLetterAt}
-use Rattle.fixed_points.specs.MorphismKinds.{HasFixedPoint, IsRefusedAs}
+use Rattle.morph_words.specs.FixedPoint.{IsLetterAt}
+use Rattle.morph_words.specs.MorphismKinds.{HasFixedPoint, IsRefusedAs}
 use Rattle.fixed_points.specs.Occurrences.{SomeOccur, SoManyOccur}
 use Rattle.fixed_points.specs.declared.promote_fault.PromoteFault.{PromoteFault}
 use Rattle.fixed_points.specs.declared.promote_fault.PromoteFault.TheVariants.{Morphism, Step}

@@ -3,12 +3,12 @@
 ghost use Rattle.std.specs.Prelude.{◌≡◌, ◌↔◌, ◌<◌, ◌≤ℤ◌, length, IfOk, IfErr, IsTrue};
 ghost use Rattle.std.specs.Map.{keys_of};
 ghost use Rattle.morph_words.specs.Rules.{IsMorphism};
-ghost use Rattle.fixed_points.specs.FixedPoint.{image};
-ghost use Rattle.fixed_points.specs.LeastLetters.{IsLeastOf, LacksAmong, lesser};
-ghost use Rattle.fixed_points.specs.MorphismKinds.{AreUniform, BeginsItself, HasFixedPoint, HasRule, IsBase, IsLacking, IsLeast, IsRefusedAs};
+ghost use Rattle.morph_words.specs.Images.{image};
+ghost use Rattle.morph_words.specs.Uniform.{AreUniform, HasRule, IsLeast, IsLeastOf};
+ghost use Rattle.fixed_points.specs.LeastLetters.{LacksAmong, lesser};
+ghost use Rattle.morph_words.specs.MorphismKinds.{BeginsItself, HasFixedPoint, IsBase, IsLacking, IsRefusedAs};
 
-use crate::morphism_kind::MorphismKind;
-use morph_words::Morphism;
+use morph_words::{Morphism, MorphismKind, uniform_length};
 
 /// The least length of images.
 const LEAST_LENGTH: usize = 2;
@@ -24,54 +24,14 @@ pub(crate) fn fixed_base(morphism: &Morphism, letters: &[i32]) -> Result<u32, Mo
     ensures base { IfOk result (λ k. HasFixedPoint morphism.now k) }
     ensures kind { IfErr result (λ kind. IsRefusedAs morphism.now kind) }
 {
-    let base = uniform_length(morphism, letters)?;
+    let base = uniform_length(morphism, LEAST_LENGTH, GREATEST_LENGTH)?;
     if let Some(letter) = least_lacking(morphism, letters) {
         return Err(MorphismKind::NotClosed(letter));
     }
     if !begins_itself(morphism) {
         return Err(MorphismKind::NotFixed(0));
     }
-    Ok(base)
-}
-
-// The length of all images.
-fn uniform_length(morphism: &Morphism, letters: &[i32]) -> Result<u32, MorphismKind>
-    requires { letters.now ≡ keys_of morphism.now }
-    ensures uniform { IfOk result (λ k. AreUniform morphism.now k) }
-    ensures base { IfOk result (λ k. IsBase k) }
-    ensures kind { IfErr result (λ kind. IsRefusedAs morphism.now kind) }
-{
-    let least = least_letter(morphism, letters);
-    let length = image_length(morphism, least);
-    for letter in letters {
-        if image_length(morphism, *letter) != length {
-            return Err(MorphismKind::NotUniform(*letter));
-        }
-    }
-    if length < LEAST_LENGTH || GREATEST_LENGTH < length {
-        return Err(MorphismKind::Length(least));
-    }
-    Ok(length as u32)
-}
-
-// The least letter that has an image.
-fn least_letter(morphism: &Morphism, letters: &[i32]) -> i32
-    requires { letters.now ≡ keys_of morphism.now }
-    ensures least { IsLeast (HasRule morphism.now) result }
-    ensures morphism { IsMorphism morphism.now }
-{
-    let _image = morphism.image(0);
-    letters[0]
-}
-
-// How long the image of a letter is; 0 where it has none.
-fn image_length(morphism: &Morphism, letter: i32) -> usize
-    ensures { result ≡ length (image morphism.now letter) }
-{
-    match morphism.image(letter) {
-        Some(image) => image.letters().len(),
-        None => 0,
-    }
+    Ok(base as u32)
 }
 
 // The least letter that stands in an image and has none.

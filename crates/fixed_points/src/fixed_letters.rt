@@ -7,7 +7,7 @@ ghost use Rattle.digit_tuple.specs.Deterministic.{states_of};
 ghost use Rattle.digit_tuple.specs.Letters.{IsWord};
 ghost use Rattle.word_output.specs.LetterFunctions.{IsLetterFunction, letter_after};
 ghost use Rattle.fixed_points.specs.LetterGraph.{letters_at, reached};
-ghost use Rattle.fixed_points.specs.MorphismKinds.{HasFixedPoint};
+ghost use Rattle.morph_words.specs.MorphismKinds.{HasFixedPoint};
 ghost use Rattle.fixed_points.specs.Occurrences.{SoManyOccur, SomeOccur};
 
 use crate::letter_graph::{LetterGraph, letter_of};

@@ -5,9 +5,6 @@
 //! digits of the place lead from 0 (Cobham; Allouche and Shallit, "Automatic Sequences").
 #![tactic(auto)]
 
-/// Kinds of refusal of morphisms.
-pub mod morphism_kind;
-
 /// Why a morphism gives no word.
 pub mod promote_fault;
 

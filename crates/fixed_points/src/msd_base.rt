@@ -7,7 +7,7 @@ ghost use Rattle.digit_tuple.specs.declared.direction.Direction.TheVariants.{Msd
 ghost use Rattle.base_k.specs.Positional.{base};
 ghost use Rattle.num_system.specs.Sealed.{IsSealed};
 ghost use Rattle.num_system.specs.Tracks.{systems_of, way_of};
-ghost use Rattle.fixed_points.specs.MorphismKinds.{IsBase};
+ghost use Rattle.morph_words.specs.MorphismKinds.{IsBase};
 
 use base_k::base_k::BaseK;
 use digit_tuple::direction::Direction;

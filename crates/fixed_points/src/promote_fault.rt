@@ -4,9 +4,9 @@ ghost use Rattle.std.specs.Prelude.{◌≡◌};
 ghost use Rattle.digit_tuple.specs.declared.step_fault.StepFault.TheVariants.{Memory};
 ghost use Rattle.fixed_points.specs.declared.promote_fault.PromoteFault.TheVariants.{Morphism, Step};
 
-use crate::morphism_kind::MorphismKind;
 use digit_tuple::faults::OutOfMemory;
 use digit_tuple::step_fault::StepFault;
+use morph_words::MorphismKind;
 
 /// Why a morphism gives no word.
 #[derive(Clone, Copy, Debug, PartialEq, Eq)]

@@ -15,3 +15,7 @@ pub mod PrintedRules
 pub mod ReadingSteps
 pub mod StageSteps
 pub mod PrintSteps
+pub mod RuleLemmas
+pub mod FirstOtherLemmas
+pub mod UniformLemmas
+pub mod AppliedLemmas

@@ -6,4 +6,11 @@ pub mod Faults
 pub mod Printed
 pub mod Stages
 pub mod Readings
+pub mod Images
+pub mod Uniform
+pub mod FirstOther
+pub mod UniformLaws
+pub mod ImageLetters
+pub mod FixedPoint
+pub mod MorphismKinds
 pub mod Laws

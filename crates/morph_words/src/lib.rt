@@ -1,5 +1,5 @@
 //! Morphisms: a word for each of some letters. Here are their rules as text, read with the first fault, and printed by
-//! ascending letter.
+//! ascending letter; and the length of their images, where all have one.
 //!
 //! A text is read lexeme by lexeme, in time linear in its length but for a look-up and an insertion a rule.
 #![tactic(auto)]
@@ -20,9 +20,15 @@ mod stage;
 mod printing;
 // morphisms, from rules and as rules
 mod morphism;
+// kinds of refusal of morphisms
+mod morphism_kind;
+// the length of all images
+mod uniform;
 // laws of rules
 pub mod laws;
 
 pub use fault::RulesFault;
 pub use image::Image;
 pub use morphism::Morphism;
+pub use morphism_kind::MorphismKind;
+pub use uniform::{image_kind, image_length, uniform_length};

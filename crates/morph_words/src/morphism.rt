@@ -8,6 +8,7 @@ ghost use Rattle.morph_words.specs.Faults.{Parses};
 ghost use Rattle.morph_words.specs.Printed.{printed};
 ghost use Rattle.morph_words.specs.Readings.{Reads};
 ghost use Rattle.morph_words.specs.Stages.{rules_at};
+ghost use Rattle.morph_words.specs.Uniform.{HasOther, HasRule, IsLeast, IsLeastOf};
 
 use crate::fault::RulesFault;
 use crate::image::Image;
@@ -92,6 +93,27 @@ impl Morphism {
         ensures morphism { IsMorphism self.now }
     {
         self.rules.get(&letter)
+    }
+
+    /// The least letter that has an image.
+    pub(crate) fn least_letter(&self) -> i32
+        ensures least { IsLeast (HasRule self.now) result }
+        ensures morphism { IsMorphism self.now }
+    {
+        *self.rules.keys().next().unwrap()
+    }
+
+    /// The least letter whose image has another length than this, if there is one.
+    pub(crate) fn first_of_other_length(&self, length: usize) -> Option<i32>
+        ensures other { IsLeastOf (HasOther self.now length) result }
+        ensures morphism { IsMorphism self.now }
+    {
+        for (letter, image) in self.rules.iter() {
+            if image.letters().len() != length {
+                return Some(*letter);
+            }
+        }
+        None
     }
 }
 

@@ -19,7 +19,8 @@ use Rattle.definitions.specs.Trees.{Variable, Ledger, custom_of}
 use Rattle.dfa_loading.specs.declared.loaded.Loaded.{Loaded}
 use Rattle.session_cli.specs.Accepting.{Success}
 use Rattle.session_cli.specs.HeadAnswers.{HeadAnswers}
-use Rattle.session_cli.specs.FormulaOutcomes.{FormulaAnswers, LoadedAnswers, loaded, mentioned_systems, ResolvedAnswers, BuiltAnswers, VariablesAnswers, bindings_now, after_variables, after_steps, after_resolution, after_systems, after_tables, after_formula, after_named_head, formula_checks}
+use Rattle.session_cli.specs.FormulaOutcomes.{FormulaAnswers, loaded, mentioned_systems, ResolvedAnswers, BuiltAnswers, VariablesAnswers, bindings_now, after_variables, after_steps, after_resolution, after_systems, after_tables, after_formula, after_text, after_named_head, formula_checks}
+use Rattle.session_cli.specs.MacroChecks.{ExpandedAnswers, expanded}
 use Rattle.session_cli.specs.SystemChecks.{SystemsAnswers, systems_known}
 use Rattle.session_cli.specs.Plans.{Makes, Plans}
 use Rattle.session_cli.proofs.CheckSteps.{fails_first, fails_after, makes_after, plans_after}
@@ -37,7 +38,7 @@ record IsAt (folder : Folder) (head : NamedHead) (success : Success) : Type 0 wh
   name_is : head.name ≡ success.name
 
 stands_at : (limit : ℕ) (ledger : Ledger) (folder : Folder) (head : NamedHead) (success : Success) → (after_named_head limit ledger folder head).answers (Ok success) → IsAt folder head success
-stands_at limit ledger folder head success (formula, reads, (tables, files, (admitted, systems, (done, resolves, (lines, builds, (variables, are, (verdict, says, (is, text)))))))) = record {
+stands_at limit ledger folder head success (expansion, expands, (formula, reads, (tables, files, (admitted, systems, (done, resolves, (lines, builds, (variables, are, (verdict, says, (is, text))))))))) = record {
   folder_is = sym (ap (λ (s : Success). s.folder) is);
   name_is = sym (ap (λ (s : Success). s.name) is);
 }
@@ -53,20 +54,29 @@ pub named_failed : (word : List ℕ) (folder : Folder) (limit : ℕ) (ledger : L
     → Fails (after_named_head limit ledger folder head) fault → Plans (custom_of ledger) (formula_checks word folder limit ledger text) shown (Err fault)
 named_failed word folder limit ledger text shown head fault spells refused = plans_after (custom_of ledger) (Pure (HeadAnswers (SpellsNamed word) text)) (λ h. after_named_head limit ledger folder h) head shown (Err fault) spells refused
 
+-- a call of a macro is not expanded
+pub head_unexpanded : (limit : ℕ) (ledger : Ledger) (folder : Folder) (head : NamedHead) (fault : Fault) → Fails (expanded ledger head.body) fault → Fails (after_named_head limit ledger folder head) fault
+head_unexpanded limit ledger folder head fault refused = fails_first (expanded ledger head.body) (λ text. after_text limit ledger (folder, head.name) text) fault refused
+
+-- what is made of the expanded text
+pub head_expanded : (limit : ℕ) (ledger : Ledger) (folder : Folder) (head : NamedHead) (text : List ℕ) (shown : Bool) (result : Result Made Fault) → ExpandedAnswers ledger head.body (Ok text) → Makes (custom_of ledger) (after_text limit ledger (folder, head.name) text) shown result
+    → Makes (custom_of ledger) (after_named_head limit ledger folder head) shown result
+head_expanded limit ledger folder head text shown result there makes = makes_after (custom_of ledger) (expanded ledger head.body) (λ t. after_text limit ledger (folder, head.name) t) text shown result there makes
+
 -- the formula breaks its grammar
-pub head_unparsed : (limit : ℕ) (ledger : Ledger) (folder : Folder) (head : NamedHead) (fault : Fault) → Fails (Pure (FormulaAnswers head.body)) fault → Fails (after_named_head limit ledger folder head) fault
-head_unparsed limit ledger folder head fault refused = fails_first (Pure (FormulaAnswers head.body)) (λ f. after_formula limit ledger (folder, head.name) f) fault refused
+pub text_unparsed : (limit : ℕ) (ledger : Ledger) (place : Place) (text : List ℕ) (fault : Fault) → Fails (Pure (FormulaAnswers text)) fault → Fails (after_text limit ledger place text) fault
+text_unparsed limit ledger place text fault refused = fails_first (Pure (FormulaAnswers text)) (λ f. after_formula limit ledger place f) fault refused
 
 -- what is made of a formula that was read
-pub head_parsed : (limit : ℕ) (ledger : Ledger) (folder : Folder) (head : NamedHead) (formula : trees.Formula) (shown : Bool) (result : Result Made Fault) → FormulaAnswers head.body (Ok formula) → Makes (custom_of ledger) (after_formula limit ledger (folder, head.name) formula) shown result → Makes (custom_of ledger) (after_named_head limit ledger folder head) shown result
-head_parsed limit ledger folder head formula shown result reads makes = makes_after (custom_of ledger) (Pure (FormulaAnswers head.body)) (λ f. after_formula limit ledger (folder, head.name) f) formula shown result reads makes
+pub text_parsed : (limit : ℕ) (ledger : Ledger) (place : Place) (text : List ℕ) (formula : trees.Formula) (shown : Bool) (result : Result Made Fault) → FormulaAnswers text (Ok formula) → Makes (custom_of ledger) (after_formula limit ledger place formula) shown result → Makes (custom_of ledger) (after_text limit ledger place text) shown result
+text_parsed limit ledger place text formula shown result reads makes = makes_after (custom_of ledger) (Pure (FormulaAnswers text)) (λ f. after_formula limit ledger place f) formula shown result reads makes
 
 -- its files are not loaded
 pub formula_unloaded : (limit : ℕ) (ledger : Ledger) (place : Place) (formula : trees.Formula) (fault : Fault) → Fails (loaded ledger formula) fault → Fails (after_formula limit ledger place formula) fault
 formula_unloaded limit ledger place formula fault refused = fails_first (loaded ledger formula) (λ tables. after_tables limit ledger place formula tables) fault refused
 
 -- what is made of it where they are
-pub formula_loaded : (limit : ℕ) (ledger : Ledger) (place : Place) (formula : trees.Formula) (tables : List Loaded) (shown : Bool) (result : Result Made Fault) → LoadedAnswers ledger formula (Ok tables) → Makes (custom_of ledger) (after_tables limit ledger place formula tables) shown result
+pub formula_loaded : (limit : ℕ) (ledger : Ledger) (place : Place) (formula : trees.Formula) (tables : List Loaded) (shown : Bool) (result : Result Made Fault) → (loaded ledger formula).answers (Ok tables) → Makes (custom_of ledger) (after_tables limit ledger place formula tables) shown result
     → Makes (custom_of ledger) (after_formula limit ledger place formula) shown result
 formula_loaded limit ledger place formula tables shown result there makes = makes_after (custom_of ledger) (loaded ledger formula) (λ ts. after_tables limit ledger place formula ts) tables shown result there makes
 

@@ -120,3 +120,9 @@ module _ (custom : Custom) (l : LibraryValue) (bindings : Bindings) (means : Mea
   text_refused place lines (faults.Plain of) refused = absurd refused
   text_refused place lines (faults.Store folder name) refused = absurd refused
   text_refused place lines faults.ScriptLimit refused = absurd refused
+  text_refused place lines (faults.MacroArgs of at given) refused = absurd refused
+  text_refused place lines (faults.MacroDepth of) refused = absurd refused
+  text_refused place lines faults.MacroLong refused = absurd refused
+  text_refused place lines (faults.Morphism kind) refused = absurd refused
+  text_refused place lines (faults.LetterMissing letter) refused = absurd refused
+  text_refused place lines (faults.CombineShape one two) refused = absurd refused

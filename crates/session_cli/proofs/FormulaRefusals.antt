@@ -8,9 +8,7 @@ use Rattle.formula_parse.specs.Trees as trees
 use Rattle.formula_parse.specs.declared.fault.ParseFault.{ParseFault}
 use Rattle.formula_parse.specs.declared.fault.ParseFault.TheVariants as parses
 use Rattle.formula_resolve.specs.Answers.{Tells}
-use Rattle.formula_resolve.specs.FirstMentions.{first_files}
 use Rattle.formula_resolve.specs.Headers.{Headers}
-use Rattle.formula_resolve.specs.Mentions.{mentions}
 use Rattle.formula_resolve.specs.Resolving.{fault_of}
 use Rattle.formula_resolve.specs.declared.fault.ResolveFault.{ResolveFault}
 use Rattle.formula_resolve.specs.declared.fault.ResolveFault.TheVariants as resolves
@@ -18,14 +16,10 @@ use Rattle.session_cli.specs.declared.fault.Fault.{Fault}
 use Rattle.session_cli.specs.declared.fault.Fault.TheVariants as faults
 use Rattle.session_cli.specs.Checks.{Pure, Fails}
 use Rattle.system_files.specs.SystemFiles.{Custom}
-use Rattle.definitions.specs.Trees.{Ledger}
-use Rattle.wal_outside.specs.Files.{Files}
 use Rattle.dfa_loading.specs.Headers.{headers_of}
 use Rattle.dfa_loading.specs.declared.loaded.Loaded.{Loaded}
-use Rattle.definitions.specs.Texts.{Stores}
 use Rattle.session_cli.specs.FormulaFaults.{fault_of_formula, fault_of_resolution, fault_of_reading}
-use Rattle.session_cli.specs.FormulaOutcomes.{FormulaAnswers, loaded, ResolvedAnswers, BuiltAnswers}
-use Rattle.session_cli.specs.FormulaPlans.{AreUnloaded}
+use Rattle.session_cli.specs.FormulaOutcomes.{FormulaAnswers, ResolvedAnswers, BuiltAnswers}
 use Rattle.session_cli.specs.FormulaSteps.{AreStepsRefused}
 use Rattle.session_cli.specs.declared.read_fault.ReadFault.{ReadFault}
 use Rattle.session_cli.specs.declared.read_fault.ReadFault.TheVariants.{Step, Gap}
@@ -40,30 +34,6 @@ unparsed_formula body (parses.Depth at) breaks = breaks
 unparsed_formula body (parses.MixedChain at) breaks = breaks
 unparsed_formula body (parses.NotLinear at) breaks = breaks
 unparsed_formula body parses.Memory breaks = tt
-
--- the files are not loaded
-pub unloaded : (ledger : Ledger) (files : Files) (formula : trees.Formula) (fault : Fault) → Stores ledger files → AreUnloaded files (first_files (mentions formula)) fault → Fails (loaded ledger formula) fault
-unloaded ledger files formula (faults.Unknown folder name) stores first = (files, stores, first)
-unloaded ledger files formula (faults.File folder name flaw) stores first = (files, stores, first)
-unloaded ledger files formula (faults.Store folder name) stores first = (files, stores, first)
-unloaded ledger files formula faults.Memory stores first = tt
-unloaded ledger files formula faults.Command stores first = absurd first
-unloaded ledger files formula (faults.Syntax grammar at) stores first = absurd first
-unloaded ledger files formula (faults.MixedChain at) stores first = absurd first
-unloaded ledger files formula (faults.Number grammar at) stores first = absurd first
-unloaded ledger files formula (faults.NotLinear at) stores first = absurd first
-unloaded ledger files formula (faults.Depth grammar at) stores first = absurd first
-unloaded ledger files formula (faults.Long bytes) stores first = absurd first
-unloaded ledger files formula (faults.Arity of tracks given) stores first = absurd first
-unloaded ledger files formula (faults.SystemUnknown name) stores first = absurd first
-unloaded ledger files formula (faults.NotAdmitted name law) stores first = absurd first
-unloaded ledger files formula (faults.Clash of one two) stores first = absurd first
-unloaded ledger files formula (faults.Direction one other) stores first = absurd first
-unloaded ledger files formula (faults.Letters step) stores first = absurd first
-unloaded ledger files formula (faults.States step) stores first = absurd first
-unloaded ledger files formula (faults.WordGap of spelling) stores first = absurd first
-unloaded ledger files formula (faults.Plain of) stores first = absurd first
-unloaded ledger files formula faults.ScriptLimit stores first = absurd first
 
 -- there is no resolution
 pub unresolved : (X : Type 0) (tables : List Loaded) (formula : trees.Formula) (headers : Headers) (fault : ResolveFault) → headers ≡ headers_of tables → Tells {X = X} (fault_of headers formula) (Err fault) → Fails (Pure (ResolvedAnswers tables formula)) (fault_of_resolution fault)

@@ -45,26 +45,30 @@ module _ {X : Type 0} (P : X → Type 0) where
       by true = all
       by false = all_more seen x all others.0
 
--- what holds of all names holds of one that is among them
-of_one : (P : Name → Type 0) (seen : List Name) (name : Name) → has bytes_eq seen name ≡ true → AllByRecursion P seen → P name
-of_one P [] name there all = absurd (cc)
-of_one P (first ∷ seen) name there all = by (bytes_eq first name) refl there (λ rest. of_one P seen name rest all.1)
-  where
-    by : (b : Bool) → bytes_eq first name ≡ b → (b || has bytes_eq seen name) ≡ true → (has bytes_eq seen name ≡ true → P name) → P name
-    by true same either among = subst P ((bytes_eq-Decides first name).0 same) all.0
-    by false apart rest among = among rest
+module _ {X : Type 0} (same : X → X → Bool) (tells : (x y : X) → same x y ≡ true → x ≡ y) (P : X → Type 0) where
+  -- what holds of all holds of one that is among them
+  of_one : (seen : List X) (x : X) → has same seen x ≡ true → AllByRecursion P seen → P x
+  of_one [] x there all = absurd (cc)
+  of_one (first ∷ seen) x there all = by (same first x) refl there (λ rest. of_one seen x rest all.1)
+    where
+      by : (b : Bool) → same first x ≡ b → (b || has same seen x) ≡ true → (has same seen x ≡ true → P x) → P x
+      by true is either among = subst P (tells first x is) all.0
+      by false apart rest among = among rest
 
--- what holds of some names, each once, holds of all
+  -- what holds of some, each once, holds of all
+  pub once_each : (seen more : List X) → AllByRecursion P (fold (with_new same) seen more) → AllByRecursion P seen × AllByRecursion P more
+  once_each seen [] all = (all, tt)
+  once_each seen (x ∷ more) all =
+      let rest = once_each (with_new same seen x) more all in
+      let first = by (has same seen x) refl rest.0 in
+      (first.0, (first.1, rest.1))
+    where
+      by : (b : Bool) → has same seen x ≡ b → AllByRecursion P (cond b seen (seen ++ x ∷ [])) → AllByRecursion P seen × P x
+      by true there own = (own, of_one seen x there own)
+      by false none own = let parts = all_parts P seen (x ∷ []) own in (parts.0, parts.1.0)
+
 pub all_once : (P : Name → Type 0) (seen more : List Name) → AllByRecursion P (fold (with_new bytes_eq) seen more) → AllByRecursion P seen × AllByRecursion P more
-all_once P seen [] all = (all, tt)
-all_once P seen (name ∷ more) all =
-    let rest = all_once P (with_new bytes_eq seen name) more all in
-    let first = by (has bytes_eq seen name) refl rest.0 in
-    (first.0, (first.1, rest.1))
-  where
-    by : (b : Bool) → has bytes_eq seen name ≡ b → AllByRecursion P (cond b seen (seen ++ name ∷ [])) → AllByRecursion P seen × P name
-    by true there own = (own, of_one P seen name there own)
-    by false none own = let parts = all_parts P seen (name ∷ []) own in (parts.0, parts.1.0)
+all_once P seen more all = once_each bytes_eq (λ m n. (bytes_eq-Decides m n).0) P seen more all
 
 -- it holds of the file that is mentioned
 abbrev pub OfMention : (File → Type 0) → Mention → Type 0
@@ -94,7 +98,7 @@ no_first None other h = (refl, h)
 no_first (Some x) other h = absurd (cc)
 
 -- the file is no automaton over sets
-abbrev IsNotPlain : Headers → File → Type 0
+abbrev pub IsNotPlain : Headers → File → Type 0
 IsNotPlain h (Automaton n) = is_plain h n ≡ false
 IsNotPlain h (Word n) = Unit {0}
 
@@ -128,13 +132,17 @@ all_not_over_sets : (h : Headers) (tables : List Loaded) → AllByRecursion IsLi
 all_not_over_sets h [] listed own plain = tt
 all_not_over_sets h (table ∷ tables) listed own plain = (not_over_sets h table listed.0 own.0 plain.0, all_not_over_sets h tables listed.1 own.1 plain.1)
 
--- no table of a formula without fault is over sets
-pub none_over_sets : FilesAreTables → (files : Files) (tables : List Loaded) (formula : trees.Formula) → IsOnce (first_files (mentions formula)) → AreListedBy files (first_files (mentions formula)) tables → fault_of (headers_of tables) formula ≡ None → AllByRecursion IsNotOverSets tables
-none_over_sets law files tables formula once are none =
+-- a formula without fault calls none that is over sets
+pub formula_not_plain : (h : Headers) (formula : trees.Formula) → fault_of h formula ≡ None → AllByRecursion (OfMention (IsNotPlain h)) (mentions formula)
+formula_not_plain h formula none =
+    calls_not_plain h (mentions formula) (no_first (first_misuse h (mentions formula)) (option_or (first_clash (all_occurrences h formula)) (option_map direction_fault (first_turn h formula))) none).0
+
+-- where none that is called is over sets, no table is
+pub none_over_sets : FilesAreTables → (files : Files) (tables : List Loaded) (ms : List Mention) → IsOnce (first_files ms) → AreListedBy files (first_files ms) tables → AllByRecursion (OfMention (IsNotPlain (headers_of tables))) ms → AllByRecursion IsNotOverSets tables
+none_over_sets law files tables ms once are called =
     let h : Headers = headers_of tables in
-    let named : List File = first_files (mentions formula) in
-    let used = no_first (first_misuse h (mentions formula)) (option_or (first_clash (all_occurrences h formula)) (option_map direction_fault (first_turn h formula))) none in
-    let plain = tables_all (IsNotPlain h) files named tables are (files_all (IsNotPlain h) (mentions formula) (calls_not_plain h (mentions formula) used.0)) in
+    let named : List File = first_files ms in
+    let plain = tables_all (IsNotPlain h) files named tables are (files_all (IsNotPlain h) ms called) in
     all_not_over_sets h tables (tables_listed law files named tables are) (headers_kept tables (files_apart files named tables once are)) plain
 
 -- what holds of all systems that are mentioned holds of those of each file

@@ -50,7 +50,7 @@ use Rattle.session_cli.proofs.TableHeaders.{systems_in, tables_one_way}
 use Rattle.session_cli.proofs.TableReads.{AreAlike}
 
 -- over systems that names mean, each table has tracks of one direction
-table_ways : (custom : Custom) (systems : List NamedSystem) (tables : List Loaded) → AreMeant custom systems → AllByRecursion table_headers.IsOneWay tables → AllByRecursion (readings.IsOneWay systems) tables
+pub table_ways : (custom : Custom) (systems : List NamedSystem) (tables : List Loaded) → AreMeant custom systems → AllByRecursion table_headers.IsOneWay tables → AllByRecursion (readings.IsOneWay systems) tables
 table_ways custom systems [] are ways = tt
 table_ways custom systems (table ∷ tables) are ways = (of_header table.listed.header ways.0, table_ways custom systems tables are ways.1)
   where
@@ -60,7 +60,7 @@ table_ways custom systems (table ∷ tables) are ways = (of_header table.listed.
     of_header (Sets sets) one tracks under = absurd under
 
 -- tables that were read were readable
-read_readable : (systems : List NamedSystem) (old new : StepLog) (tables : List Loaded) (reads : List TableRead) → AllByRecursion IsListedTable tables → AllByRecursion (readings.IsOneWay systems) tables → AreTablesRead systems old tables reads new → AreReadable systems tables
+pub read_readable : (systems : List NamedSystem) (old new : StepLog) (tables : List Loaded) (reads : List TableRead) → AllByRecursion IsListedTable tables → AllByRecursion (readings.IsOneWay systems) tables → AreTablesRead systems old tables reads new → AreReadable systems tables
 read_readable systems old new [] reads are ways made = tt
 read_readable systems old new (table ∷ tables) [] are ways made = absurd made
 read_readable systems old new (table ∷ tables) (r ∷ reads) are ways (mid, first, rest) = (one r first, read_readable systems mid new tables reads are.1 ways.1 rest)
@@ -84,19 +84,19 @@ record IsBuilding (admitted : StepLog) (custom : Custom) (tables : List Loaded) 
   told : result ≢ Err steps.Memory
   is : r ≡ of_steps result lines
 
-record IsStopped (admitted : StepLog) (custom : Custom) (tables : List Loaded) (r : Result (List StepLine) Fault) : Type 0 where
-  systems : List NamedSystem
-  sealed : AreSealed systems
-  meant : AreMeant custom systems
-  fault : ReadFault
-  stops : StopsReading systems admitted tables fault
-  is : r ≡ Err (fault_of_reading fault)
+pub record IsStopped (admitted : StepLog) (custom : Custom) (tables : List Loaded) (r : Result (List StepLine) Fault) : Type 0 where
+  pub systems : List NamedSystem
+  pub sealed : AreSealed systems
+  pub meant : AreMeant custom systems
+  pub fault : ReadFault
+  pub stops : StopsReading systems admitted tables fault
+  pub is : r ≡ Err (fault_of_reading fault)
 
 abbrev IsOutcome : StepLog → Custom → List Loaded → trees.Formula → Result (List StepLine) Fault → Type 0
 IsOutcome admitted custom tables formula r = IsBuilding admitted custom tables formula r ⊎ IsStopped admitted custom tables r
 
 -- reading is stopped by a step, or for want of a letter
-stopped_by : (admitted : StepLog) (custom : Custom) (tables : List Loaded) (fault : StepFault) → fault ≢ steps.Memory → IsReadingStopped admitted custom tables fault → IsStopped admitted custom tables (Err (fault_of fault))
+pub stopped_by : (admitted : StepLog) (custom : Custom) (tables : List Loaded) (fault : StepFault) → fault ≢ steps.Memory → IsReadingStopped admitted custom tables fault → IsStopped admitted custom tables (Err (fault_of fault))
 stopped_by admitted custom tables fault told a = record { systems = a.systems; sealed = a.sealed; meant = a.meant; fault = Step fault; stops = refusal_stops a.systems admitted tables fault told a.refused; is = refl }
 
 missing_by : (admitted : StepLog) (custom : Custom) (tables : List Loaded) (name : List ℕ) (spelling : List (List ℕ)) → IsLetterMissing admitted custom tables name spelling → IsStopped admitted custom tables (Err (faults.WordGap name spelling))
@@ -127,6 +127,12 @@ built_is admitted custom tables formula (Err (faults.Plain name)) a = absurd a
 built_is admitted custom tables formula (Err (faults.Store folder name)) a = absurd a
 built_is admitted custom tables formula (Err faults.Memory) a = absurd a
 built_is admitted custom tables formula (Err faults.ScriptLimit) a = absurd a
+built_is admitted custom tables formula (Err (faults.MacroArgs of at given)) a = absurd a
+built_is admitted custom tables formula (Err (faults.MacroDepth of)) a = absurd a
+built_is admitted custom tables formula (Err faults.MacroLong) a = absurd a
+built_is admitted custom tables formula (Err (faults.Morphism kind)) a = absurd a
+built_is admitted custom tables formula (Err (faults.LetterMissing letter)) a = absurd a
+built_is admitted custom tables formula (Err (faults.CombineShape one two)) a = absurd a
 
 module _ (admitted : StepLog) (custom : Custom) (tables : List Loaded) (formula : trees.Formula) (files : Files) (listed : AreListedBy files (first_files (mentions formula)) tables) where
   ways : (systems : List NamedSystem) → AreMeant custom systems → AllByRecursion (readings.IsOneWay systems) tables

@@ -18,18 +18,22 @@ use Rattle.definitions.specs.Trees.{Variable, Bindings, Ledger, custom_of}
 use Rattle.system_files.specs.SystemFiles.{Custom}
 use Rattle.definitions.specs.Named.{IsSystemNamed}
 use Rattle.session_cli.specs.FormulaFaults.{fault_of_resolution}
+use Rattle.session_cli.specs.MacroChecks.{expanded}
 use Rattle.session_cli.specs.HeadAnswers.{HeadAnswers}
 use Rattle.dfa_loading.specs.Headers.{headers_of}
 use Rattle.dfa_loading.specs.declared.loaded.Loaded.{Loaded}
+use Rattle.formula_resolve.specs.FirstMentions.{first_files}
+use Rattle.formula_resolve.specs.Mentions.{mentions}
 use Rattle.session_cli.specs.Accepting.{stored}
-use Rattle.session_cli.specs.FormulaOutcomes.{FormulaAnswers, loaded, mentioned_systems, IsVariable, AreVariables, ResolvedAnswers, BuiltAnswers, VariablesAnswers, VerdictAnswers, bindings_now, formula_success, after_variables, after_steps, after_resolution, after_systems, after_tables, after_formula, after_named_head, formula_checks}
+use Rattle.session_cli.specs.FormulaOutcomes.{FormulaAnswers, loaded, mentioned_systems, IsVariable, AreVariables, ResolvedAnswers, BuiltAnswers, VariablesAnswers, VerdictAnswers, bindings_now, formula_success, after_variables, after_steps, after_resolution, after_systems, after_tables, after_formula, after_text, after_named_head, formula_checks}
 use Rattle.session_cli.specs.SystemChecks.{systems_known}
 use Rattle.session_cli.proofs.CheckSteps.{IsSingle, then_single}
 use Rattle.definitions.proofs.NameLemmas.{one_meaning}
 use Rattle.definitions.proofs.OneTexts.{one_verdict}
-use Rattle.session_cli.proofs.OneLoadings.{loaded_single}
+use Rattle.session_cli.proofs.OneLoadings.{files_single}
 use Rattle.session_cli.proofs.OneBuildings.{built_single}
 use Rattle.session_cli.proofs.OneHeads.{head_single}
+use Rattle.session_cli.proofs.OneMacros.{expanded_single}
 use Rattle.session_cli.proofs.OneTexts.{stored_single}
 use Rattle.session_cli.proofs.OneReadings.{reading_single}
 use Rattle.session_cli.proofs.OneSystems.{systems_single}
@@ -83,6 +87,12 @@ resolved_is tables formula (Err (faults.States step)) a = absurd a
 resolved_is tables formula (Err (faults.Store folder name)) a = absurd a
 resolved_is tables formula (Err faults.Memory) a = absurd a
 resolved_is tables formula (Err faults.ScriptLimit) a = absurd a
+resolved_is tables formula (Err (faults.MacroArgs of at given)) a = absurd a
+resolved_is tables formula (Err (faults.MacroDepth of)) a = absurd a
+resolved_is tables formula (Err faults.MacroLong) a = absurd a
+resolved_is tables formula (Err (faults.Morphism kind)) a = absurd a
+resolved_is tables formula (Err (faults.LetterMissing letter)) a = absurd a
+resolved_is tables formula (Err (faults.CombineShape one two)) a = absurd a
 
 resolved_single : (tables : List Loaded) (formula : trees.Formula) → IsSingle (Pure (ResolvedAnswers tables formula))
 resolved_single tables formula r s a b = by_fault (resolved_is tables formula r a) (resolved_is tables formula s b)
@@ -123,11 +133,12 @@ pub formula_single : (word : List ℕ) (folder : Folder) (limit : ℕ) (ledger :
 formula_single word folder limit ledger text =
     let custom : Custom = custom_of ledger in
     then_single (Pure (HeadAnswers (SpellsNamed word) text)) (λ head. after_named_head limit ledger folder head) (head_single (SpellsNamed word) (one_head (SpellsNamed word) (one_named word)) text) (λ head spells.
-    then_single (Pure (FormulaAnswers head.body)) (λ formula. after_formula limit ledger (folder, head.name) formula) (reading_single head.body) (λ formula reads.
-    then_single (loaded ledger formula) (λ tables. after_tables limit ledger (folder, head.name) formula tables) (loaded_single ledger formula) (λ tables there.
+    then_single (expanded ledger head.body) (λ text. after_text limit ledger (folder, head.name) text) (expanded_single ledger head.body) (λ text expands.
+    then_single (Pure (FormulaAnswers text)) (λ formula. after_formula limit ledger (folder, head.name) formula) (reading_single text) (λ formula reads.
+    then_single (loaded ledger formula) (λ tables. after_tables limit ledger (folder, head.name) formula tables) (files_single ledger (first_files (mentions formula))) (λ tables there.
     then_single (systems_known limit custom (mentioned_systems tables formula)) (λ admitted. after_systems ledger (folder, head.name) tables formula admitted) (systems_single limit custom (mentioned_systems tables formula)) (λ admitted known.
     then_single (Pure (ResolvedAnswers tables formula)) (λ done. after_resolution admitted ledger (folder, head.name) tables formula) (resolved_single tables formula) (λ done resolves.
     then_single (Pure (BuiltAnswers admitted custom tables formula)) (λ lines. after_steps ledger (folder, head.name) tables formula lines) (built_single admitted custom tables formula there.0 there.2) (λ lines built.
     then_single (Pure (VariablesAnswers custom tables formula)) (λ variables. after_variables custom (folder, head.name) (bindings_now ledger formula) formula lines variables) (variables_single custom tables formula) (λ variables are.
     then_single (Pure (VerdictAnswers custom (bindings_now ledger formula) variables formula)) (λ verdict. stored custom (formula_success (folder, head.name) (bindings_now ledger formula) variables formula lines verdict)) (verdict_single custom (bindings_now ledger formula) variables formula) (λ verdict has.
-    stored_single custom (formula_success (folder, head.name) (bindings_now ledger formula) variables formula lines verdict)))))))))
+    stored_single custom (formula_success (folder, head.name) (bindings_now ledger formula) variables formula lines verdict))))))))))

@@ -28,8 +28,12 @@ head_is grammar text (Ok head) a = record { head = Ok head; has = a; told = λ i
 head_is grammar text (Err (faults.Syntax grammars.Command at)) a = record { head = Err (head_faults.Syntax at); has = a; told = λ is. cc; is = refl }
 head_is grammar text (Err (faults.Number grammars.Command at)) a = record { head = Err (head_faults.Number at); has = a; told = λ is. cc; is = refl }
 head_is grammar text (Err (faults.Syntax grammars.Regex at)) a = absurd a
+head_is grammar text (Err (faults.Syntax grammars.Macro at)) a = absurd a
+head_is grammar text (Err (faults.Syntax grammars.Rules at)) a = absurd a
 head_is grammar text (Err (faults.Syntax grammars.Formula at)) a = absurd a
 head_is grammar text (Err (faults.Number grammars.Regex at)) a = absurd a
+head_is grammar text (Err (faults.Number grammars.Macro at)) a = absurd a
+head_is grammar text (Err (faults.Number grammars.Rules at)) a = absurd a
 head_is grammar text (Err (faults.Number grammars.Formula at)) a = absurd a
 head_is grammar text (Err faults.Command) a = absurd a
 head_is grammar text (Err (faults.MixedChain byte)) a = absurd a
@@ -50,6 +54,12 @@ head_is grammar text (Err (faults.Plain name)) a = absurd a
 head_is grammar text (Err (faults.Store folder name)) a = absurd a
 head_is grammar text (Err faults.Memory) a = absurd a
 head_is grammar text (Err faults.ScriptLimit) a = absurd a
+head_is grammar text (Err (faults.MacroArgs of at given)) a = absurd a
+head_is grammar text (Err (faults.MacroDepth of)) a = absurd a
+head_is grammar text (Err faults.MacroLong) a = absurd a
+head_is grammar text (Err (faults.Morphism kind)) a = absurd a
+head_is grammar text (Err (faults.LetterMissing letter)) a = absurd a
+head_is grammar text (Err (faults.CombineShape one two)) a = absurd a
 
 pub head_single : {H : Type 0} (grammar : List (List ℕ) → H → Type 0) → HasOneHead grammar → (text : List ℕ) → IsSingle (Pure (HeadAnswers grammar text))
 head_single {H} grammar one text r s a b =

@@ -1,4 +1,4 @@
--- The files that a formula names give one list of tables, or one fault.
+-- The files that a command names give one list of tables, or one fault.
 use Rattle.std.proofs.Common.{◌≡◌, ℕ, List, [], ◌∷◌, ◌⊎◌, Option, None, Some, Result, Ok, Err, inl, inr, refl, sym, ap, ◌∙◌, subst, arith}
 use Rattle.wal_outside.specs.Files.{Files}
 use Rattle.wal_outside.specs.declared.folder.Folder.{Folder}
@@ -9,9 +9,6 @@ use Rattle.dfa_loading.specs.declared.fault.FileFlaw.TheVariants.{Line, TooLong}
 use Rattle.dfa_loading.specs.declared.fault.LoadFault.{LoadFault}
 use Rattle.dfa_loading.specs.declared.fault.LoadFault.TheVariants as loads
 use Rattle.dfa_loading.specs.declared.loaded.Loaded.{Loaded}
-use Rattle.formula_parse.specs.Trees as trees
-use Rattle.formula_resolve.specs.FirstMentions.{first_files}
-use Rattle.formula_resolve.specs.Mentions.{mentions}
 use Rattle.formula_resolve.specs.declared.file.File.{File}
 use Rattle.definitions.specs.Texts.{HasTextAt, Stores}
 use Rattle.definitions.specs.Trees.{Entry, Ledger, custom_of}
@@ -19,8 +16,8 @@ use Rattle.definitions.proofs.OneTexts.{one_text_of}
 use Rattle.system_files.specs.SystemFiles.{Custom}
 use Rattle.session_cli.specs.declared.fault.Fault.{Fault}
 use Rattle.session_cli.specs.declared.fault.Fault.TheVariants as faults
+use Rattle.session_cli.specs.FileChecks.{FilesAnswers, files_loaded}
 use Rattle.session_cli.specs.FormulaFaults.{fault_of_loading}
-use Rattle.session_cli.specs.FormulaOutcomes.{LoadedAnswers, loaded}
 use Rattle.session_cli.proofs.CheckSteps.{IsSingle}
 
 -- files that are the texts of one ledger have the same texts
@@ -33,7 +30,7 @@ same_text_at custom folder (Some entry) (Some text) None a b = absurd b
 same_text_at custom folder (Some entry) (Some text) (Some other) a b = ap Some (one_text_of custom entry text other a.1 b.1)
 
 module _ (ledger : Ledger) (files others : Files) (stores : Stores ledger files) (also : Stores ledger others) where
-  same_there : (folder : Folder) (name : List ℕ) → files folder name ≡ others folder name
+  pub same_there : (folder : Folder) (name : List ℕ) → files folder name ≡ others folder name
   same_there folder name = same_text_at (custom_of ledger) folder (ledger folder name) (files folder name) (others folder name) (stores folder name) (also folder name)
 
   -- a file has one text
@@ -109,37 +106,43 @@ IsLoading ledger named r =
     ((tables : List Loaded) × (files : Files) × Stores ledger files × AreListedBy files named tables × (r ≡ Ok tables))
     ⊎ ((fault : LoadFault) × (files : Files) × Stores ledger files × FirstRefuses files named fault × (r ≡ Err (fault_of_loading fault)))
 
-loaded_is : (ledger : Ledger) (formula : trees.Formula) (r : Result (List Loaded) Fault) → LoadedAnswers ledger formula r → IsLoading ledger (first_files (mentions formula)) r
-loaded_is ledger formula (Ok tables) (files, stores, are) = inl (tables, files, stores, are, refl)
-loaded_is ledger formula (Err (faults.Unknown folder name)) (files, stores, first) = inr (loads.Unknown folder name, files, stores, first, refl)
-loaded_is ledger formula (Err (faults.File folder name flaw)) (files, stores, first) = inr (loads.File folder name flaw, files, stores, first, refl)
-loaded_is ledger formula (Err faults.Command) a = absurd a
-loaded_is ledger formula (Err (faults.Syntax grammar at)) a = absurd a
-loaded_is ledger formula (Err (faults.MixedChain byte)) a = absurd a
-loaded_is ledger formula (Err (faults.Number grammar at)) a = absurd a
-loaded_is ledger formula (Err (faults.NotLinear byte)) a = absurd a
-loaded_is ledger formula (Err (faults.Depth grammar at)) a = absurd a
-loaded_is ledger formula (Err (faults.Long bytes)) a = absurd a
-loaded_is ledger formula (Err (faults.Arity name tracks given)) a = absurd a
-loaded_is ledger formula (Err (faults.SystemUnknown name)) a = absurd a
-loaded_is ledger formula (Err (faults.NotAdmitted name law)) a = absurd a
-loaded_is ledger formula (Err (faults.Clash name first other)) a = absurd a
-loaded_is ledger formula (Err (faults.Direction first other)) a = absurd a
-loaded_is ledger formula (Err (faults.Letters step)) a = absurd a
-loaded_is ledger formula (Err (faults.States step)) a = absurd a
-loaded_is ledger formula (Err (faults.WordGap name spelling)) a = absurd a
-loaded_is ledger formula (Err (faults.Plain name)) a = absurd a
-loaded_is ledger formula (Err (faults.Store folder name)) a = absurd a
-loaded_is ledger formula (Err faults.Memory) a = absurd a
-loaded_is ledger formula (Err faults.ScriptLimit) a = absurd a
+files_is : (ledger : Ledger) (named : List File) (r : Result (List Loaded) Fault) → FilesAnswers ledger named r → IsLoading ledger named r
+files_is ledger named (Ok tables) (files, stores, are) = inl (tables, files, stores, are, refl)
+files_is ledger named (Err (faults.Unknown folder name)) (files, stores, first) = inr (loads.Unknown folder name, files, stores, first, refl)
+files_is ledger named (Err (faults.File folder name flaw)) (files, stores, first) = inr (loads.File folder name flaw, files, stores, first, refl)
+files_is ledger named (Err faults.Command) a = absurd a
+files_is ledger named (Err (faults.Syntax grammar at)) a = absurd a
+files_is ledger named (Err (faults.MixedChain byte)) a = absurd a
+files_is ledger named (Err (faults.Number grammar at)) a = absurd a
+files_is ledger named (Err (faults.NotLinear byte)) a = absurd a
+files_is ledger named (Err (faults.Depth grammar at)) a = absurd a
+files_is ledger named (Err (faults.Long bytes)) a = absurd a
+files_is ledger named (Err (faults.Arity name tracks given)) a = absurd a
+files_is ledger named (Err (faults.SystemUnknown name)) a = absurd a
+files_is ledger named (Err (faults.NotAdmitted name law)) a = absurd a
+files_is ledger named (Err (faults.Clash name first other)) a = absurd a
+files_is ledger named (Err (faults.Direction first other)) a = absurd a
+files_is ledger named (Err (faults.Letters step)) a = absurd a
+files_is ledger named (Err (faults.States step)) a = absurd a
+files_is ledger named (Err (faults.WordGap name spelling)) a = absurd a
+files_is ledger named (Err (faults.Plain name)) a = absurd a
+files_is ledger named (Err (faults.Store folder name)) a = absurd a
+files_is ledger named (Err faults.Memory) a = absurd a
+files_is ledger named (Err faults.ScriptLimit) a = absurd a
+files_is ledger named (Err (faults.MacroArgs of at given)) a = absurd a
+files_is ledger named (Err (faults.MacroDepth of)) a = absurd a
+files_is ledger named (Err faults.MacroLong) a = absurd a
+files_is ledger named (Err (faults.Morphism kind)) a = absurd a
+files_is ledger named (Err (faults.LetterMissing letter)) a = absurd a
+files_is ledger named (Err (faults.CombineShape one two)) a = absurd a
 
-pub loaded_single : (ledger : Ledger) (formula : trees.Formula) → IsSingle (loaded ledger formula)
-loaded_single ledger formula r s a b = by_cases (loaded_is ledger formula r a) (loaded_is ledger formula s b)
+pub files_single : (ledger : Ledger) (named : List File) → IsSingle (files_loaded ledger named)
+files_single ledger named r s a b = by_cases (files_is ledger named r a) (files_is ledger named s b)
   where
-    by_cases : IsLoading ledger (first_files (mentions formula)) r → IsLoading ledger (first_files (mentions formula)) s → r ≡ s
+    by_cases : IsLoading ledger named r → IsLoading ledger named s → r ≡ s
     by_cases (inl (ts, files, stores, are, is)) (inl (us, others, also, are', is')) =
-        is ∙ (ap (λ (xs : List Loaded). let x : Result (List Loaded) Fault = Ok xs in x) (one_list ledger files others stores also (first_files (mentions formula)) ts us are are') ∙ sym is')
-    by_cases (inl (ts, files, stores, are, is)) (inr (fault, others, also, first, is')) = absurd (not_refused ledger files others stores also (first_files (mentions formula)) ts fault are first)
-    by_cases (inr (fault, files, stores, first, is)) (inl (us, others, also, are', is')) = absurd (not_refused ledger others files also stores (first_files (mentions formula)) us fault are' first)
+        is ∙ (ap (λ (xs : List Loaded). let x : Result (List Loaded) Fault = Ok xs in x) (one_list ledger files others stores also named ts us are are') ∙ sym is')
+    by_cases (inl (ts, files, stores, are, is)) (inr (fault, others, also, first, is')) = absurd (not_refused ledger files others stores also named ts fault are first)
+    by_cases (inr (fault, files, stores, first, is)) (inl (us, others, also, are', is')) = absurd (not_refused ledger others files also stores named us fault are' first)
     by_cases (inr (fault, files, stores, first, is)) (inr (other, others, also, first', is')) =
-        is ∙ (ap (λ (f : LoadFault). let x : Result (List Loaded) Fault = Err (fault_of_loading f) in x) (one_fault ledger files others stores also (first_files (mentions formula)) fault other first first') ∙ sym is')
+        is ∙ (ap (λ (f : LoadFault). let x : Result (List Loaded) Fault = Err (fault_of_loading f) in x) (one_fault ledger files others stores also named fault other first first') ∙ sym is')

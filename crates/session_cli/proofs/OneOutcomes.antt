@@ -1,5 +1,5 @@
 -- A command has one proper outcome.
-use Rattle.std.proofs.Common.{◌≡◌, ◌≢◌, ℕ, ◌+◌, ◌<◌, ◌≤◌, ◌⊎◌, List, ℤ, length, get_or, Result, Ok, Err, refl, sym, ap, ◌∙◌, inl, inr, arith}
+use Rattle.std.proofs.Common.{◌≡◌, ◌≢◌, ℕ, ◌+◌, ◌<◌, ◌≤◌, ◌⊎◌, List, ℤ, length, get_or, Result, Ok, Err, refl, sym, ap, ◌∙◌, inl, inr, arith, ◌*◌, ◌==◌, if◌then◌else◌}
 use Rattle.wal_outside.specs.declared.folder.Folder.TheVariants.{Automata, Results}
 use Rattle.digit_tuple.specs.Steps.{StepLog}
 use Rattle.digit_tuple.specs.declared.direction.Direction.{Direction}
@@ -8,6 +8,7 @@ use Rattle.command_head.specs.Heads as heads
 use Rattle.command_head.specs.Parts.{first_word_of}
 use Rattle.command_head.specs.Grammar.{SpellsReg}
 use Rattle.command_head.proofs.OneFault.{one_head, one_reg}
+use Rattle.fixed_points.specs.Laws.{PromotionsHaveOneOutcome}
 use Rattle.regex_build.specs.declared.fault.RegexFault.{RegexFault}
 use Rattle.regex_build.specs.declared.fault.RegexFault.TheVariants as regexes
 use Rattle.regex_build.specs.Expression.{Expression}
@@ -35,7 +36,9 @@ use Rattle.session_cli.proofs.NameLemmas.{one_list_of_systems, not_parted, same_
 use Rattle.session_cli.proofs.OneHeads.{head_single}
 use Rattle.session_cli.proofs.OneTexts.{stored_single}
 use Rattle.session_cli.proofs.OneFormulas.{formula_single}
+use Rattle.session_cli.proofs.OneCombines.{combine_single}
 use Rattle.session_cli.proofs.OneSystems.{systems_single}
+use Rattle.session_cli.proofs.OneTextCommands.{macro_single, morphism_single, promote_single}
 
 -- an answer is that of one function of what was read
 single_by : {Y : Type 0} (c : Check Y) (value : Result Y Fault) → ((r : Result Y Fault) → c.answers r → r ≡ value) → IsSingle c
@@ -58,6 +61,12 @@ steps_is admitted tracks e (Err (faults.Direction first other)) a = absurd a
 steps_is admitted tracks e (Err (faults.Store folder name)) a = absurd a
 steps_is admitted tracks e (Err faults.Memory) a = absurd a
 steps_is admitted tracks e (Err faults.ScriptLimit) a = absurd a
+steps_is admitted tracks e (Err (faults.MacroArgs of at given)) a = absurd a
+steps_is admitted tracks e (Err (faults.MacroDepth of)) a = absurd a
+steps_is admitted tracks e (Err faults.MacroLong) a = absurd a
+steps_is admitted tracks e (Err (faults.Morphism kind)) a = absurd a
+steps_is admitted tracks e (Err (faults.LetterMissing letter)) a = absurd a
+steps_is admitted tracks e (Err (faults.CombineShape one two)) a = absurd a
 steps_is admitted tracks e (Err (faults.MixedChain byte)) a = absurd a
 steps_is admitted tracks e (Err (faults.NotLinear byte)) a = absurd a
 steps_is admitted tracks e (Err (faults.Unknown of file)) a = absurd a
@@ -105,8 +114,14 @@ parsed_is sets body (Err (faults.Syntax grammars.Command at)) a = absurd a
 parsed_is sets body (Err (faults.Number grammars.Command at)) a = absurd a
 parsed_is sets body (Err (faults.Depth grammars.Command at)) a = absurd a
 parsed_is sets body (Err (faults.Syntax grammars.Formula at)) a = absurd a
+parsed_is sets body (Err (faults.Syntax grammars.Macro at)) a = absurd a
+parsed_is sets body (Err (faults.Syntax grammars.Rules at)) a = absurd a
 parsed_is sets body (Err (faults.Number grammars.Formula at)) a = absurd a
+parsed_is sets body (Err (faults.Number grammars.Macro at)) a = absurd a
+parsed_is sets body (Err (faults.Number grammars.Rules at)) a = absurd a
 parsed_is sets body (Err (faults.Depth grammars.Formula at)) a = absurd a
+parsed_is sets body (Err (faults.Depth grammars.Macro at)) a = absurd a
+parsed_is sets body (Err (faults.Depth grammars.Rules at)) a = absurd a
 parsed_is sets body (Err faults.Command) a = absurd a
 parsed_is sets body (Err (faults.Long bytes)) a = absurd a
 parsed_is sets body (Err (faults.SystemUnknown name)) a = absurd a
@@ -117,6 +132,12 @@ parsed_is sets body (Err (faults.States step)) a = absurd a
 parsed_is sets body (Err (faults.Store folder name)) a = absurd a
 parsed_is sets body (Err faults.Memory) a = absurd a
 parsed_is sets body (Err faults.ScriptLimit) a = absurd a
+parsed_is sets body (Err (faults.MacroArgs of at given)) a = absurd a
+parsed_is sets body (Err (faults.MacroDepth of)) a = absurd a
+parsed_is sets body (Err faults.MacroLong) a = absurd a
+parsed_is sets body (Err (faults.Morphism kind)) a = absurd a
+parsed_is sets body (Err (faults.LetterMissing letter)) a = absurd a
+parsed_is sets body (Err (faults.CombineShape one two)) a = absurd a
 parsed_is sets body (Err (faults.MixedChain byte)) a = absurd a
 parsed_is sets body (Err (faults.NotLinear byte)) a = absurd a
 parsed_is sets body (Err (faults.Unknown of file)) a = absurd a
@@ -153,6 +174,12 @@ names_is custom names (Err (faults.States step)) a = absurd a
 names_is custom names (Err (faults.Store folder name)) a = absurd a
 names_is custom names (Err faults.Memory) a = absurd a
 names_is custom names (Err faults.ScriptLimit) a = absurd a
+names_is custom names (Err (faults.MacroArgs of at given)) a = absurd a
+names_is custom names (Err (faults.MacroDepth of)) a = absurd a
+names_is custom names (Err faults.MacroLong) a = absurd a
+names_is custom names (Err (faults.Morphism kind)) a = absurd a
+names_is custom names (Err (faults.LetterMissing letter)) a = absurd a
+names_is custom names (Err (faults.CombineShape one two)) a = absurd a
 names_is custom names (Err (faults.MixedChain byte)) a = absurd a
 names_is custom names (Err (faults.NotLinear byte)) a = absurd a
 names_is custom names (Err (faults.Unknown of file)) a = absurd a
@@ -192,6 +219,12 @@ tracks_single custom (heads.Sets sets) r s a b = single_by (Pure (TracksAnswers 
     is (Err (faults.Store folder name)) a = absurd a
     is (Err faults.Memory) a = absurd a
     is (Err faults.ScriptLimit) a = absurd a
+    is (Err (faults.MacroArgs of at given)) a = absurd a
+    is (Err (faults.MacroDepth of)) a = absurd a
+    is (Err faults.MacroLong) a = absurd a
+    is (Err (faults.Morphism kind)) a = absurd a
+    is (Err (faults.LetterMissing letter)) a = absurd a
+    is (Err (faults.CombineShape one two)) a = absurd a
     is (Err (faults.MixedChain byte)) a = absurd a
     is (Err (faults.NotLinear byte)) a = absurd a
     is (Err (faults.Unknown of file)) a = absurd a
@@ -232,6 +265,12 @@ length_single text r s a b = by_length (length_is r a) (length_is s b)
     length_is (Err (faults.Store folder name)) a = absurd a
     length_is (Err faults.Memory) a = absurd a
     length_is (Err faults.ScriptLimit) a = absurd a
+    length_is (Err (faults.MacroArgs of at given)) a = absurd a
+    length_is (Err (faults.MacroDepth of)) a = absurd a
+    length_is (Err faults.MacroLong) a = absurd a
+    length_is (Err (faults.Morphism kind)) a = absurd a
+    length_is (Err (faults.LetterMissing letter)) a = absurd a
+    length_is (Err (faults.CombineShape one two)) a = absurd a
     length_is (Err (faults.MixedChain byte)) a = absurd a
     length_is (Err (faults.NotLinear byte)) a = absurd a
     length_is (Err (faults.Unknown of file)) a = absurd a
@@ -247,20 +286,31 @@ length_single text r s a b = by_length (length_is r a) (length_is s b)
     by_length (inr (long, is)) (inl (short, is')) = absurd (omega arith)
     by_length (inr (long, is)) (inr (long', is')) = is ∙ sym is'
 
--- the words of commands differ in their first letters
-first_letters : (text v w : List ℕ) → text ≡ v → text ≡ w → get_or v 0 0 ≡ get_or w 0 0
-first_letters text v w a b = ap (λ (xs : List ℕ). get_or xs 0 0) (sym a ∙ b)
+-- the words of commands differ in their first two letters
+abbrev letters_of_word : List ℕ → ℕ
+letters_of_word xs = 1000 * get_or xs 0 0 + get_or xs 1 0
+
+abbrev word_by_letters : ℕ → CommandWord
+word_by_letters n =
+    if n == 114101 then words.Reg
+    else if n == 101118 then words.Eval
+    else if n == 100101 then words.Def
+    else if n == 109097 then words.Macro
+    else if n == 109111 then words.Morphism
+    else if n == 112114 then words.Promote
+    else words.Combine
+
+word_again : (word : CommandWord) → word_by_letters (letters_of_word (word_text word)) ≡ word
+word_again words.Reg = refl
+word_again words.Eval = refl
+word_again words.Def = refl
+word_again words.Macro = refl
+word_again words.Morphism = refl
+word_again words.Promote = refl
+word_again words.Combine = refl
 
 one_word : (text : List ℕ) (v w : CommandWord) → text ≡ word_text v → text ≡ word_text w → v ≡ w
-one_word text words.Reg words.Reg a b = refl
-one_word text words.Reg words.Eval a b = let same : 114 ≡ 101 = first_letters text (word_text words.Reg) (word_text words.Eval) a b in absurd (omega (arith, same))
-one_word text words.Reg words.Def a b = let same : 114 ≡ 100 = first_letters text (word_text words.Reg) (word_text words.Def) a b in absurd (omega (arith, same))
-one_word text words.Eval words.Reg a b = let same : 101 ≡ 114 = first_letters text (word_text words.Eval) (word_text words.Reg) a b in absurd (omega (arith, same))
-one_word text words.Eval words.Eval a b = refl
-one_word text words.Eval words.Def a b = let same : 101 ≡ 100 = first_letters text (word_text words.Eval) (word_text words.Def) a b in absurd (omega (arith, same))
-one_word text words.Def words.Reg a b = let same : 100 ≡ 114 = first_letters text (word_text words.Def) (word_text words.Reg) a b in absurd (omega (arith, same))
-one_word text words.Def words.Eval a b = let same : 100 ≡ 101 = first_letters text (word_text words.Def) (word_text words.Eval) a b in absurd (omega (arith, same))
-one_word text words.Def words.Def a b = refl
+one_word text v w a b = sym (word_again v) ∙ (ap (λ (xs : List ℕ). word_by_letters (letters_of_word xs)) (sym a ∙ b) ∙ word_again w)
 
 word_single : (text : List ℕ) → IsSingle (Pure (WordAnswers text))
 word_single text r s a b = by_word (word_is r a) (word_is s b)
@@ -280,6 +330,12 @@ word_single text r s a b = by_word (word_is r a) (word_is s b)
     word_is (Err (faults.Store folder name)) a = absurd a
     word_is (Err faults.Memory) a = absurd a
     word_is (Err faults.ScriptLimit) a = absurd a
+    word_is (Err (faults.MacroArgs of at given)) a = absurd a
+    word_is (Err (faults.MacroDepth of)) a = absurd a
+    word_is (Err faults.MacroLong) a = absurd a
+    word_is (Err (faults.Morphism kind)) a = absurd a
+    word_is (Err (faults.LetterMissing letter)) a = absurd a
+    word_is (Err (faults.CombineShape one two)) a = absurd a
     word_is (Err (faults.MixedChain byte)) a = absurd a
     word_is (Err (faults.NotLinear byte)) a = absurd a
     word_is (Err (faults.Unknown of file)) a = absurd a
@@ -297,12 +353,16 @@ word_single text r s a b = by_word (word_is r a) (word_is s b)
     by_word (inr (none, at)) (inr (none', at')) = at ∙ sym at'
 
 -- each command has one outcome
-single_by_word : (word : CommandWord) (limit : ℕ) (ledger : Ledger) (text : List ℕ) → IsSingle (checks_by word limit ledger text)
-single_by_word words.Reg limit ledger text = reg_single limit ledger text
-single_by_word words.Eval limit ledger text = formula_single (word_text words.Eval) Results limit ledger text
-single_by_word words.Def limit ledger text = formula_single (word_text words.Def) Automata limit ledger text
+single_by_word : PromotionsHaveOneOutcome → (word : CommandWord) (limit : ℕ) (ledger : Ledger) (text : List ℕ) → IsSingle (checks_by word limit ledger text)
+single_by_word promotions words.Reg limit ledger text = reg_single limit ledger text
+single_by_word promotions words.Eval limit ledger text = formula_single (word_text words.Eval) Results limit ledger text
+single_by_word promotions words.Def limit ledger text = formula_single (word_text words.Def) Automata limit ledger text
+single_by_word promotions words.Macro limit ledger text = macro_single ledger text
+single_by_word promotions words.Morphism limit ledger text = morphism_single ledger text
+single_by_word promotions words.Promote limit ledger text = promote_single promotions limit ledger text
+single_by_word promotions words.Combine limit ledger text = combine_single limit ledger text
 
-pub one_answer : (limit : ℕ) (ledger : Ledger) (text : List ℕ) (answer other : Answer) → Outcome limit ledger text answer → Outcome limit ledger text other → answer ≡ other
-one_answer limit ledger text =
+pub one_answer : PromotionsHaveOneOutcome → (limit : ℕ) (ledger : Ledger) (text : List ℕ) (answer other : Answer) → Outcome limit ledger text answer → Outcome limit ledger text other → answer ≡ other
+one_answer promotions limit ledger text =
     then_single (Pure (LengthAnswers text)) (λ done. after_length limit ledger text) (length_single text) (λ done short.
-    then_single (Pure (WordAnswers text)) (λ word. checks_by word limit ledger text) (word_single text) (λ word is. single_by_word word limit ledger text))
+    then_single (Pure (WordAnswers text)) (λ word. checks_by word limit ledger text) (word_single text) (λ word is. single_by_word promotions word limit ledger text))

@@ -96,10 +96,16 @@ reading_is text (Err (faults.MixedChain at)) a = record { told = Err (parses.Mix
 reading_is text (Err (faults.NotLinear at)) a = record { told = Err (parses.NotLinear at); tells = ((λ is. cc), a); is = refl }
 reading_is text (Err (faults.Syntax grammars.Command at)) a = absurd a
 reading_is text (Err (faults.Syntax grammars.Regex at)) a = absurd a
+reading_is text (Err (faults.Syntax grammars.Macro at)) a = absurd a
+reading_is text (Err (faults.Syntax grammars.Rules at)) a = absurd a
 reading_is text (Err (faults.Number grammars.Command at)) a = absurd a
 reading_is text (Err (faults.Number grammars.Regex at)) a = absurd a
+reading_is text (Err (faults.Number grammars.Macro at)) a = absurd a
+reading_is text (Err (faults.Number grammars.Rules at)) a = absurd a
 reading_is text (Err (faults.Depth grammars.Command at)) a = absurd a
 reading_is text (Err (faults.Depth grammars.Regex at)) a = absurd a
+reading_is text (Err (faults.Depth grammars.Macro at)) a = absurd a
+reading_is text (Err (faults.Depth grammars.Rules at)) a = absurd a
 reading_is text (Err faults.Command) a = absurd a
 reading_is text (Err (faults.Long bytes)) a = absurd a
 reading_is text (Err (faults.Unknown folder name)) a = absurd a
@@ -116,6 +122,12 @@ reading_is text (Err (faults.Plain name)) a = absurd a
 reading_is text (Err (faults.Store folder name)) a = absurd a
 reading_is text (Err faults.Memory) a = absurd a
 reading_is text (Err faults.ScriptLimit) a = absurd a
+reading_is text (Err (faults.MacroArgs of at given)) a = absurd a
+reading_is text (Err (faults.MacroDepth of)) a = absurd a
+reading_is text (Err faults.MacroLong) a = absurd a
+reading_is text (Err (faults.Morphism kind)) a = absurd a
+reading_is text (Err (faults.LetterMissing letter)) a = absurd a
+reading_is text (Err (faults.CombineShape one two)) a = absurd a
 
 pub reading_single : (text : List ℕ) → IsSingle (Pure (FormulaAnswers text))
 reading_single text r s a b =

@@ -55,6 +55,12 @@ systems_is limit custom names (Err (faults.Plain name)) a = absurd a
 systems_is limit custom names (Err (faults.Store folder name)) a = absurd a
 systems_is limit custom names (Err faults.Memory) a = absurd a
 systems_is limit custom names (Err faults.ScriptLimit) a = absurd a
+systems_is limit custom names (Err (faults.MacroArgs of at given)) a = absurd a
+systems_is limit custom names (Err (faults.MacroDepth of)) a = absurd a
+systems_is limit custom names (Err faults.MacroLong) a = absurd a
+systems_is limit custom names (Err (faults.Morphism kind)) a = absurd a
+systems_is limit custom names (Err (faults.LetterMissing letter)) a = absurd a
+systems_is limit custom names (Err (faults.CombineShape one two)) a = absurd a
 
 pub systems_single : (limit : ℕ) (custom : Custom) (names : List (List ℕ)) → IsSingle (systems_known limit custom names)
 systems_single limit custom names r s a b = by (systems_is limit custom names r a) (systems_is limit custom names s b)

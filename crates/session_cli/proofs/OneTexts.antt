@@ -34,6 +34,12 @@ stored_is custom made text has (Err (faults.Plain name)) a = absurd a
 stored_is custom made text has (Err (faults.Store folder name)) a = absurd a
 stored_is custom made text has (Err faults.Memory) a = absurd a
 stored_is custom made text has (Err faults.ScriptLimit) a = absurd a
+stored_is custom made text has (Err (faults.MacroArgs of at given)) a = absurd a
+stored_is custom made text has (Err (faults.MacroDepth of)) a = absurd a
+stored_is custom made text has (Err faults.MacroLong) a = absurd a
+stored_is custom made text has (Err (faults.Morphism kind)) a = absurd a
+stored_is custom made text has (Err (faults.LetterMissing letter)) a = absurd a
+stored_is custom made text has (Err (faults.CombineShape one two)) a = absurd a
 
 some_text : (custom : Custom) (made : Success) (r : Answer) → StoredAnswers custom made r → (text : List ℕ) × HasText custom made.entry text
 some_text custom made (Ok success) (is, (text, has, fits)) = (text, has)
@@ -58,6 +64,12 @@ some_text custom made (Err (faults.Plain name)) a = absurd a
 some_text custom made (Err (faults.Store folder name)) a = absurd a
 some_text custom made (Err faults.Memory) a = absurd a
 some_text custom made (Err faults.ScriptLimit) a = absurd a
+some_text custom made (Err (faults.MacroArgs of at given)) a = absurd a
+some_text custom made (Err (faults.MacroDepth of)) a = absurd a
+some_text custom made (Err faults.MacroLong) a = absurd a
+some_text custom made (Err (faults.Morphism kind)) a = absurd a
+some_text custom made (Err (faults.LetterMissing letter)) a = absurd a
+some_text custom made (Err (faults.CombineShape one two)) a = absurd a
 
 pub stored_single : (custom : Custom) (made : Success) → IsSingle (stored custom made)
 stored_single custom made r s a b =

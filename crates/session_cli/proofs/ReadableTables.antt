@@ -16,6 +16,7 @@ use Rattle.formula_resolve.specs.Headers.{Headers, known}
 use Rattle.formula_resolve.specs.Mentions.{mentions}
 use Rattle.formula_resolve.specs.Resolving.{fault_of}
 use Rattle.formula_resolve.specs.declared.file.File.{File}
+use Rattle.formula_resolve.specs.declared.mention.Mention.{Mention}
 use Rattle.formula_build.specs.Libraries.{NamedSystem, system_named}
 use Rattle.formula_build.specs.Resolved as resolved
 use Rattle.formula_build.specs.Solutions.{way_named}
@@ -29,7 +30,7 @@ use Rattle.session_cli.specs.TableReading.{IsReadable, AreReadable}
 use Rattle.session_cli.proofs.MeantNames.{found_way}
 use Rattle.session_cli.proofs.TableFiles.{IsListedTable, files_apart, tables_listed}
 use Rattle.session_cli.proofs.TableHeaders.{systems_in, IsKeptIn, headers_kept, file_tracks, tracks_kept, IsOneWay, tables_one_way}
-use Rattle.session_cli.proofs.MentionedTables.{IsNotOverSets, none_over_sets, tables_systems}
+use Rattle.session_cli.proofs.MentionedTables.{OfMention, IsNotPlain, IsNotOverSets, formula_not_plain, none_over_sets, tables_systems}
 
 -- what stands under each of some names
 abbrev AreUnder : List NamedSystem → List Name → List SystemValue → Type 0
@@ -86,14 +87,19 @@ all_readable custom systems (table ∷ tables) h are listed own plain one has =
     let under : AllByRecursion (HasSystemIn systems) (known (systems_in table.listed.header)) = subst (AllByRecursion (HasSystemIn systems)) (tracks_kept h table own.0) has.0 in
     (readable custom systems table are listed.0 plain.0 one.0 under, all_readable custom systems tables h are listed.1 own.1 plain.1 one.1 has.1)
 
+-- the tables of what is mentioned are readable by the systems that are, where none that is called is over sets
+pub mentions_readable : FilesAreTables → (systems : List NamedSystem) (files : Files) (tables : List Loaded) (ms : List Mention) → IsOnce (first_files ms) → AreListedBy files (first_files ms) tables
+    → AllByRecursion (OfMention (IsNotPlain (headers_of tables))) ms → HasSystems (first_systems (headers_of tables) ms) systems → (custom : Custom) → AreMeant custom systems → AreReadable systems tables
+mentions_readable law systems files tables ms once listed called has custom meant =
+    let h : Headers = headers_of tables in
+    let named : List File = first_files ms in
+    all_readable custom systems tables h meant (tables_listed law files named tables listed)
+    (headers_kept tables (files_apart files named tables once listed))
+    (none_over_sets law files tables ms once listed called)
+    (tables_one_way files named tables listed)
+    (tables_systems (HasSystemIn systems) h files ms tables listed has.mentioned)
+
 -- the tables of a formula without fault are readable by the systems that it mentions
 pub tables_readable : FilesAreTables → (systems : List NamedSystem) (files : Files) (tables : List Loaded) (formula : trees.Formula) → IsOnce (first_files (mentions formula)) → AreListedBy files (first_files (mentions formula)) tables
     → fault_of (headers_of tables) formula ≡ None → HasSystems (first_systems (headers_of tables) (mentions formula)) systems → (custom : Custom) → AreMeant custom systems → AreReadable systems tables
-tables_readable law systems files tables formula once listed none has custom meant =
-    let h : Headers = headers_of tables in
-    let named : List File = first_files (mentions formula) in
-    all_readable custom systems tables h meant (tables_listed law files named tables listed)
-    (headers_kept tables (files_apart files named tables once listed))
-    (none_over_sets law files tables formula once listed none)
-    (tables_one_way files named tables listed)
-    (tables_systems (HasSystemIn systems) h files (mentions formula) tables listed has.mentioned)
+tables_readable law systems files tables formula once listed none has custom meant = mentions_readable law systems files tables (mentions formula) once listed (formula_not_plain (headers_of tables) formula none) has custom meant

@@ -80,6 +80,12 @@ made_by_steps custom admitted name tracks body shown pattern lines printed_lines
     by_text (Err (faults.States step)) refused = absurd refused
     by_text (Err (faults.Store folder of)) refused = absurd refused
     by_text (Err faults.ScriptLimit) refused = absurd refused
+    by_text (Err (faults.MacroArgs of at given)) refused = absurd refused
+    by_text (Err (faults.MacroDepth of)) refused = absurd refused
+    by_text (Err faults.MacroLong) refused = absurd refused
+    by_text (Err (faults.Morphism kind)) refused = absurd refused
+    by_text (Err (faults.LetterMissing letter)) refused = absurd refused
+    by_text (Err (faults.CombineShape one two)) refused = absurd refused
     by_text (Err (faults.MixedChain byte)) refused = absurd refused
     by_text (Err (faults.NotLinear byte)) refused = absurd refused
     by_text (Err (faults.Unknown of file)) refused = absurd refused

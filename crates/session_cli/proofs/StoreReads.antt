@@ -11,9 +11,10 @@ use Rattle.formula_parse.specs.declared.fault.ParseFault.{ParseFault}
 use Rattle.formula_parse.specs.declared.fault.ParseFault.TheVariants as parses
 use Rattle.session_cli.specs.FormulaFaults.{fault_of_formula}
 use Rattle.session_cli.specs.declared.plan.Made.{Made}
+use Rattle.session_cli.specs.declared.plan.Plan.{Plan}
 use Rattle.session_cli.specs.Checks.{Check, Fails}
 use Rattle.session_cli.specs.Accepting.{Success}
-use Rattle.session_cli.specs.Plans.{Makes}
+use Rattle.session_cli.specs.Plans.{Makes, Plans}
 use Rattle.session_cli.specs.Runs.{is_store_fault}
 use Rattle.session_cli.specs.StoreReads.{IsReadFault, HasRead, FromFiles}
 use Rattle.system_files.specs.SystemFiles.{Custom}
@@ -42,6 +43,12 @@ kept store (faults.Direction first second) other = refl
 kept store (faults.Letters step) other = refl
 kept store (faults.States step) other = refl
 kept store faults.ScriptLimit other = refl
+kept store (faults.MacroArgs of at given) other = refl
+kept store (faults.MacroDepth of) other = refl
+kept store faults.MacroLong other = refl
+kept store (faults.Morphism kind) other = refl
+kept store (faults.LetterMissing letter) other = refl
+kept store (faults.CombineShape one two) other = refl
 kept store (faults.MixedChain byte) other = refl
 kept store (faults.NotLinear byte) other = refl
 kept store (faults.Unknown of file) other = refl
@@ -66,6 +73,12 @@ moved old new (faults.Direction first second) other is = is
 moved old new (faults.Letters step) other is = is
 moved old new (faults.States step) other is = is
 moved old new faults.ScriptLimit other is = is
+moved old new (faults.MacroArgs of at given) other is = is
+moved old new (faults.MacroDepth of) other is = is
+moved old new faults.MacroLong other is = is
+moved old new (faults.Morphism kind) other is = is
+moved old new (faults.LetterMissing letter) other is = is
+moved old new (faults.CombineShape one two) other is = is
 moved old new (faults.MixedChain byte) other is = is
 moved old new (faults.NotLinear byte) other is = is
 moved old new (faults.Unknown of file) other is = is
@@ -125,6 +138,12 @@ own_fault check none (faults.Direction first other) refused = refl
 own_fault check none (faults.Letters step) refused = refl
 own_fault check none (faults.States step) refused = refl
 own_fault check none faults.ScriptLimit refused = refl
+own_fault check none (faults.MacroArgs of at given) refused = refl
+own_fault check none (faults.MacroDepth of) refused = refl
+own_fault check none faults.MacroLong refused = refl
+own_fault check none (faults.Morphism kind) refused = refl
+own_fault check none (faults.LetterMissing letter) refused = refl
+own_fault check none (faults.CombineShape one two) refused = refl
 own_fault check none (faults.MixedChain byte) refused = refl
 own_fault check none (faults.NotLinear byte) refused = refl
 own_fault check none (faults.Unknown of file) refused = refl
@@ -138,6 +157,10 @@ own_fault check none (faults.NotAdmitted of law) refused = refl
 pub own_made : (custom : Custom) (checks : Check Success) → ((place : Place) → checks.reads place → ⊥) → (shown : Bool) (r : Result Made Fault) → Makes custom checks shown r → IsOwn r
 own_made custom checks none shown (Ok made) makes = tt
 own_made custom checks none shown (Err f) refused = own_fault checks none f refused
+
+pub own_plan : (custom : Custom) (checks : Check Success) → ((place : Place) → checks.reads place → ⊥) → (shown : Bool) (r : Result Plan Fault) → Plans custom checks shown r → IsOwn r
+own_plan custom checks none shown (Ok plan) plans = tt
+own_plan custom checks none shown (Err f) refused = own_fault checks none f refused
 
 -- a fault of a formula's text is none of the store
 pub own_parse : (fault : ParseFault) → is_store_fault (fault_of_formula fault) ≡ false

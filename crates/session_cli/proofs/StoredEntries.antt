@@ -1,18 +1,22 @@
--- What an accepted command makes may stand in its folder, which is not that of users' systems: no expression and no formula stands among words.
-use Rattle.std.proofs.Common.{◌≡◌, ◌≢◌, ℕ, true, eqb, List, Ok, Err, bytes_eq, sym, subst}
+-- What an accepted command makes may stand in its folder, which is not that of users' systems: no expression and no formula stands among words,
+-- and what stands for a word stands there.
+use Rattle.std.proofs.Common.{◌≡◌, ◌≢◌, ℕ, true, eqb, List, Ok, Err, bytes_eq, refl, sym, subst}
 use Rattle.std.proofs.lemmas.Bool.{and_parts}
 use Rattle.wal_outside.specs.Files.{same_file}
 use Rattle.wal_outside.specs.Folders.{folder_index}
 use Rattle.wal_outside.specs.declared.folder.Folder.{Folder}
 use Rattle.wal_outside.specs.declared.folder.Folder.TheVariants.{Automata, Words, Bases, Macros, Morphisms, Results, Commands}
-use Rattle.definitions.specs.Trees.{Tree, File, Regex, Formula, MayStandIn, Ledger, tree_of}
+use Rattle.definitions.specs.Trees.{Tree, File, Regex, Formula, Fixed, Image, Combine, MayStandIn, Ledger, tree_of}
 use Rattle.session_cli.specs.declared.command_word.CommandWord.{CommandWord}
 use Rattle.session_cli.specs.declared.command_word.CommandWord.TheVariants as words
 use Rattle.session_cli.specs.Accepting.{Success, Answer}
+use Rattle.session_cli.specs.CombineOutcomes.{combine_checks}
 use Rattle.session_cli.specs.FormulaOutcomes.{formula_checks}
 use Rattle.session_cli.specs.Outcomes.{checks_of, checks_by, word_text}
+use Rattle.session_cli.specs.PromoteOutcomes.{promote_checks}
 use Rattle.session_cli.specs.RegOutcomes.{reg_checks}
 use Rattle.session_cli.specs.Runs.{IsAnswer}
+use Rattle.session_cli.specs.TextOutcomes.{macro_checks, morphism_checks}
 
 -- the entry of an accepted command may stand in its folder, and defines no system
 abbrev pub Stands : Success → Type 0
@@ -26,12 +30,28 @@ reg_stands : (limit : ℕ) (ledger : Ledger) (text : List ℕ) (success : Succes
 reg_stands limit ledger text success (head, h, (admitted, a, (tracks, t, (pattern, p, (lines, l, (is, fits)))))) = subst Stands (sym is) ((λ same. cc), ((λ same. cc), (λ same. cc)))
 
 formula_stands : (word : List ℕ) (folder : Folder) (limit : ℕ) (ledger : Ledger) (text : List ℕ) (success : Success) → folder ≢ Words → folder ≢ Bases → (formula_checks word folder limit ledger text).answers (Ok success) → Stands success
-formula_stands word folder limit ledger text success no_word no_base (head, h, (formula, f, (tables, t, (admitted, a, (resolved, r, (lines, b, (variables, v, (verdict, d, (is, fits))))))))) = subst Stands (sym is) (no_base, (no_word, no_base))
+formula_stands word folder limit ledger text success no_word no_base (head, h, (expansion, e, (formula, f, (tables, t, (admitted, a, (resolved, r, (lines, b, (variables, v, (verdict, d, (is, fits)))))))))) = subst Stands (sym is) (no_base, (no_word, no_base))
+
+macro_stands : (ledger : Ledger) (text : List ℕ) (success : Success) → (macro_checks ledger text).answers (Ok success) → Stands success
+macro_stands ledger text success (head, h, (is, fits)) = subst Stands (sym is) ((λ same. cc), tt)
+
+morphism_stands : (ledger : Ledger) (text : List ℕ) (success : Success) → (morphism_checks ledger text).answers (Ok success) → Stands success
+morphism_stands ledger text success (head, h, (rules, r, (is, fits))) = subst Stands (sym is) ((λ same. cc), tt)
+
+promote_stands : (limit : ℕ) (ledger : Ledger) (text : List ℕ) (success : Success) → (promote_checks limit ledger text).answers (Ok success) → Stands success
+promote_stands limit ledger text success (head, h, (rules, r, (lines, l, (is, fits)))) = subst Stands (sym is) ((λ same. cc), refl)
+
+combine_stands : (limit : ℕ) (ledger : Ledger) (text : List ℕ) (success : Success) → (combine_checks limit ledger text).answers (Ok success) → Stands success
+combine_stands limit ledger text success (head, h, (tables, t, (admitted, a, (none, p, (one, s, (lines, l, (tracks, u, (is, fits)))))))) = subst Stands (sym is) ((λ same. cc), refl)
 
 by_word : (word : CommandWord) (limit : ℕ) (ledger : Ledger) (text : List ℕ) (success : Success) → (checks_by word limit ledger text).answers (Ok success) → Stands success
 by_word words.Reg limit ledger text success is = reg_stands limit ledger text success is
 by_word words.Eval limit ledger text success is = formula_stands (word_text words.Eval) Results limit ledger text success (λ same. cc) (λ same. cc) is
 by_word words.Def limit ledger text success is = formula_stands (word_text words.Def) Automata limit ledger text success (λ same. cc) (λ same. cc) is
+by_word words.Macro limit ledger text success is = macro_stands ledger text success is
+by_word words.Morphism limit ledger text success is = morphism_stands ledger text success is
+by_word words.Promote limit ledger text success is = promote_stands limit ledger text success is
+by_word words.Combine limit ledger text success is = combine_stands limit ledger text success is
 
 pub answer_stands : (limit : ℕ) (ledger : Ledger) (text : List ℕ) (answer : Answer) → IsAnswer (checks_of limit ledger text) answer → MayStore answer
 answer_stands limit ledger text (Ok success) (short, s, (word, w, is)) = by_word word limit ledger text success is
@@ -45,6 +65,15 @@ words_there Macros same = absurd (cc)
 words_there Morphisms same = absurd (cc)
 words_there Results same = absurd (cc)
 words_there Commands same = absurd (cc)
+
+words_back : (at : Folder) → eqb (folder_index Words) (folder_index at) ≡ true → at ≡ Words
+words_back Automata same = absurd (cc)
+words_back Words same = λ i. Words
+words_back Bases same = absurd (cc)
+words_back Macros same = absurd (cc)
+words_back Morphisms same = absurd (cc)
+words_back Results same = absurd (cc)
+words_back Commands same = absurd (cc)
 
 bases_there : (at : Folder) → eqb (folder_index at) (folder_index Bases) ≡ true → at ≡ Bases
 bases_there Automata same = absurd (cc)
@@ -68,7 +97,13 @@ stands_there at folder under name tree same may = by tree may
     apart : (at ≢ Words) × (at ≢ Bases) → (folder ≢ Words) × (folder ≢ Bases)
     apart other = ((λ is. other.0 (words_there at (moved Words is))), (λ is. other.1 (bases_there at (moved Bases is))))
 
+    among : at ≡ Words → folder ≡ Words
+    among is = words_back folder (subst (λ (f : Folder). eqb (folder_index f) (folder_index folder) ≡ true) is one)
+
     by : (t : Tree) → MayStandIn at t → MayStandIn folder t
     by (File bytes) stands = tt
     by (Regex tracks expression) stands = apart stands
     by (Formula variables formula bindings) stands = apart stands
+    by (Fixed rules) stands = among stands
+    by (Image way system rules image) stands = among stands
+    by (Combine way named parts) stands = among stands

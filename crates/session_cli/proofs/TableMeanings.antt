@@ -185,7 +185,7 @@ module _ (laws : MeaningLaws) (ledger : Ledger) (files : Files) (systems : List 
       let found = entry_there (custom_of ledger) Automata (ledger Automata r.name) (files Automata r.name) listed.text (stores Automata r.name) listed.there in
       let holds : (ns : List ℕ) → RelationHolds r.relation ns ↔ tree_holds (custom_of ledger) (tree_of found.0) ns = λ ns.
       let file = relation_holds laws.tables (custom_of ledger) systems sealed are old new table r listed.text listed.lists.lists readable read ns in
-      let tree = laws.texts (custom_of ledger) (tree_of found.0) listed.text (tree_text (custom_of ledger) found.0 listed.text found.2.1) ns in
+      let tree = laws.texts (custom_of ledger) (tree_of found.0) listed.text found.2.0 (tree_text (custom_of ledger) found.0 listed.text found.2.1) ns in
       ((λ h. tree.0 (file.0 h)), (λ h. file.1 (tree.1 h))) in
       record { entry = found.0; there = found.1; same = holds }
 
@@ -208,7 +208,7 @@ module _ (laws : MeaningLaws) (ledger : Ledger) (files : Files) (systems : List 
   means_as table old new (AWord w) listed readable read = word_letters_as table old new w listed readable read
 
   -- what is read of tables means what the ledger has under their names
-  tables_mean_as : (named : List File) (tables : List Loaded) (reads : List TableRead) (old new : StepLog) → AreListedBy files named tables → AreReadable systems tables → AreTablesRead systems old tables reads new → AreMeantAs (MeansAs ledger) named reads
+  pub tables_mean_as : (named : List File) (tables : List Loaded) (reads : List TableRead) (old new : StepLog) → AreListedBy files named tables → AreReadable systems tables → AreTablesRead systems old tables reads new → AreMeantAs (MeansAs ledger) named reads
   tables_mean_as [] [] [] old new listed readable made = tt
   tables_mean_as [] [] (r ∷ reads) old new listed readable made = absurd made
   tables_mean_as [] (table ∷ tables) reads old new listed readable made = absurd listed
@@ -230,3 +230,17 @@ module _ (laws : MeaningLaws) (ledger : Ledger) (files : Files) (systems : List 
         letter_there = λ name ns letter has. letter_bound ledger name ns letter named reads apart like has;
         letter_back = λ name ns letter has. bound_lettered ledger name ns letter named reads apart like has;
       }
+
+-- a relation that is read holds as what the ledger has under its name
+pub named_holds_as : (ledger : Ledger) (named : List File) (reads : List TableRead) → AreMeantAs (MeansAs ledger) named reads → (name : List ℕ) (v : RelationValue) → relation_named (relations_in reads) name ≡ Some v → HoldsAs ledger name v
+named_holds_as ledger [] [] like name v is = absurd (none-some v is)
+named_holds_as ledger [] (r ∷ reads) like name v is = absurd like
+named_holds_as ledger (file ∷ named) [] like name v is = absurd like
+named_holds_as ledger (file ∷ named) (AWord w ∷ reads) like name v is = named_holds_as ledger named reads like.2 name v is
+named_holds_as ledger (file ∷ named) (ARelation r ∷ reads) like name v is = by (bytes_eq r.name name) refl is (named_holds_as ledger named reads like.2 name v)
+  where
+    by : (b : Bool) → bytes_eq r.name name ≡ b → (if b then Some r.relation else relation_named (relations_in reads) name) ≡ Some v → (relation_named (relations_in reads) name ≡ Some v → HoldsAs ledger name v) → HoldsAs ledger name v
+    by true same found later =
+        let one : r.relation ≡ v = let e : Some r.relation ≡ Some v = found in cc in
+        subst (HoldsAs ledger name) one (subst (λ (n : List ℕ). HoldsAs ledger n r.relation) ((bytes_eq-Decides r.name name).0 same) like.1)
+    by false other found later = later found

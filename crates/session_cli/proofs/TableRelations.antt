@@ -37,7 +37,7 @@ one_some : {X : Type 0} {o : Option X} (x y : X) → o ≡ Some x → o ≡ Some
 one_some x y first other = let both : Some x ≡ Some y = sym first ∙ other in cc
 
 -- names tell the systems under them
-one_under : (systems : List NamedSystem) (names : List (List ℕ)) (found others : List SystemValue) → AreUnder systems names found → AreUnder systems names others → found ≡ others
+pub one_under : (systems : List NamedSystem) (names : List (List ℕ)) (found others : List SystemValue) → AreUnder systems names found → AreUnder systems names others → found ≡ others
 one_under systems [] [] [] under also = refl
 one_under systems [] [] (r ∷ others) under also = absurd also
 one_under systems [] (s ∷ found) others under also = absurd under

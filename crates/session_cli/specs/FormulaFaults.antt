@@ -1,10 +1,12 @@
--- The faults of formulas and of the files that they name, as a command's.
+-- The faults of formulas, of the macros that they call and of the files that they name, as a command's.
 use Rattle.dfa_loading.specs.declared.fault.LoadFault.{LoadFault}
 use Rattle.dfa_loading.specs.declared.fault.LoadFault.TheVariants as loads
 use Rattle.formula_parse.specs.declared.fault.ParseFault.{ParseFault}
 use Rattle.formula_parse.specs.declared.fault.ParseFault.TheVariants as parses
 use Rattle.formula_resolve.specs.declared.fault.ResolveFault.{ResolveFault}
 use Rattle.formula_resolve.specs.declared.fault.ResolveFault.TheVariants as resolves
+use Rattle.macro_loading.specs.declared.fault.ExpansionFault.{ExpansionFault}
+use Rattle.macro_loading.specs.declared.fault.ExpansionFault.TheVariants as expansions
 use Rattle.session_cli.specs.declared.fault.Grammar.TheVariants as grammars
 use Rattle.session_cli.specs.declared.read_fault.ReadFault.{ReadFault}
 use Rattle.session_cli.specs.declared.read_fault.ReadFault.TheVariants as reads
@@ -36,3 +38,10 @@ fault_of_loading loads.Memory = faults.Memory
 abbrev pub fault_of_reading : ReadFault → Fault
 fault_of_reading (reads.Step fault) = fault_of fault
 fault_of_reading (reads.Gap name spelling) = faults.WordGap name spelling
+
+abbrev pub fault_of_expansion : ExpansionFault → Fault
+fault_of_expansion (expansions.Syntax at) = faults.Syntax grammars.Macro at
+fault_of_expansion (expansions.MacroArgs name place given) = faults.MacroArgs name place given
+fault_of_expansion (expansions.MacroDepth name) = faults.MacroDepth name
+fault_of_expansion expansions.MacroLong = faults.MacroLong
+fault_of_expansion (expansions.Load fault) = fault_of_loading fault

@@ -1,12 +1,9 @@
--- What an `eval` or a `def` does, by its checks in their order: the shape of its head, its formula, the files of the automata and words that
+-- What an `eval` or a `def` does, by its checks in their order: the shape of its head, its calls of macros, its formula, the files of the automata and words that
 -- this names, its systems, its resolution, its steps, and the length of the text that it is to store. Its variables and its verdict refuse nothing.
 use Rattle.std.specs.Prelude.{◌≡◌, ℕ, Bool, List, [], ◌∷◌, Option, None, Some, Result, Ok, Err, ⊤}
 use Rattle.wal_outside.specs.Places.{Place}
 use Rattle.wal_outside.specs.declared.folder.Folder.{Folder}
-use Rattle.wal_outside.specs.Files.{Files}
 use Rattle.dfa_loading.specs.Headers.{headers_of}
-use Rattle.dfa_loading.specs.Loading.{AreListedBy, FirstRefuses, ReadsAt}
-use Rattle.dfa_loading.specs.declared.fault.LoadFault.TheVariants as loads
 use Rattle.dfa_loading.specs.declared.loaded.Loaded.{Loaded}
 use Rattle.digit_tuple.specs.declared.step_fault.StepFault.TheVariants as steps
 use Rattle.digit_tuple.specs.Steps.{StepLog}
@@ -30,17 +27,18 @@ use Rattle.session_cli.specs.declared.fault.Grammar.TheVariants as grammars
 use Rattle.session_cli.specs.declared.fault.Fault.{Fault}
 use Rattle.session_cli.specs.declared.fault.Fault.TheVariants as faults
 use Rattle.session_cli.specs.Checks.{Check, Pure, Then}
+use Rattle.session_cli.specs.FileChecks.{files_loaded}
 use Rattle.definitions.specs.Trees.{Variable, Formula, Bindings, Defined, Ledger, bindings_of, custom_of}
 use Rattle.definitions.specs.Named.{IsSystemNamed}
-use Rattle.definitions.specs.Texts.{Stores}
 use Rattle.system_files.specs.SystemFiles.{Custom}
 use Rattle.definitions.specs.FormulaTexts.{HasVerdict}
 use Rattle.session_cli.specs.FormulaSteps.{AreFormulaSteps, AreStepsRefused, IsLetterMissing}
 use Rattle.session_cli.specs.SystemChecks.{systems_known}
 use Rattle.session_cli.specs.HeadAnswers.{HeadAnswers}
+use Rattle.session_cli.specs.MacroChecks.{expanded}
 use Rattle.session_cli.specs.Accepting.{Success, stored}
 
--- the formula of a quoted text, or where it breaks the grammar
+-- the formula of a text, or where it breaks the grammar
 abbrev pub FormulaAnswers : List ℕ → Result trees.Formula Fault → Type 0
 FormulaAnswers body (Ok formula) = Reads (tokens (spots body)) formula
 FormulaAnswers body (Err (faults.Syntax grammars.Formula at)) = parsing.IsSyntaxAt body at
@@ -50,19 +48,9 @@ FormulaAnswers body (Err (faults.MixedChain at)) = IsFlawed (tokens (spots body)
 FormulaAnswers body (Err (faults.NotLinear at)) = IsFlawed (tokens (spots body)) (not_linear at)
 FormulaAnswers body (Err fault) = ⊥
 
--- the tables of the files that the formula names, by the texts of the ledger; or the first that is none
-abbrev pub LoadedAnswers : Ledger → trees.Formula → Result (List Loaded) Fault → Type 0
-LoadedAnswers ledger formula (Ok tables) = (files : Files) × Stores ledger files × AreListedBy files (first_files (mentions formula)) tables
-LoadedAnswers ledger formula (Err (faults.Unknown folder name)) = (files : Files) × Stores ledger files × FirstRefuses files (first_files (mentions formula)) (loads.Unknown folder name)
-LoadedAnswers ledger formula (Err (faults.File folder name flaw)) = (files : Files) × Stores ledger files × FirstRefuses files (first_files (mentions formula)) (loads.File folder name flaw)
-LoadedAnswers ledger formula (Err fault) = ⊥
-
--- one of the files is read at this place, and those before it list tables
-abbrev pub LoadsAt : Ledger → trees.Formula → Place → Type 0
-LoadsAt ledger formula place = (files : Files) × Stores ledger files × ReadsAt files (first_files (mentions formula)) place.0 place.1
-
+-- the tables of the files that the formula names
 abbrev pub loaded : Ledger → trees.Formula → Check (List Loaded)
-loaded ledger formula = record { answers = LoadedAnswers ledger formula; reads = LoadsAt ledger formula }
+loaded ledger formula = files_loaded ledger (first_files (mentions formula))
 
 -- the systems that the formula mentions, those of the tables among them
 abbrev pub mentioned_systems : List Loaded → trees.Formula → List (List ℕ)
@@ -122,8 +110,8 @@ formula_success place bindings variables formula lines verdict = record {
   verdict = verdict;
 }
 
--- the checks after the variables are there, after the steps, after the resolution, after the systems, after the tables, after the formula, and
--- after the head
+-- the checks after the variables are there, after the steps, after the resolution, after the systems, after the tables, after the formula, after
+-- the expansion, and after the head
 abbrev pub after_variables : Custom → Place → Bindings → trees.Formula → List StepLine → List Variable → Check Success
 after_variables custom place bindings formula lines variables = Then (Pure (VerdictAnswers custom bindings variables formula)) (λ verdict. stored custom (formula_success place bindings variables formula lines verdict))
 
@@ -142,8 +130,11 @@ after_tables limit ledger place formula tables = Then (systems_known limit (cust
 abbrev pub after_formula : ℕ → Ledger → Place → trees.Formula → Check Success
 after_formula limit ledger place formula = Then (loaded ledger formula) (λ tables. after_tables limit ledger place formula tables)
 
+abbrev pub after_text : ℕ → Ledger → Place → List ℕ → Check Success
+after_text limit ledger place text = Then (Pure (FormulaAnswers text)) (λ formula. after_formula limit ledger place formula)
+
 abbrev pub after_named_head : ℕ → Ledger → Folder → NamedHead → Check Success
-after_named_head limit ledger folder head = Then (Pure (FormulaAnswers head.body)) (λ formula. after_formula limit ledger (folder, head.name) formula)
+after_named_head limit ledger folder head = Then (expanded ledger head.body) (λ text. after_text limit ledger (folder, head.name) text)
 
 -- all checks of a command of this word, whose texts stand in this folder
 abbrev pub formula_checks : List ℕ → Folder → ℕ → Ledger → List ℕ → Check Success

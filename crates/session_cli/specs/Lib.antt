@@ -10,7 +10,14 @@ pub mod TableReads
 pub mod FormulaSteps
 pub mod HeadAnswers
 pub mod RegOutcomes
+pub mod FileChecks
+pub mod MacroChecks
 pub mod FormulaOutcomes
+pub mod TextOutcomes
+pub mod MorphismChecks
+pub mod PromoteOutcomes
+pub mod CombineSteps
+pub mod CombineOutcomes
 pub mod Outcomes
 pub mod SpellingTexts
 pub mod Lines
@@ -21,6 +28,7 @@ pub mod Laws
 -- what functions inside the crate do
 pub mod FormulaFaults
 pub mod SystemFaults
+pub mod MorphismFaults
 pub mod Plans
 pub mod StoreReads
 pub mod KnownSystems
@@ -30,6 +38,11 @@ pub mod TrackSystems
 pub mod VariablesOver
 pub mod FormulaPlans
 pub mod FormulaMakes
+pub mod MacroMakes
+pub mod CombineMakes
+pub mod WordPrinting
+pub mod BaseWords
+pub mod TextPlans
 pub mod TableReading
 pub mod Commands
 pub mod Tallies

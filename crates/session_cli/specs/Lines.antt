@@ -1,5 +1,6 @@
 -- The lines of steps, of verdicts and of refused commands.
-use Rattle.std.specs.Prelude.{ℕ, suc, Bool, true, false, List, [], ◌∷◌, ◌++◌, Option, None, Some, codes, decimal}
+use Rattle.std.specs.Prelude.{ℕ, suc, ℤ, Bool, true, false, List, [], ◌∷◌, ◌++◌, Option, None, Some, codes, decimal}
+use Rattle.std.specs.Fmt.{signed_decimal}
 use Rattle.digit_tuple.specs.Kinds.{kind_name}
 use Rattle.digit_tuple.specs.declared.steps.StepLine.{StepLine}
 use Rattle.wal_outside.specs.Folders.{folder_text}
@@ -7,6 +8,8 @@ use Rattle.adder_check.specs.declared.admit_fault.Law.{Law}
 use Rattle.adder_check.specs.declared.admit_fault.Law.TheVariants as laws
 use Rattle.dfa_loading.specs.declared.fault.FileFlaw.{FileFlaw}
 use Rattle.dfa_loading.specs.declared.fault.FileFlaw.TheVariants as flaws
+use Rattle.morph_words.specs.declared.morphism_kind.MorphismKind.{MorphismKind}
+use Rattle.morph_words.specs.declared.morphism_kind.MorphismKind.TheVariants as kinds
 use Rattle.session_cli.specs.declared.fault.Grammar.{Grammar}
 use Rattle.session_cli.specs.declared.fault.Grammar.TheVariants as grammars
 use Rattle.session_cli.specs.declared.fault.Fault.{Fault}
@@ -41,7 +44,9 @@ success_text shown success = shown_steps shown success.lines ++ verdict_line suc
 abbrev pub grammar_name : Grammar → List ℕ
 grammar_name grammars.Command = codes "command"
 grammar_name grammars.Regex = codes "regex"
+grammar_name grammars.Macro = codes "macro"
 grammar_name grammars.Formula = codes "formula"
+grammar_name grammars.Rules = codes "rules"
 
 -- what is wrong with a file: a line of it, or that it is too long
 abbrev pub flaw_text : FileFlaw → List ℕ
@@ -55,6 +60,19 @@ law_name laws.Finite = codes "Finite"
 law_name laws.ZeroLaw = codes "ZeroLaw"
 law_name laws.SuccessorLaw = codes "SuccessorLaw"
 
+-- why no word is made of a morphism, and the letter that tells
+abbrev pub refusal_name : MorphismKind → List ℕ
+refusal_name (kinds.NotUniform letter) = codes "NotUniform"
+refusal_name (kinds.Length letter) = codes "Length"
+refusal_name (kinds.NotClosed letter) = codes "NotClosed"
+refusal_name (kinds.NotFixed letter) = codes "NotFixed"
+
+abbrev pub refusal_letter : MorphismKind → ℤ
+refusal_letter (kinds.NotUniform letter) = letter
+refusal_letter (kinds.Length letter) = letter
+refusal_letter (kinds.NotClosed letter) = letter
+refusal_letter (kinds.NotFixed letter) = letter
+
 -- the number, name and kept values of a fault
 abbrev pub detail : Fault → List ℕ
 detail faults.Command = codes ": F01 Command"
@@ -64,6 +82,9 @@ detail (faults.Number grammar at) = (codes ": F04 Number in " ++ grammar_name gr
 detail (faults.NotLinear at) = codes ": F05 NotLinear at " ++ decimal at
 detail (faults.Depth grammar at) = (codes ": F06 Depth in " ++ grammar_name grammar) ++ (codes " at " ++ decimal at)
 detail (faults.Long bytes) = codes ": F07 Long " ++ decimal bytes
+detail (faults.MacroArgs name place given) = ((codes ": F08 MacroArgs " ++ name) ++ (codes " " ++ decimal place)) ++ (codes " " ++ decimal given)
+detail (faults.MacroDepth name) = codes ": F09 MacroDepth " ++ name
+detail faults.MacroLong = codes ": F10 MacroLong 65536"
 detail (faults.Unknown folder name) = (codes ": F11 Unknown " ++ folder_text folder) ++ (codes "/" ++ name)
 detail (faults.File folder name flaw) = ((codes ": F12 File " ++ folder_text folder) ++ (codes "/" ++ name)) ++ flaw_text flaw
 detail (faults.Arity name tracks given) = ((codes ": F13 Arity " ++ name) ++ (codes " " ++ decimal tracks)) ++ (codes " " ++ decimal given)
@@ -75,6 +96,9 @@ detail (faults.Letters step) = codes ": F18 Letters step " ++ decimal step
 detail (faults.States step) = codes ": F19 States step " ++ decimal step
 detail (faults.WordGap name spelling) = (codes ": F20 WordGap " ++ name) ++ (codes " " ++ spelling_text spelling)
 detail (faults.Plain name) = codes ": F21 Plain " ++ name
+detail (faults.Morphism kind) = (codes ": F22 Morphism " ++ refusal_name kind) ++ (codes " " ++ signed_decimal (refusal_letter kind))
+detail (faults.LetterMissing letter) = codes ": F23 LetterMissing " ++ signed_decimal letter
+detail (faults.CombineShape first other) = (codes ": F24 CombineShape " ++ first) ++ (codes " " ++ other)
 detail (faults.Store folder name) = (codes ": F26 Store " ++ folder_text folder) ++ (codes "/" ++ name)
 detail faults.Memory = codes ": F27 Memory"
 detail faults.ScriptLimit = codes ": F28 ScriptLimit"

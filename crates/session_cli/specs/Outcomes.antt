@@ -12,6 +12,9 @@ use Rattle.definitions.specs.Trees.{Ledger}
 use Rattle.session_cli.specs.Accepting.{Success, Answer}
 use Rattle.session_cli.specs.RegOutcomes.{reg_checks}
 use Rattle.session_cli.specs.FormulaOutcomes.{formula_checks}
+use Rattle.session_cli.specs.TextOutcomes.{macro_checks, morphism_checks}
+use Rattle.session_cli.specs.PromoteOutcomes.{promote_checks}
+use Rattle.session_cli.specs.CombineOutcomes.{combine_checks}
 
 -- a command may have 65,536 bytes
 abbrev pub IsShort : List ℕ → Type 0
@@ -27,6 +30,10 @@ abbrev pub word_text : CommandWord → List ℕ
 word_text words.Reg = codes "reg"
 word_text words.Eval = codes "eval"
 word_text words.Def = codes "def"
+word_text words.Macro = codes "macro"
+word_text words.Morphism = codes "morphism"
+word_text words.Promote = codes "promote"
+word_text words.Combine = codes "combine"
 
 -- the first word is that of this command, or none that a command has
 abbrev pub WordAnswers : List ℕ → Result CommandWord Fault → Type 0
@@ -39,6 +46,10 @@ abbrev pub checks_by : CommandWord → ℕ → Ledger → List ℕ → Check Suc
 checks_by words.Reg limit ledger text = reg_checks limit ledger text
 checks_by words.Eval limit ledger text = formula_checks (word_text words.Eval) Results limit ledger text
 checks_by words.Def limit ledger text = formula_checks (word_text words.Def) Automata limit ledger text
+checks_by words.Macro limit ledger text = macro_checks ledger text
+checks_by words.Morphism limit ledger text = morphism_checks ledger text
+checks_by words.Promote limit ledger text = promote_checks limit ledger text
+checks_by words.Combine limit ledger text = combine_checks limit ledger text
 
 -- the checks after the length
 abbrev pub after_length : ℕ → Ledger → List ℕ → Check Success

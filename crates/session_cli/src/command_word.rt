@@ -14,20 +14,28 @@ pub(crate) enum CommandWord {
     Eval,
     /// `def`: a formula, kept as an automaton that later commands may name.
     Def,
+    /// `macro`: a text, kept for formulas that call it.
+    Macro,
+    /// `morphism`: rules, kept as they are printed.
+    Morphism,
+    /// `promote`: the fixed point of a morphism, kept as a word.
+    Promote,
+    /// `combine`: the word that listed automata make together.
+    Combine,
 }
 
 /// The command whose word stands first in a text. None where it is none that a command has.
 pub(crate) fn command_word(text: &[u8]) -> Option<CommandWord>
     ensures { MatchOption result ((word : CommandWord) → first_word_of text.now ≢ word_text word) (λ word. first_word_of text.now ≡ word_text word) }
 {
-    let word = first_word(text);
-    if word == b"reg".as_slice() {
-        Some(CommandWord::Reg)
-    } else if word == b"eval".as_slice() {
-        Some(CommandWord::Eval)
-    } else if word == b"def".as_slice() {
-        Some(CommandWord::Def)
-    } else {
-        None
+    match first_word(text) {
+        b"reg" => Some(CommandWord::Reg),
+        b"eval" => Some(CommandWord::Eval),
+        b"def" => Some(CommandWord::Def),
+        b"macro" => Some(CommandWord::Macro),
+        b"morphism" => Some(CommandWord::Morphism),
+        b"promote" => Some(CommandWord::Promote),
+        b"combine" => Some(CommandWord::Combine),
+        _ => None,
     }
 }

@@ -1,17 +1,23 @@
 ghost use Rattle.std.specs.Prelude.{◌≡◌};
 ghost use Rattle.session_cli.specs.declared.fault.Fault.TheVariants.{Memory};
 ghost use Rattle.session_cli.specs.TrackSystems.{fault_of};
-ghost use Rattle.session_cli.specs.FormulaFaults.{fault_of_loading, fault_of_resolution, fault_of_reading, fault_of_formula};
+ghost use Rattle.session_cli.specs.FormulaFaults.{fault_of_loading, fault_of_resolution, fault_of_reading, fault_of_formula, fault_of_expansion};
+ghost use Rattle.session_cli.specs.HeadAnswers.{fault_of_head};
+ghost use Rattle.session_cli.specs.MorphismFaults.{fault_of_promotion, fault_of_rules};
 ghost use Rattle.session_cli.specs.SystemFaults.{fault_of_system};
 
 use crate::read_fault::ReadFault;
 use adder_check::admit_fault::Law;
+use command_head::HeadFault;
 use dfa_loading::{FileFlaw, LoadFault};
 use digit_tuple::faults::OutOfMemory;
 use digit_tuple::name::Name;
 use digit_tuple::step_fault::StepFault;
+use fixed_points::promote_fault::PromoteFault;
 use formula_parse::ParseFault;
 use formula_resolve::ResolveFault;
+use macro_loading::ExpansionFault;
+use morph_words::{MorphismKind, RulesFault};
 use std::alloc::{AllocError, AllocFailed};
 use system_admission::SystemFault;
 use wal_outside::Folder;
@@ -24,8 +30,12 @@ pub enum Grammar {
     Command,
     /// The expression in its quotes.
     Regex,
-    /// The formula in its quotes.
+    /// A text in which macros are called: the one in its quotes, an argument, or the text of a macro with its arguments.
+    Macro,
+    /// The formula in its quotes, in which macros are expanded.
     Formula,
+    /// The rules in their quotes.
+    Rules,
 }
 
 /// Why a command is refused.
@@ -45,6 +55,13 @@ pub enum Fault {
     Depth(Grammar, usize),
     /// F07: it has more bytes than this, or so has the text that it was to store.
     Long(usize),
+    /// F08: the text of the macro of this name has a place of this number, for which a call with so many arguments has none.
+    /// 2^64 - 1 stands for each greater number.
+    MacroArgs(Name, u64, usize),
+    /// F09: a call of the macro of this name stands within 16 others.
+    MacroDepth(Name),
+    /// F10: a text that macros make has more than 65,536 bytes, or so many calls were expanded.
+    MacroLong,
     /// F11: nothing stands under this name in this folder.
     Unknown(Folder, Name),
     /// F12: the text that stands under this name in this folder is not one that it is read as: a line breaks the format, or it is
@@ -68,6 +85,12 @@ pub enum Fault {
     WordGap(Name, Spelling),
     /// F21: the automaton of this name is over sets.
     Plain(Name),
+    /// F22: no word is made of the morphism.
+    Morphism(MorphismKind),
+    /// F23: this letter of the word has no rule. It is the least such letter.
+    LetterMissing(i32),
+    /// F24: the first listed automaton, and the first later one that has other systems; the first twice where it has no track.
+    CombineShape(Name, Name),
     /// F26: the store failed at this file.
     Store(Folder, Name),
     /// F27: there was not enough memory.
@@ -151,6 +174,41 @@ impl From<ResolveFault> for Fault {
     }
 }
 
+impl From<HeadFault> for Fault {
+    ghost from_gives = { λ f e. e ≡ fault_of_head f };
+
+    fn from(fault: HeadFault) -> Fault {
+        match fault {
+            HeadFault::Syntax(at) => Fault::Syntax(Grammar::Command, at),
+            HeadFault::Number(at) => Fault::Number(Grammar::Command, at),
+            HeadFault::Memory => Fault::Memory,
+        }
+    }
+}
+
+impl From<RulesFault> for Fault {
+    ghost from_gives = { λ f e. e ≡ fault_of_rules f };
+
+    fn from(fault: RulesFault) -> Fault {
+        match fault {
+            RulesFault::Syntax(at) => Fault::Syntax(Grammar::Rules, at),
+            RulesFault::Number(at) => Fault::Number(Grammar::Rules, at),
+            RulesFault::Memory => Fault::Memory,
+        }
+    }
+}
+
+impl From<PromoteFault> for Fault {
+    ghost from_gives = { λ f e. e ≡ fault_of_promotion f };
+
+    fn from(fault: PromoteFault) -> Fault {
+        match fault {
+            PromoteFault::Morphism(kind) => Fault::Morphism(kind),
+            PromoteFault::Step(fault) => Fault::from(fault),
+        }
+    }
+}
+
 impl From<ParseFault> for Fault {
     ghost from_gives = { λ f e. e ≡ fault_of_formula f };
 
@@ -162,6 +220,22 @@ impl From<ParseFault> for Fault {
             ParseFault::MixedChain(at) => Fault::MixedChain(at),
             ParseFault::NotLinear(at) => Fault::NotLinear(at),
             ParseFault::Memory => Fault::Memory,
+        }
+    }
+}
+
+impl From<ExpansionFault> for Fault {
+    ghost from_gives = { λ f e. e ≡ fault_of_expansion f };
+
+    fn from(fault: ExpansionFault) -> Fault {
+        match fault {
+            ExpansionFault::Syntax(at) => Fault::Syntax(Grammar::Macro, at),
+            ExpansionFault::MacroArgs { name, place, given } => {
+                Fault::MacroArgs(name, place, given)
+            }
+            ExpansionFault::MacroDepth(name) => Fault::MacroDepth(name),
+            ExpansionFault::MacroLong => Fault::MacroLong,
+            ExpansionFault::Load(fault) => Fault::from(fault),
         }
     }
 }

@@ -14,6 +14,7 @@ ghost use Rattle.session_cli.specs.FormulaMakes.{IsReadFormula, MakesAfterTables
 ghost use Rattle.session_cli.specs.FormulaOutcomes.{after_named_head, formula_checks};
 ghost use Rattle.session_cli.specs.FormulaPlans.{LoadsTables, HasSystems};
 ghost use Rattle.session_cli.specs.FormulaSteps.{AreMeant};
+ghost use Rattle.session_cli.specs.MacroMakes.{ExpandsTo, MakesOfText};
 ghost use Rattle.session_cli.specs.Plans.{Makes, Plans};
 ghost use Rattle.session_cli.specs.StoreReads.{FromFiles, FromTexts};
 
@@ -32,6 +33,7 @@ use formula_build::{Names, build, resolve};
 use formula_parse::parse;
 use formula_parse::tree::Formula;
 use formula_resolve::{first_files, first_systems, mentions};
+use macro_loading::expanded;
 use std::alloc::Global;
 use wal_outside::{Folder, Store};
 
@@ -46,8 +48,8 @@ pub(crate) struct FormulaCommand<'a> {
     pub(crate) options: StepOptions,
 }
 
-/// What a command of this word stores and prints, or the first of its checks that refuses it: the shape of its head, its
-/// formula, the files of the automata and words that this names, its systems, its resolution, its steps, and the length of
+/// What a command of this word stores and prints, or the first of its checks that refuses it: the shape of its head, its calls
+/// of macros, its formula, the files of the automata and words that this names, its systems, its resolution, its steps, and the length of
 /// the text to store. Each file is read once, and no text is changed. Built-in systems that it names first are sealed and kept.
 pub(crate) fn plan_formula<T: Store>(
     alloc: Global,
@@ -76,7 +78,7 @@ pub(crate) fn plan_formula<T: Store>(
     }
 }
 
-/// What is made of the formula in a quoted text, whatever the command's name.
+/// What is made of the formula in a quoted text, whatever the command's name. Its calls of macros are expanded first.
 fn formula_made<T: Store>(
     alloc: Global,
     options: StepOptions,
@@ -86,7 +88,28 @@ fn formula_made<T: Store>(
 ) -> Result<Made, Fault>
     ensures { FromFiles (λ found made. (ledger : Ledger) (folder : FolderOf) (name : List ℕ) → Stores ledger found → Makes (custom_of ledger) (after_named_head options.limit ledger folder (record { name = name; body = body.now })) options.shown made) (T.view store.old) result (T.view store.new) }
 {
-    let formula = parse(alloc, body)?;
+    let text = expand_macros(alloc, body, store)?;
+    text_made(alloc, options, &text, systems, store)
+}
+
+/// The text with its calls of macros expanded, each macro read once, where it is met first.
+fn expand_macros<T: Store>(alloc: Global, body: &[u8], store: &mut T) -> Result<Vec<u8>, Fault>
+    ensures { FromFiles (ExpandsTo body.now) (T.view store.old) result (T.view store.new) }
+{
+    Ok(expanded(alloc, body, store)?)
+}
+
+/// What is made of the formula in a text without calls of macros.
+fn text_made<T: Store>(
+    alloc: Global,
+    options: StepOptions,
+    text: &[u8],
+    systems: &mut SealedSystems,
+    store: &mut T,
+) -> Result<Made, Fault>
+    ensures { FromFiles (MakesOfText options text.now) (T.view store.old) result (T.view store.new) }
+{
+    let formula = parse(alloc, text)?;
     let tables = load_tables(alloc, &formula, store)?;
     made_of(
         alloc,

@@ -1,16 +1,22 @@
 //! Laws of the definitions, each a call that does nothing.
 ghost use Rattle.session_cli.specs.Laws.{OneOutcome, OneRun, StoreFaultsCounted};
 
+use fixed_points::laws::promotions_have_one_outcome;
+
 /// A command has at most one proper outcome.
 pub fn one_outcome()
     ensures { OneOutcome }
-{}
+{
+    promotions_have_one_outcome();
+}
 
 /// Where the store tells its files and a run ends with `Done` or `Refused`, what it printed, the store's files and the status are a function of the
 /// script and of the files at the beginning.
 pub fn one_run()
     ensures { OneRun }
-{}
+{
+    promotions_have_one_outcome();
+}
 
 /// At most as many commands are refused by the store as its count of faults rose, unless that stands at its last value.
 pub fn store_faults_counted()

@@ -35,6 +35,14 @@ mod table_reading;
 mod formula_text;
 // the commands `eval` and `def`
 mod formula;
+// the commands `macro` and `morphism`
+mod texts;
+// the text of a word that a command makes
+mod word_text;
+// the command `promote`
+mod promote;
+// the command `combine`
+mod combine;
 // what a command stores and prints, from its text
 mod planning;
 // one command

@@ -1,8 +1,9 @@
 ghost use Rattle.std.specs.Prelude.{◌≡◌, ◌++◌, codes, decimal, map};
+ghost use Rattle.std.specs.Fmt.{signed_decimal};
 ghost use Rattle.std.specs.List.{flat_map};
 ghost use Rattle.wal_outside.specs.Folders.{folder_text};
 ghost use Rattle.wal_outside.specs.Sending.{Sends};
-ghost use Rattle.session_cli.specs.Lines.{grammar_name as grammar_text, flaw_text, law_name as law_text, detail, fault_line};
+ghost use Rattle.session_cli.specs.Lines.{grammar_name as grammar_text, flaw_text, refusal_name, refusal_letter, law_name as law_text, detail, fault_line};
 ghost use Rattle.session_cli.specs.SpellingTexts.{digits_text, digit_behind, letter_text, spelling_text};
 
 use crate::fault::{Fault, Grammar};
@@ -10,6 +11,7 @@ use adder_check::admit_fault::Law;
 use dfa_loading::FileFlaw;
 use digit_tuple::name::Name;
 use itoa::Buffer;
+use morph_words::MorphismKind;
 use wal_outside::{Folder, Sink, WriteFault, send, send_four, send_two};
 use word_output::spelling::Spelling;
 
@@ -21,7 +23,9 @@ impl Grammar {
         match self {
             Grammar::Command => "command",
             Grammar::Regex => "regex",
+            Grammar::Macro => "macro",
             Grammar::Formula => "formula",
+            Grammar::Rules => "rules",
         }
     }
 }
@@ -63,6 +67,9 @@ fn send_detail<K: Sink>(out: &mut K, fault: &Fault) -> Result<(), WriteFault>
         Fault::NotLinear(at) => send_number(out, b": F05 NotLinear at ", *at as u64),
         Fault::Depth(grammar, at) => send_place(out, b": F06 Depth in ", *grammar, *at),
         Fault::Long(bytes) => send_number(out, b": F07 Long ", *bytes as u64),
+        Fault::MacroArgs(name, place, given) => send_arguments(out, name, *place, *given),
+        Fault::MacroDepth(name) => send_two(out, b": F09 MacroDepth ", name.as_bytes()),
+        Fault::MacroLong => send(out, b": F10 MacroLong 65536"),
         Fault::Unknown(folder, name) => send_file(out, b": F11 Unknown ", *folder, name),
         Fault::File(folder, name, flaw) => send_flawed(out, *folder, name, *flaw),
         Fault::Arity(name, tracks, given) => send_arity(out, name, *tracks, *given),
@@ -80,6 +87,15 @@ fn send_detail<K: Sink>(out: &mut K, fault: &Fault) -> Result<(), WriteFault>
         Fault::States(step) => send_number(out, b": F19 States step ", *step),
         Fault::WordGap(name, spelling) => send_gap(out, name, spelling),
         Fault::Plain(name) => send_two(out, b": F21 Plain ", name.as_bytes()),
+        Fault::Morphism(kind) => send_kind(out, *kind),
+        Fault::LetterMissing(letter) => send_signed(out, b": F23 LetterMissing ", *letter),
+        Fault::CombineShape(first, other) => send_four(
+            out,
+            b": F24 CombineShape ",
+            first.as_bytes(),
+            b" ",
+            other.as_bytes(),
+        ),
         Fault::Store(folder, name) => send_file(out, b": F26 Store ", *folder, name),
         Fault::Memory => send(out, b": F27 Memory"),
         Fault::ScriptLimit => send(out, b": F28 ScriptLimit"),
@@ -111,6 +127,74 @@ fn send_number<K: Sink>(out: &mut K, name: &[u8], number: u64) -> Result<(), Wri
 {
     let mut buffer = Buffer::new();
     send_two(out, name, buffer.format(number).as_bytes())
+}
+
+/// Hands over a fault's number and name, and the signed number behind it.
+fn send_signed<K: Sink>(out: &mut K, name: &[u8], number: i32) -> Result<(), WriteFault>
+    ensures { Sends (K.view out.old) (name.now ++ signed_decimal number) result (K.view out.new) }
+{
+    let mut buffer = Buffer::new();
+    send_two(out, name, buffer.format(number).as_bytes())
+}
+
+/// Hands over the fault of a macro's text with a place of this number, where a call has so many arguments.
+fn send_arguments<K: Sink>(
+    out: &mut K,
+    name: &Name,
+    place: u64,
+    given: usize,
+) -> Result<(), WriteFault>
+    ensures { Sends (K.view out.old) (((codes ": F08 MacroArgs " ++ name.now) ++ (codes " " ++ decimal place)) ++ (codes " " ++ decimal given)) result (K.view out.new) }
+{
+    let mut buffer = Buffer::new();
+    send_four(
+        out,
+        b": F08 MacroArgs ",
+        name.as_bytes(),
+        b" ",
+        buffer.format(place).as_bytes(),
+    )?;
+    let mut buffer = Buffer::new();
+    send_two(out, b" ", buffer.format(given).as_bytes())
+}
+
+/// Why no word is made of a morphism, in a line.
+fn kind_name(kind: MorphismKind) -> &'static str
+    ensures { result.now ≡ refusal_name kind }
+{
+    match kind {
+        MorphismKind::NotUniform(_) => "NotUniform",
+        MorphismKind::Length(_) => "Length",
+        MorphismKind::NotClosed(_) => "NotClosed",
+        MorphismKind::NotFixed(_) => "NotFixed",
+    }
+}
+
+/// The letter that tells it.
+fn kind_letter(kind: MorphismKind) -> i32
+    ensures { result ≡ refusal_letter kind }
+{
+    match kind {
+        MorphismKind::NotUniform(letter)
+        | MorphismKind::Length(letter)
+        | MorphismKind::NotClosed(letter)
+        | MorphismKind::NotFixed(letter) => letter,
+    }
+}
+
+/// Hands over the fault of a morphism of which no word is made.
+fn send_kind<K: Sink>(out: &mut K, kind: MorphismKind) -> Result<(), WriteFault>
+    ensures { Sends (K.view out.old) ((codes ": F22 Morphism " ++ refusal_name kind) ++ (codes " " ++ signed_decimal (refusal_letter kind))) result (K.view out.new) }
+{
+    let letter = kind_letter(kind);
+    let mut buffer = Buffer::new();
+    send_four(
+        out,
+        b": F22 Morphism ",
+        kind_name(kind).as_bytes(),
+        b" ",
+        buffer.format(letter).as_bytes(),
+    )
 }
 
 /// Hands over a fault's number and name, and the file that it is about.

@@ -7,13 +7,16 @@ ghost use Rattle.session_cli.specs.Outcomes.{checks_of};
 ghost use Rattle.session_cli.specs.Plans.{Plans};
 ghost use Rattle.session_cli.specs.StoreReads.{FromFiles};
 
+use crate::combine::plan_combine;
 use crate::command_word::{CommandWord, command_word};
 use crate::fault::Fault;
 use crate::formula::{FormulaCommand, plan_formula};
 use crate::plan::Plan;
+use crate::promote::plan_promote;
 use crate::reg::plan_reg;
 use crate::sealed_systems::SealedSystems;
 use crate::step_options::StepOptions;
+use crate::texts::{plan_macro, plan_morphism};
 use std::alloc::Global;
 use wal_outside::{Folder, Store};
 
@@ -64,6 +67,10 @@ pub(crate) fn plan_of<T: Store>(
         Some(CommandWord::Reg) => plan_reg(alloc, options, text, store),
         Some(CommandWord::Eval) => plan_formula(alloc, eval(options), text, systems, store),
         Some(CommandWord::Def) => plan_formula(alloc, def(options), text, systems, store),
+        Some(CommandWord::Macro) => plan_macro(alloc, text),
+        Some(CommandWord::Morphism) => plan_morphism(alloc, text),
+        Some(CommandWord::Promote) => plan_promote(alloc, options, text, store),
+        Some(CommandWord::Combine) => plan_combine(alloc, options, text, systems, store),
         None => Err(Fault::Command),
     }
 }

@@ -138,7 +138,7 @@ static FAULTS: [(&str, &str); 26] = [
     ("eval a \"\";", "error 1: F02 Syntax in formula at 0\n"),
     (
         "eval a \"#dbl(6)\";",
-        "error 1: F02 Syntax in formula at 0\n",
+        "error 1: F11 Unknown Macro Library/dbl\n",
     ),
     (
         "eval a \"$f(x)\";",

@@ -64,6 +64,46 @@ mod word_rows;
 #[cfg(test)]
 mod word_theorems;
 
+// stores that hold given files, and tables of runs over them
+#[cfg(test)]
+mod given;
+
+// macros in formulas, their faults, and their limits
+#[cfg(test)]
+mod macro_faults;
+#[cfg(test)]
+mod macro_limits;
+#[cfg(test)]
+mod macro_order;
+#[cfg(test)]
+mod macro_rows;
+
+// rules of morphisms, and their fixed points
+#[cfg(test)]
+mod morphism_files;
+#[cfg(test)]
+mod morphism_rows;
+#[cfg(test)]
+mod promotion_rows;
+#[cfg(test)]
+mod promotion_texts;
+
+// automata combined to words
+#[cfg(test)]
+mod combine_faults;
+#[cfg(test)]
+mod combine_files;
+#[cfg(test)]
+mod combine_rows;
+#[cfg(test)]
+mod combine_steps;
+#[cfg(test)]
+mod combine_texts;
+
+// theorems on words that commands make
+#[cfg(test)]
+mod word_command_theorems;
+
 // systems of users in commands, and the files that define them
 #[cfg(test)]
 mod tribonacci_adder;

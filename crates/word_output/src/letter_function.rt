@@ -5,7 +5,7 @@ ghost use Rattle.digit_tuple.specs.Deterministic.{states_of, letters_of};
 ghost use Rattle.digit_tuple.specs.FirstWords.{IsNumberedByFirsts};
 ghost use Rattle.digit_tuple.specs.Letters.{IsWord};
 ghost use Rattle.minimise.specs.Classes.{class_of};
-ghost use Rattle.word_output.specs.LetterFunctions.{IsLetterFunction, letter_after, letter_in};
+ghost use Rattle.word_output.specs.LetterFunctions.{IsLetterFunction, letter_after, letter_in, output_in, outputs_of};
 ghost use Rattle.word_output.specs.StateLetters.{letter_led};
 
 use crate::state_letters::{classes_of, distinct_letters};
@@ -80,6 +80,18 @@ impl LetterFunction {
         }
     }
 
+    /// What the states print, in their order: each its letter, and 0 where it has none. Out of memory gives nothing.
+    pub fn outputs(&self, alloc: Global) -> Result<Vec<i32>, OutOfMemory>
+        ensures outputs { IfOk result (λ outputs. outputs.items ≡ outputs_of self.now) }
+        ensures count { length (outputs_of self.now) ≡ states_of self.now.automaton }
+    {
+        let mut outputs = Vec::with_capacity(alloc, self.table_classes.len())?;
+        for class in &self.table_classes {
+            outputs.push(output_of(&self.table_letters, *class))?;
+        }
+        Ok(outputs)
+    }
+
     /// The class of each state.
     pub fn classes(&self) -> &[u32]
         ensures value { result.now ≡ self.now.classes }
@@ -94,5 +106,17 @@ impl LetterFunction {
         ensures function { IsLetterFunction self.now }
     {
         &self.table_letters
+    }
+}
+
+// What a state of the class prints.
+fn output_of(letters: &[i32], class: u32) -> i32
+    requires { class ≤ length letters.now }
+    ensures { result ≡ output_in letters.now class }
+{
+    if class == 0 {
+        0
+    } else {
+        letters[class as usize - 1]
     }
 }

@@ -5,7 +5,8 @@ use Rattle.std.specs.Int.{w32}
 use Rattle.std.proofs.lemmas.Int.{to_z-of_z}
 use mir.Val.{SFits}
 use Rattle.morph_words.specs.Rules.{image_of}
-use Rattle.fixed_points.specs.LeastLetters.{IsLeastOf, LacksBelow}
+use Rattle.morph_words.specs.Uniform.{IsLeastOf}
+use Rattle.fixed_points.specs.LeastLetters.{LacksBelow}
 use Rattle.fixed_points.proofs.LeastLemmas.{below_more, below_stay, lacking_all}
 use Rattle.fixed_points.proofs.fixed_base.least_lacking.Goals as goal
 use Rattle.fixed_points.proofs.fixed_base.least_lacking.Goals.{in-Some, in_default}

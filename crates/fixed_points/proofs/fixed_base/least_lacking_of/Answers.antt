@@ -4,7 +4,8 @@ use Rattle.std.proofs.lemmas.Bool.{false≢true}
 use Rattle.std.proofs.lemmas.Int.{to_z-of_z}
 use mir.Val.{SFits}
 use Rattle.morph_words.specs.Rules.{has}
-use Rattle.fixed_points.specs.LeastLetters.{IsLeastOf, LacksAmong, lesser}
+use Rattle.morph_words.specs.Uniform.{IsLeastOf}
+use Rattle.fixed_points.specs.LeastLetters.{LacksAmong, lesser}
 use Rattle.fixed_points.proofs.LeastLemmas.{among_more, among_stay, copied_has}
 use Rattle.fixed_points.proofs.fixed_base.least_lacking_of.Goals as goal
 use Rattle.fixed_points.proofs.fixed_base.least_lacking_of.Goals.{then-is_none, else-is_none}

@@ -1,4 +1,5 @@
-use Rattle.fixed_points.specs.LeastLetters.{IsLeastOf, LacksAmong}
+use Rattle.morph_words.specs.Uniform.{IsLeastOf}
+use Rattle.fixed_points.specs.LeastLetters.{LacksAmong}
 use Rattle.fixed_points.proofs.fixed_base.least_lacking_of.Given as goal
 
 abbrev pub invariant-loop-letter : goal.invariant-loop-letter

@@ -7,11 +7,11 @@ use Rattle.digit_tuple.specs.declared.faults.OpFault.TheVariants.{States}
 use Rattle.word_output.specs.StateLetters.{letter_led}
 use Rattle.morph_words.specs.Rules.{IsMorphism, Rules}
 use Rattle.fixed_points.specs.LetterGraph.{IsLetterGraph, accepts_all}
-use Rattle.fixed_points.specs.MorphismKinds.{HasFixedPoint}
+use Rattle.morph_words.specs.MorphismKinds.{HasFixedPoint}
 use Rattle.fixed_points.specs.Occurrences.{SoManyOccur}
 use Rattle.fixed_points.proofs.BaseLemmas.{one_fits}
 use Rattle.fixed_points.proofs.ReachedLemmas.{so_many_occur, some_occur}
-use Rattle.fixed_points.proofs.RuleLemmas.{bits_back}
+use Rattle.morph_words.proofs.RuleLemmas.{bits_back}
 use Rattle.fixed_points.proofs.WordLemmas.{letter_reached}
 use Rattle.fixed_points.proofs.fixed_letters.fixed_letters.Goals as goal
 

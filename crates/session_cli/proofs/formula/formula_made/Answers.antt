@@ -1,36 +1,22 @@
+use Rattle.std.proofs.Common.{◌≡◌, ℕ, List, Result, Ok, sym, ap, ◌∙◌}
 use Rattle.std.proofs.lemmas.Result.{err_from_is_err_and}
-use Rattle.formula_parse.specs.Views.{formula_view}
-use Rattle.session_cli.proofs.FormulaChains.{head_unparsed, head_parsed, formula_unloaded, formula_loaded}
-use Rattle.session_cli.proofs.FormulaRefusals.{unparsed_formula, unloaded}
-use Rattle.session_cli.proofs.FilesElsewhere.{loads_elsewhere}
-use Rattle.session_cli.proofs.StoreReads.{own_parse, from_none, from_refused}
-use Rattle.session_cli.proofs.TextReads.{then_texts}
+use Rattle.macro_expand.specs.declared.fault.MacroFault.{MacroFault}
+use Rattle.session_cli.proofs.FormulaChains.{head_unexpanded, head_expanded}
+use Rattle.session_cli.proofs.MacroReads.{unexpanded, expanded_alike, then_macros}
+use Rattle.session_cli.proofs.StoreReads.{from_refused}
 use Rattle.session_cli.proofs.formula.formula_made.Goals as goal
-use Rattle.definitions.proofs.CustomTexts.{stored_custom}
-use Rattle.std.proofs.Common.{Err}
 
-pub returns-in_err-formula : goal.returns-in_err-formula
-returns-in_err-formula g c =
+pub returns-in_err-text : goal.returns-in_err-text
+returns-in_err-text g c =
     let p = err_from_is_err_and c.from_residual.result c.from_residual.ensures.1 in
-    let fault = c.in_err-formula.field-0.0 in
-    rw (p.1, p.2) (from_none _ _ _ (own_parse fault)
-    (λ found ledger folder name stores. head_unparsed c.args.options.limit ledger folder (record { name = name; body = c.args.body.now }) _ (unparsed_formula c.args.body.now fault c.in_err-formula.ensures)))
-
-pub returns-in_err-tables : goal.returns-in_err-tables
-returns-in_err-tables g c =
-    let p = err_from_is_err_and c.from_residual-in_err-tables.result c.from_residual-in_err-tables.ensures.1 in
-    let f = formula_view c.in_ok-formula.formula in
-    rw (p.1, p.2) (from_refused _ _ _ _ c.in_err-tables.field-0.0 c.in_err-tables.ensures
-    (λ found refused ledger folder name stores. head_parsed c.args.options.limit ledger folder (record { name = name; body = c.args.body.now }) f c.args.options.shown (Err c.in_err-tables.field-0.0) c.in_ok-formula.ensures
-    (formula_unloaded c.args.options.limit ledger (folder, name) f c.in_err-tables.field-0.0 (unloaded ledger found f c.in_err-tables.field-0.0 stores refused))))
-
-pub made_of-requires : goal.made_of-requires
-made_of-requires g c = record { text = c.args.body.now; reads = c.in_ok-formula.ensures; files = c.in_ok-tables.ensures.found; listed = c.in_ok-tables.ensures.gives }
+    let fault = c.in_err-text.field-0.0 in
+    rw (p.1, p.2) (from_refused _ _ _ _ fault c.in_err-text.ensures
+    (λ found refused ledger folder name stores. head_unexpanded c.args.options.limit ledger folder (record { name = name; body = c.args.body.now }) fault (unexpanded ledger found c.args.body.now fault stores refused)))
 
 pub returns : goal.returns
 returns g c =
-    let f = formula_view c.in_ok-formula.formula in
-    let tables = c.in_ok-tables.tables.items in
-    then_texts _ _ _ _ _ _ c.in_ok-tables.tables c.made_of.result c.in_ok-tables.ensures c.made_of.ensures (λ found custom listed. loads_elsewhere found custom f c.in_ok-tables.tables listed)
-    (λ found listed makes ledger folder name stores. head_parsed c.args.options.limit ledger folder (record { name = name; body = c.args.body.now }) f c.args.options.shown c.made_of.result c.in_ok-formula.ensures
-    (formula_loaded c.args.options.limit ledger (folder, name) f tables c.args.options.shown c.made_of.result (found, stores, listed) (makes ledger found (folder, name) stores (stored_custom ledger found stores) listed)))
+    let text : List ℕ = c.deref.result.now in
+    let same : c.in_ok-text.text.items ≡ text = sym c.deref.ensures.value in
+    then_macros _ _ _ _ _ _ c.in_ok-text.text c.text_made.result c.in_ok-text.ensures c.text_made.ensures
+    (λ one two found same_macros others expands makes ledger folder name stores. head_expanded c.args.options.limit ledger folder (record { name = name; body = c.args.body.now }) text c.args.options.shown c.text_made.result
+    (found, stores, expanded_alike found one c.args.body.now text same_macros (expands ∙ ap (λ (t : List ℕ). let x : Result (List ℕ) MacroFault = Ok t in x) same)) (makes ledger found (folder, name) stores others))

@@ -1,3 +1,7 @@
+use Rattle.std.proofs.Common.{rules}
+use Rattle.std.proofs.lemmas.Int.{to_z-of_z}
+use mir.Val.{SFits}
+use mir.Syntax.{w32}
 use Rattle.session_cli.proofs.lines.send_detail.Goals as goal
 
 pub returns-in-Syntax : goal.returns-in-Syntax
@@ -16,7 +20,7 @@ pub returns-in-Depth : goal.returns-in-Depth
 returns-in-Depth g c = rw c.in-Depth.is c.send_place-in-Depth.ensures
 
 pub returns-in-SystemUnknown : goal.returns-in-SystemUnknown
-returns-in-SystemUnknown g c = rw (c.in-SystemUnknown.is) (rw c.as_bytes.ensures at c.send_two.ensures)
+returns-in-SystemUnknown g c = rw (c.in-SystemUnknown.is) (rw c.as_bytes-in-SystemUnknown.ensures at c.send_two-in-SystemUnknown.ensures)
 
 pub returns-in-NotAdmitted : goal.returns-in-NotAdmitted
 returns-in-NotAdmitted g c = rw c.in-NotAdmitted.is c.send_law.ensures
@@ -50,3 +54,23 @@ returns-in-File g c = rw c.in-File.is c.send_flawed.ensures
 
 pub returns-in-WordGap : goal.returns-in-WordGap
 returns-in-WordGap g c = rw c.in-WordGap.is c.send_gap.ensures
+
+pub returns-in-MacroArgs : goal.returns-in-MacroArgs
+returns-in-MacroArgs g c = rw c.in-MacroArgs.is c.send_arguments.ensures
+
+pub returns-in-MacroDepth : goal.returns-in-MacroDepth
+returns-in-MacroDepth g c = rw c.in-MacroDepth.is (rw c.as_bytes.ensures at c.send_two.ensures)
+
+pub returns-in-MacroLong : goal.returns-in-MacroLong
+returns-in-MacroLong g c = rw c.in-MacroLong.is c.send-in-MacroLong.ensures.sent
+
+pub returns-in-Morphism : goal.returns-in-Morphism
+returns-in-Morphism g c = rw c.in-Morphism.is c.send_kind.ensures
+
+pub returns-in-LetterMissing : goal.returns-in-LetterMissing
+returns-in-LetterMissing g c =
+    let fits : SFits w32 c.in-LetterMissing.letter = search rules in
+    rw c.in-LetterMissing.is (simp to_z-of_z at c.send_signed.ensures)
+
+pub returns-in-CombineShape : goal.returns-in-CombineShape
+returns-in-CombineShape g c = rw c.in-CombineShape.is (rw (c.as_bytes-in-CombineShape.ensures, c.as_bytes-in-CombineShape-2.ensures) at c.send_four-in-CombineShape.ensures)

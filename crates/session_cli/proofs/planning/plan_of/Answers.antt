@@ -1,10 +1,13 @@
-use Rattle.std.proofs.Common.{refl}
+use Rattle.std.proofs.Common.{None, refl}
+use Rattle.definitions.specs.Trees.{Ledger, custom_of}
 use Rattle.definitions.proofs.CustomTexts.{stored_custom}
 use Rattle.wal_outside.specs.declared.folder.Folder.TheVariants.{Automata, Results}
 use Rattle.session_cli.specs.Outcomes.{word_text}
+use Rattle.session_cli.specs.TextOutcomes.{macro_checks, morphism_checks}
 use Rattle.session_cli.specs.declared.command_word.CommandWord.TheVariants as words
-use Rattle.session_cli.proofs.StoreReads.{from_none, from_part}
+use Rattle.session_cli.proofs.StoreReads.{from_none, from_part, own_plan}
 use Rattle.session_cli.proofs.TextReads.{files_of_texts}
+use Rattle.session_cli.proofs.TextSteps.{macro_reads_none, morphism_reads_none}
 use Rattle.session_cli.proofs.WordSteps.{planned_by_word, planned_formula, too_long, no_word}
 use Rattle.session_cli.proofs.planning.plan_of.Goals as goal
 
@@ -25,6 +28,34 @@ returns-in-Some-Def g c =
     from_part _ _ _ _ c.plan_formula-in-Some-Def.result c.plan_formula-in-Some-Def.ensures
     (λ found plans ledger stores. planned_by_word words.Def c.args.options.limit ledger c.args.text.now c.args.options.shown c.plan_formula-in-Some-Def.result c.if-text-gt-COMMAND_LIMIT.false (rw c.in-Some-Def.field-0-is at c.in-Some-Def.ensures)
     (planned_formula c.def.result.word.now (word_text words.Def) c.def.result.folder Automata c.def.result.options c.args.options ledger c.args.text.now c.plan_formula-in-Some-Def.result c.def.ensures.word c.def.ensures.folder c.def.ensures.options (plans ledger stores)))
+
+-- no entry
+nothing : Ledger
+nothing = λ folder name. None
+
+pub returns-in-Some-Macro : goal.returns-in-Some-Macro
+returns-in-Some-Macro g c =
+    let text = c.args.text.now in
+    let shown = c.args.options.shown in
+    from_none _ _ c.plan_macro.result (own_plan (custom_of nothing) (macro_checks nothing text) (macro_reads_none nothing text) shown c.plan_macro.result (c.plan_macro.ensures nothing shown))
+    (λ found ledger stores. planned_by_word words.Macro c.args.options.limit ledger text shown c.plan_macro.result c.if-text-gt-COMMAND_LIMIT.false (rw c.in-Some-Macro.field-0-is at c.in-Some-Macro.ensures) (c.plan_macro.ensures ledger shown))
+
+pub returns-in-Some-Morphism : goal.returns-in-Some-Morphism
+returns-in-Some-Morphism g c =
+    let text = c.args.text.now in
+    let shown = c.args.options.shown in
+    from_none _ _ c.plan_morphism.result (own_plan (custom_of nothing) (morphism_checks nothing text) (morphism_reads_none nothing text) shown c.plan_morphism.result (c.plan_morphism.ensures nothing shown))
+    (λ found ledger stores. planned_by_word words.Morphism c.args.options.limit ledger text shown c.plan_morphism.result c.if-text-gt-COMMAND_LIMIT.false (rw c.in-Some-Morphism.field-0-is at c.in-Some-Morphism.ensures) (c.plan_morphism.ensures ledger shown))
+
+pub returns-in-Some-Promote : goal.returns-in-Some-Promote
+returns-in-Some-Promote g c =
+    from_part _ _ _ _ c.plan_promote.result c.plan_promote.ensures
+    (λ found plans ledger stores. planned_by_word words.Promote c.args.options.limit ledger c.args.text.now c.args.options.shown c.plan_promote.result c.if-text-gt-COMMAND_LIMIT.false (rw c.in-Some-Promote.field-0-is at c.in-Some-Promote.ensures) (plans ledger stores))
+
+pub returns-in-Some-Combine : goal.returns-in-Some-Combine
+returns-in-Some-Combine g c =
+    from_part _ _ _ _ c.plan_combine.result c.plan_combine.ensures
+    (λ found plans ledger stores. planned_by_word words.Combine c.args.options.limit ledger c.args.text.now c.args.options.shown c.plan_combine.result c.if-text-gt-COMMAND_LIMIT.false (rw c.in-Some-Combine.field-0-is at c.in-Some-Combine.ensures) (plans ledger stores))
 
 pub returns-then-text-gt-COMMAND_LIMIT : goal.returns-then-text-gt-COMMAND_LIMIT
 returns-then-text-gt-COMMAND_LIMIT g c = from_none _ _ _ refl (λ found ledger stores. too_long c.args.options.limit ledger c.args.text.now c.if-text-gt-COMMAND_LIMIT.true)

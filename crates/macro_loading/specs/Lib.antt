@@ -1,0 +1,2 @@
+pub mod MacroFiles
+pub mod Reading

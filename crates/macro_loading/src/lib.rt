@@ -1,0 +1,21 @@
+//! The expansion of a text by the macros that stand in a store.
+//!
+//! `expanded` expands a text as `macro_expand` does, by the texts in the store's folder of macros. Each macro is read once,
+//! where it is first met, and no other (`specs/MacroFiles.antt`).
+#![tactic(auto)]
+
+/// Why a text is not expanded.
+mod fault;
+
+/// The macros that stand in a store, read as their names are met.
+mod macro_files;
+
+/// The expansion of a text.
+mod expanding;
+
+/// What holds of all expansions.
+mod laws;
+
+pub use expanding::expanded;
+pub use fault::ExpansionFault;
+pub use laws::expansions_by_files_have_one_answer;

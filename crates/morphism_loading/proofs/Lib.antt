@@ -1,0 +1,3 @@
+-- Lemmas.
+pub mod MorphismSteps
+pub mod OneAnswer

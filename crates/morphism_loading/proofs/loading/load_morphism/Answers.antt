@@ -1,0 +1,5 @@
+use Rattle.morphism_loading.proofs.MorphismSteps.{no_memory}
+use Rattle.morphism_loading.proofs.loading.load_morphism.Goals as goal
+
+pub returns-in_err-copy : goal.returns-in_err-copy
+returns-in_err-copy g c = no_memory c.args.name.now (g.T.Store.view c.args.store.now) c.from_residual.result c.from_residual.ensures.1

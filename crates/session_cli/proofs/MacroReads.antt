@@ -1,0 +1,149 @@
+-- What calls of macros read: texts among macros, beside whatever is read of other folders after them.
+use Rattle.std.proofs.Common.{◌≡◌, ◌≢◌, ℕ, ◌≤◌, List, [], ◌∷◌, Option, None, Some, IfSome, Result, Ok, Err, inl, inr, refl, sym, ap, ◌∙◌, subst, arith}
+use Rattle.std.specs.declared.alloc.Global.{Global}
+use Rattle.std.specs.declared.vec.Vec.{Vec}
+use Rattle.wal_outside.specs.Causes.{CountsFault}
+use Rattle.wal_outside.specs.Files.{Files}
+use Rattle.wal_outside.specs.Views.{StoreView}
+use Rattle.wal_outside.specs.declared.folder.Folder.{Folder}
+use Rattle.wal_outside.specs.declared.folder.Folder.TheVariants.{Automata, Words, Bases, Macros, Morphisms, Results, Commands}
+use Rattle.dfa_loading.specs.declared.fault.LoadFault.TheVariants as loads
+use Rattle.macro_expand.specs.Expansion.{expansion}
+use Rattle.macro_expand.specs.declared.fault.MacroFault.{MacroFault}
+use Rattle.macro_expand.specs.Texts.{TextOf}
+use Rattle.macro_loading.specs.MacroFiles as macros
+use Rattle.macro_loading.specs.MacroFiles.{IsExpanded, macros_of, short_text}
+use Rattle.macro_loading.specs.declared.fault.ExpansionFault.{ExpansionFault}
+use Rattle.macro_loading.specs.declared.fault.ExpansionFault.TheVariants as expansions
+use Rattle.definitions.specs.Trees.{Ledger}
+use Rattle.definitions.specs.Texts.{Stores}
+use Rattle.session_cli.specs.declared.fault.Grammar.TheVariants as grammars
+use Rattle.session_cli.specs.declared.fault.Fault.{Fault}
+use Rattle.session_cli.specs.declared.fault.Fault.TheVariants as faults
+use Rattle.session_cli.specs.Checks.{Fails}
+use Rattle.session_cli.specs.FormulaFaults.{fault_of_expansion}
+use Rattle.session_cli.specs.MacroChecks.{expanded}
+use Rattle.session_cli.specs.MacroMakes.{ExpandsTo, IsUnexpanded, SameButMacros}
+use Rattle.session_cli.specs.StoreReads.{IsReadFault, FromFiles}
+use Rattle.session_cli.proofs.TextReads.{reads_both}
+
+unexpanded_so : (files : Files) (body : List ℕ) (f : ExpansionFault) → macros.Fails files body f → IsUnexpanded files body (fault_of_expansion f)
+unexpanded_so files body (expansions.Syntax at) is = is
+unexpanded_so files body (expansions.MacroArgs name n given) is = is
+unexpanded_so files body (expansions.MacroDepth name) is = is
+unexpanded_so files body expansions.MacroLong is = is
+unexpanded_so files body (expansions.Load (loads.Unknown folder name)) is = is
+unexpanded_so files body (expansions.Load (loads.File folder name flaw)) is = is
+unexpanded_so files body (expansions.Load (loads.Store folder name)) is = is
+unexpanded_so files body (expansions.Load loads.Memory) is = tt
+
+later_so : (f : ExpansionFault) (before now : ℕ) → CountsFault (macros.is_store_fault {X = Vec ℕ Global} (Err f)) before now → before ≤ now
+later_so (expansions.Syntax at) before now is = omega (arith, is)
+later_so (expansions.MacroArgs name n given) before now is = omega (arith, is)
+later_so (expansions.MacroDepth name) before now is = omega (arith, is)
+later_so expansions.MacroLong before now is = omega (arith, is)
+later_so (expansions.Load (loads.Unknown folder name)) before now is = omega (arith, is)
+later_so (expansions.Load (loads.File folder name flaw)) before now is = omega (arith, is)
+later_so (expansions.Load (loads.Store folder name)) before now is = is.0
+later_so (expansions.Load loads.Memory) before now is = omega (arith, is)
+
+caused_so : (f : ExpansionFault) (old new : StoreView) → macros.IsCausedBy f old new → IsReadFault (fault_of_expansion f) old new
+caused_so (expansions.Syntax at) old new is = is
+caused_so (expansions.MacroArgs name n given) old new is = is
+caused_so (expansions.MacroDepth name) old new is = is
+caused_so expansions.MacroLong old new is = is
+caused_so (expansions.Load (loads.Unknown folder name)) old new is = is
+caused_so (expansions.Load (loads.File folder name flaw)) old new is = is
+caused_so (expansions.Load (loads.Store folder name)) old new is = is
+caused_so (expansions.Load loads.Memory) old new is = is
+
+pub macros_read : (body : List ℕ) (old new : StoreView) (text : Vec ℕ Global) → IsExpanded body old (Ok text) new → FromFiles (ExpandsTo body) old (Ok text) new
+macros_read body old new text e = record { found = e.found; told = e.told; gives = e.gives; has_read = record { files = e.has_read.files; later = let same : new.faults ≡ old.faults = e.has_read.faults in omega (arith, same); cause = e.has_read.cause } }
+
+pub macros_unread : (body : List ℕ) (old new : StoreView) (f : ExpansionFault) → IsExpanded body old (Err f) new → FromFiles {X = Vec ℕ Global} (ExpandsTo body) old (Err (fault_of_expansion f)) new
+macros_unread body old new f e = record {
+  found = e.found;
+  told = e.told;
+  gives = unexpanded_so e.found body f e.gives;
+  has_read = record { files = e.has_read.files; later = later_so f old.faults new.faults e.has_read.faults; cause = caused_so f old new e.has_read.cause };
+}
+
+-- a text that is not expanded refuses a command
+pub unexpanded : (ledger : Ledger) (files : Files) (body : List ℕ) (fault : Fault) → Stores ledger files → IsUnexpanded files body fault → Fails (expanded ledger body) fault
+unexpanded ledger files body faults.Command stores is = absurd is
+unexpanded ledger files body (faults.Syntax grammars.Command at) stores is = absurd is
+unexpanded ledger files body (faults.Syntax grammars.Regex at) stores is = absurd is
+unexpanded ledger files body (faults.Syntax grammars.Macro at) stores is = (files, stores, is)
+unexpanded ledger files body (faults.Syntax grammars.Formula at) stores is = absurd is
+unexpanded ledger files body (faults.Syntax grammars.Rules at) stores is = absurd is
+unexpanded ledger files body (faults.MixedChain at) stores is = absurd is
+unexpanded ledger files body (faults.Number grammar at) stores is = absurd is
+unexpanded ledger files body (faults.NotLinear at) stores is = absurd is
+unexpanded ledger files body (faults.Depth grammar at) stores is = absurd is
+unexpanded ledger files body (faults.Long bytes) stores is = absurd is
+unexpanded ledger files body (faults.MacroArgs of n given) stores is = (files, stores, is)
+unexpanded ledger files body (faults.MacroDepth of) stores is = (files, stores, is)
+unexpanded ledger files body faults.MacroLong stores is = (files, stores, is)
+unexpanded ledger files body (faults.Unknown folder name) stores is = (files, stores, is)
+unexpanded ledger files body (faults.File folder name flaw) stores is = (files, stores, is)
+unexpanded ledger files body (faults.Arity of tracks given) stores is = absurd is
+unexpanded ledger files body (faults.SystemUnknown of) stores is = absurd is
+unexpanded ledger files body (faults.NotAdmitted of law) stores is = absurd is
+unexpanded ledger files body (faults.Clash of one two) stores is = absurd is
+unexpanded ledger files body (faults.Direction one two) stores is = absurd is
+unexpanded ledger files body (faults.Letters step) stores is = absurd is
+unexpanded ledger files body (faults.States step) stores is = absurd is
+unexpanded ledger files body (faults.WordGap of spelling) stores is = absurd is
+unexpanded ledger files body (faults.Plain of) stores is = absurd is
+unexpanded ledger files body (faults.Morphism kind) stores is = absurd is
+unexpanded ledger files body (faults.LetterMissing letter) stores is = absurd is
+unexpanded ledger files body (faults.CombineShape one two) stores is = absurd is
+unexpanded ledger files body (faults.Store folder name) stores is = (files, stores, is)
+unexpanded ledger files body faults.Memory stores is = tt
+unexpanded ledger files body faults.ScriptLimit stores is = absurd is
+
+-- the expansion is that by other files where the macros are the same
+pub expanded_alike : (files others : Files) (body text : List ℕ) → ((name : List ℕ) → files Macros name ≡ others Macros name) → expansion (macros_of others) body ≡ Ok text → expansion (macros_of files) body ≡ Ok text
+expanded_alike files others body text same is =
+    let alike : macros_of files ≡ macros_of others = λ i name. short_text (same name i) in
+    ap (λ (texts : TextOf). expansion texts body) alike ∙ is
+
+-- the files with the macros of others
+with_macros : Files → Files → Files
+with_macros files others Automata = files Automata
+with_macros files others Words = files Words
+with_macros files others Bases = files Bases
+with_macros files others Macros = others Macros
+with_macros files others Morphisms = files Morphisms
+with_macros files others Results = files Results
+with_macros files others Commands = files Commands
+
+same_others : (files others : Files) → SameButMacros (with_macros files others) files
+unfolding with_macros
+same_others files others Automata name other = refl
+same_others files others Words name other = refl
+same_others files others Bases name other = refl
+same_others files others Macros name other = absurd (other refl)
+same_others files others Morphisms name other = refl
+same_others files others Results name other = refl
+same_others files others Commands name other = refl
+
+-- files that are the store's where it tells them, with the macros of one and all else of the other
+record AreJoined (told : Option Files) (one two : Files) : Type 0 where
+  found : Files
+  told_so : IfSome told (λ (files : Files). found ≡ files)
+  same_macros : (name : List ℕ) → found Macros name ≡ one Macros name
+  others : SameButMacros found two
+
+joined : (told : Option Files) (one two : Files) → IfSome told (λ (files : Files). one ≡ files) → IfSome told (λ (files : Files). two ≡ files) → AreJoined told one two
+unfolding with_macros
+joined None one two a b = record { found = with_macros two one; told_so = tt; same_macros = λ name. refl; others = same_others two one }
+joined (Some files) one two a b = record { found = one; told_so = a; same_macros = λ name. refl; others = λ folder name other. ap (λ (f : Files). f folder name) (a ∙ sym b) }
+
+-- what is read of other folders after the macros is read beside them
+pub then_macros : {X Y : Type 0} (First : Files → Result X Fault → Type 0) (Second : Files → Result Y Fault → Type 0) (Gives : Files → Result Y Fault → Type 0) (old mid new : StoreView) (x : X) (r : Result Y Fault) → FromFiles First old (Ok x) mid → FromFiles Second mid r new
+    → ((one two found : Files) → ((name : List ℕ) → found Macros name ≡ one Macros name) → SameButMacros found two → First one (Ok x) → Second two r → Gives found r) → FromFiles Gives old r new
+then_macros First Second Gives old mid new x r first second so =
+    let there : IfSome old.files (λ (files : Files). second.found ≡ files) = subst (λ (o : Option Files). IfSome o (λ (files : Files). second.found ≡ files)) first.has_read.files second.told in
+    let j = joined old.files first.found second.found first.told there in
+    record { found = j.found; told = j.told_so; gives = so first.found second.found j.found j.same_macros j.others first.gives second.gives; has_read = reads_both old mid new x r first.has_read second.has_read }

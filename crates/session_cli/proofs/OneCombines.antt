@@ -1,0 +1,379 @@
+-- A `combine` has one outcome.
+use Rattle.std.proofs.Common.{◌≡◌, ◌≢◌, ◌⊎◌, ℕ, suc, ◌<◌, List, [], ◌∷◌, length, None, Some, Result, Ok, Err, inl, inr, refl, sym, ap, ◌∙◌, subst, arith}
+use Rattle.std.specs.List.{AllByRecursion}
+use Rattle.wal_outside.specs.Files.{Files}
+use Rattle.combinations.specs.Combined.{AreSystemsFor}
+use Rattle.combinations.specs.CombineSteps.{IsCombineDone, IsCombineRefused}
+use Rattle.combinations.specs.Laws.{HasOneCombination}
+use Rattle.combinations.specs.Parts.{PartValue}
+use Rattle.combinations.specs.declared.combine_fault.CombineFault.TheVariants as combines
+use Rattle.combinations.proofs.OutcomeLemmas.{one_outcome}
+use Rattle.command_head.specs.Grammar.{SpellsCombine}
+use Rattle.command_head.specs.Heads.{CombineHead, ValuedName}
+use Rattle.command_head.specs.Values.{value_at}
+use Rattle.command_head.proofs.CombineHeads.{one_combine}
+use Rattle.command_head.proofs.OneFault.{one_head}
+use Rattle.digit_tuple.specs.Steps.{StepLog}
+use Rattle.digit_tuple.specs.declared.direction.Direction.{Direction}
+use Rattle.digit_tuple.specs.declared.step_fault.StepFault.{StepFault}
+use Rattle.digit_tuple.specs.declared.step_fault.StepFault.TheVariants as steps
+use Rattle.digit_tuple.specs.declared.steps.StepLine.{StepLine}
+use Rattle.dfa_loading.specs.Headers.{headers_of}
+use Rattle.dfa_loading.specs.Loading.{AreListedBy}
+use Rattle.dfa_loading.specs.declared.loaded.Loaded.{Loaded}
+use Rattle.formula_build.specs.Libraries.{NamedRelation, NamedSystem, AreSealed, relation_named}
+use Rattle.formula_resolve.specs.Headers.{Headers, automaton_tracks}
+use Rattle.formula_resolve.specs.declared.file.File.{File}
+use Rattle.num_system.specs.Sealed.{SystemValue}
+use Rattle.number_relations.specs.Relations.{RelationValue}
+use Rattle.system_files.specs.SystemFiles.{Custom}
+use Rattle.word_output.specs.Words.{WordValue}
+use Rattle.definitions.proofs.NameLemmas.{one_meaning}
+use Rattle.definitions.proofs.OneTable.{one_table}
+use Rattle.definitions.specs.Named.{AreNamed, IsSystemNamed}
+use Rattle.definitions.specs.Tracks as tracks
+use Rattle.definitions.specs.Tracks.{names_of}
+use Rattle.definitions.specs.Trees.{Ledger, custom_of}
+use Rattle.session_cli.specs.declared.fault.Fault.{Fault}
+use Rattle.session_cli.specs.declared.fault.Fault.TheVariants as faults
+use Rattle.session_cli.specs.declared.read_fault.ReadFault.TheVariants.{Step}
+use Rattle.session_cli.specs.Accepting.{stored}
+use Rattle.session_cli.specs.Checks.{Pure}
+use Rattle.session_cli.specs.CombineOutcomes.{WordTracks, PlainAnswers, ShapeAnswers, WordTracksAnswers, CombinedAnswers, AreTracksOfFirst, HaveSystemsOfFirst, HaveShapeFault, IsFirstOver, combine_success, first_plain, listed_files, listed_names, listed_systems, after_combined, after_shape, after_plain, after_listed_systems, after_listed_tables, after_combine_head, combine_checks}
+use Rattle.session_cli.specs.CombineSteps.{ArePartsFrom, AreListedParts, AreCombineSteps, IsCombiningStopped}
+use Rattle.session_cli.specs.FileChecks.{files_loaded}
+use Rattle.session_cli.specs.FormulaFaults.{fault_of_reading}
+use Rattle.session_cli.specs.FormulaSteps.{AreMeant}
+use Rattle.session_cli.specs.HeadAnswers.{HeadAnswers}
+use Rattle.session_cli.specs.SystemChecks.{systems_known}
+use Rattle.session_cli.specs.TableReads.{TableRead, relations_in}
+use Rattle.session_cli.specs.TrackSystems.{fault_of}
+use Rattle.session_cli.proofs.CheckSteps.{IsSingle, then_single}
+use Rattle.session_cli.proofs.OneBuildings.{IsStopped, stopped_by, table_ways}
+use Rattle.session_cli.proofs.OneHeads.{head_single}
+use Rattle.session_cli.proofs.OneLoadings.{files_single}
+use Rattle.session_cli.proofs.OneSealed.{meant_agree}
+use Rattle.session_cli.proofs.OneSystems.{systems_single}
+use Rattle.session_cli.proofs.OneTableReadings as readings
+use Rattle.session_cli.proofs.OneTableReadings.{StopsReading, one_reading, reading_apart, one_stopping}
+use Rattle.session_cli.proofs.OneTexts.{stored_single}
+use Rattle.session_cli.proofs.TableHeaders.{tables_one_way}
+use Rattle.session_cli.proofs.TableReads.{AreAlike}
+use Rattle.session_cli.proofs.WordLaws.{one_word_outcome}
+
+-- none is over sets, or one is the first
+abbrev IsPlainAnswer : Headers → List (List ℕ) → Result (Unit {0}) Fault → Type 0
+IsPlainAnswer h names r = ((first_plain h names ≡ None) × (r ≡ Ok tt)) ⊎ ((name : List ℕ) × (first_plain h names ≡ Some name) × (r ≡ Err (faults.Plain name)))
+
+plain_is : (h : Headers) (names : List (List ℕ)) (r : Result (Unit {0}) Fault) → PlainAnswers h names r → IsPlainAnswer h names r
+plain_is h names (Ok none) a = inl (a, refl)
+plain_is h names (Err (faults.Plain name)) a = inr (name, a, refl)
+plain_is h names (Err faults.Command) a = absurd a
+plain_is h names (Err (faults.Syntax grammar at)) a = absurd a
+plain_is h names (Err (faults.MixedChain byte)) a = absurd a
+plain_is h names (Err (faults.Number grammar at)) a = absurd a
+plain_is h names (Err (faults.NotLinear byte)) a = absurd a
+plain_is h names (Err (faults.Depth grammar at)) a = absurd a
+plain_is h names (Err (faults.Long bytes)) a = absurd a
+plain_is h names (Err (faults.Unknown folder name)) a = absurd a
+plain_is h names (Err (faults.File folder name flaw)) a = absurd a
+plain_is h names (Err (faults.Arity name tracks given)) a = absurd a
+plain_is h names (Err (faults.SystemUnknown name)) a = absurd a
+plain_is h names (Err (faults.NotAdmitted name law)) a = absurd a
+plain_is h names (Err (faults.Clash name first other)) a = absurd a
+plain_is h names (Err (faults.Direction first other)) a = absurd a
+plain_is h names (Err (faults.Letters step)) a = absurd a
+plain_is h names (Err (faults.States step)) a = absurd a
+plain_is h names (Err (faults.WordGap name spelling)) a = absurd a
+plain_is h names (Err (faults.Store folder name)) a = absurd a
+plain_is h names (Err faults.Memory) a = absurd a
+plain_is h names (Err faults.ScriptLimit) a = absurd a
+plain_is h names (Err (faults.MacroArgs of at given)) a = absurd a
+plain_is h names (Err (faults.MacroDepth of)) a = absurd a
+plain_is h names (Err faults.MacroLong) a = absurd a
+plain_is h names (Err (faults.Morphism kind)) a = absurd a
+plain_is h names (Err (faults.LetterMissing letter)) a = absurd a
+plain_is h names (Err (faults.CombineShape one two)) a = absurd a
+
+plain_single : (h : Headers) (names : List (List ℕ)) → IsSingle (Pure (PlainAnswers h names))
+plain_single h names r s a b = by (plain_is h names r a) (plain_is h names s b)
+  where
+    by : IsPlainAnswer h names r → IsPlainAnswer h names s → r ≡ s
+    by (inl (none, is)) (inl (none', is')) = is ∙ sym is'
+    by (inl (none, is)) (inr (name, some, is')) = let no : None ≡ Some name = sym none ∙ some in absurd cc
+    by (inr (name, some, is)) (inl (none, is')) = let no : None ≡ Some name = sym none ∙ some in absurd cc
+    by (inr (name, some, is)) (inr (other, some', is')) =
+        let both : Some name ≡ Some other = sym some ∙ some' in
+        let same : name ≡ other = cc in
+        is ∙ (ap (λ (n : List ℕ). let x : Result (Unit {0}) Fault = Err (faults.Plain n) in x) same ∙ sym is')
+
+-- all have one shape, or two have not
+abbrev IsShapeAnswer : Headers → List (List ℕ) → Result (Unit {0}) Fault → Type 0
+IsShapeAnswer h names r = (HaveSystemsOfFirst h names × (r ≡ Ok tt)) ⊎ ((first : List ℕ) × (other : List ℕ) × HaveShapeFault h names first other × (r ≡ Err (faults.CombineShape first other)))
+
+shape_is : (h : Headers) (names : List (List ℕ)) (r : Result (Unit {0}) Fault) → ShapeAnswers h names r → IsShapeAnswer h names r
+shape_is h names (Ok one) a = inl (a, refl)
+shape_is h names (Err (faults.CombineShape first other)) a = inr (first, other, a, refl)
+shape_is h names (Err faults.Command) a = absurd a
+shape_is h names (Err (faults.Syntax grammar at)) a = absurd a
+shape_is h names (Err (faults.MixedChain byte)) a = absurd a
+shape_is h names (Err (faults.Number grammar at)) a = absurd a
+shape_is h names (Err (faults.NotLinear byte)) a = absurd a
+shape_is h names (Err (faults.Depth grammar at)) a = absurd a
+shape_is h names (Err (faults.Long bytes)) a = absurd a
+shape_is h names (Err (faults.Unknown folder name)) a = absurd a
+shape_is h names (Err (faults.File folder name flaw)) a = absurd a
+shape_is h names (Err (faults.Arity name tracks given)) a = absurd a
+shape_is h names (Err (faults.SystemUnknown name)) a = absurd a
+shape_is h names (Err (faults.NotAdmitted name law)) a = absurd a
+shape_is h names (Err (faults.Clash name first other)) a = absurd a
+shape_is h names (Err (faults.Direction first other)) a = absurd a
+shape_is h names (Err (faults.Letters step)) a = absurd a
+shape_is h names (Err (faults.States step)) a = absurd a
+shape_is h names (Err (faults.WordGap name spelling)) a = absurd a
+shape_is h names (Err (faults.Plain name)) a = absurd a
+shape_is h names (Err (faults.Store folder name)) a = absurd a
+shape_is h names (Err faults.Memory) a = absurd a
+shape_is h names (Err faults.ScriptLimit) a = absurd a
+shape_is h names (Err (faults.MacroArgs of at given)) a = absurd a
+shape_is h names (Err (faults.MacroDepth of)) a = absurd a
+shape_is h names (Err faults.MacroLong) a = absurd a
+shape_is h names (Err (faults.Morphism kind)) a = absurd a
+shape_is h names (Err (faults.LetterMissing letter)) a = absurd a
+
+module _ (h : Headers) (systems : List (List ℕ)) where
+  one_other : (names : List (List ℕ)) (other also : List ℕ) → IsFirstOver h systems names other → IsFirstOver h systems names also → other ≡ also
+  one_other [] other also a b = absurd a
+  one_other (name ∷ names) other also (inl (apart, is)) (inl (apart', is')) = is ∙ sym is'
+  one_other (name ∷ names) other also (inl (apart, is)) (inr (same, rest)) = absurd (apart same)
+  one_other (name ∷ names) other also (inr (same, rest)) (inl (apart, is)) = absurd (apart same)
+  one_other (name ∷ names) other also (inr (same, rest)) (inr (same', rest')) = one_other names other also rest rest'
+
+  none_other : (names : List (List ℕ)) (other : List ℕ) → AllByRecursion (λ name. automaton_tracks h name ≡ systems) names → IsFirstOver h systems names other → ⊥
+  none_other [] other all a = a
+  none_other (name ∷ names) other all (inl (apart, is)) = apart all.0
+  none_other (name ∷ names) other all (inr (same, rest)) = none_other names other all.1 rest
+
+not_shaped : (h : Headers) (names : List (List ℕ)) (first other : List ℕ) → HaveSystemsOfFirst h names → HaveShapeFault h names first other → ⊥
+not_shaped h [] first other one a = one
+not_shaped h (name ∷ names) first other one (is, inl (none, also)) = one.0 none
+not_shaped h (name ∷ names) first other one (is, inr (some, over)) = none_other h (automaton_tracks h name) names other one.1 over
+
+one_shape_fault : (h : Headers) (names : List (List ℕ)) (first other first' other' : List ℕ) → HaveShapeFault h names first other → HaveShapeFault h names first' other' → (first ≡ first') × (other ≡ other')
+one_shape_fault h [] first other first' other' a b = absurd a
+one_shape_fault h (name ∷ names) first other first' other' (is, inl (none, also)) (is', inl (none', also')) = (is ∙ sym is', also ∙ sym also')
+one_shape_fault h (name ∷ names) first other first' other' (is, inl (none, also)) (is', inr (some, over)) = absurd (some none)
+one_shape_fault h (name ∷ names) first other first' other' (is, inr (some, over)) (is', inl (none, also)) = absurd (some none)
+one_shape_fault h (name ∷ names) first other first' other' (is, inr (some, over)) (is', inr (some', over')) = (is ∙ sym is', one_other h (automaton_tracks h name) names other other' over over')
+
+shape_single : (h : Headers) (names : List (List ℕ)) → IsSingle (Pure (ShapeAnswers h names))
+shape_single h names r s a b = by (shape_is h names r a) (shape_is h names s b)
+  where
+    by : IsShapeAnswer h names r → IsShapeAnswer h names s → r ≡ s
+    by (inl (one, is)) (inl (one', is')) = is ∙ sym is'
+    by (inl (one, is)) (inr (first, other, apart, is')) = absurd (not_shaped h names first other one apart)
+    by (inr (first, other, apart, is)) (inl (one, is')) = absurd (not_shaped h names first other one apart)
+    by (inr (first, other, apart, is)) (inr (first', other', apart', is')) =
+        let same = one_shape_fault h names first other first' other' apart apart' in
+        let told : (let x : Result (Unit {0}) Fault = Err (faults.CombineShape first other) in x) ≡ Err (faults.CombineShape first' other') = λ i. Err (faults.CombineShape (same.0 i) (same.1 i)) in
+        is ∙ (told ∙ sym is')
+
+-- systems that names mean are told by the names, and some tell their direction
+one_named : (custom : Custom) (way way' : Direction) (xs ys : List tracks.NamedSystem) → names_of xs ≡ names_of ys → AreNamed custom way xs → AreNamed custom way' ys → xs ≡ ys
+one_named custom way way' [] [] same a b = refl
+one_named custom way way' [] (y ∷ ys) same a b = let e : 0 ≡ suc (length (names_of ys)) = ap length same in absurd (omega (arith, e))
+one_named custom way way' (x ∷ xs) [] same a b = let e : suc (length (names_of xs)) ≡ 0 = ap length same in absurd (omega (arith, e))
+one_named custom way way' (x ∷ xs) (y ∷ ys) same a b =
+    let both : (x.name ∷ names_of xs) ≡ (y.name ∷ names_of ys) = same in
+    let name : x.name ≡ y.name = cc in
+    let names : names_of xs ≡ names_of ys = cc in
+    let moved : IsSystemNamed custom y.name way x.system = subst (λ (n : List ℕ). IsSystemNamed custom n way x.system) name a.0 in
+    let system : x.system ≡ y.system = (one_meaning custom y.name way way' x.system y.system moved b.0).1 in
+    let rest : xs ≡ ys = one_named custom way way' xs ys names a.1 b.1 in
+    λ i. record { name = name i; system = system i } ∷ rest i
+
+one_way : (custom : Custom) (way way' : Direction) (xs : List tracks.NamedSystem) → names_of xs ≢ [] → AreNamed custom way xs → AreNamed custom way' xs → way ≡ way'
+one_way custom way way' [] some a b = absurd (some refl)
+one_way custom way way' (x ∷ xs) some a b = (one_meaning custom x.name way way' x.system x.system a.0 b.0).0
+
+one_tracks : (custom : Custom) (h : Headers) (names : List (List ℕ)) (ts us : WordTracks) → HaveSystemsOfFirst h names → AreTracksOfFirst custom h names ts → AreTracksOfFirst custom h names us → ts ≡ us
+one_tracks custom h [] ts us one a b = absurd one
+one_tracks custom h (name ∷ names) ts us one (is, are) (is', are') =
+    let named : ts.named ≡ us.named = one_named custom ts.way us.way ts.named us.named (sym is ∙ is') are are' in
+    let some : names_of us.named ≢ [] = λ none. one.0 (is' ∙ none) in
+    let way : ts.way ≡ us.way = one_way custom ts.way us.way us.named some (subst (AreNamed custom ts.way) named are) are' in
+    λ i. record { way = way i; named = named i }
+
+tracks_is : (custom : Custom) (h : Headers) (names : List (List ℕ)) (r : Result WordTracks Fault) → WordTracksAnswers custom h names r → (ts : WordTracks) × AreTracksOfFirst custom h names ts × (r ≡ Ok ts)
+tracks_is custom h names (Ok ts) a = (ts, a, refl)
+tracks_is custom h names (Err fault) a = absurd a
+
+tracks_single : (custom : Custom) (h : Headers) (names : List (List ℕ)) → HaveSystemsOfFirst h names → IsSingle (Pure (WordTracksAnswers custom h names))
+tracks_single custom h names shape r s a b =
+    let one = tracks_is custom h names r a in
+    let other = tracks_is custom h names s b in
+    one.2 ∙ (ap (λ (ts : WordTracks). let x : Result WordTracks Fault = Ok ts in x) (one_tracks custom h names one.0 other.0 shape one.1 other.1) ∙ sym other.2)
+
+-- names tell the relations of listed automata
+one_parts : (relations : List NamedRelation) (place : ℕ) (automata : List ValuedName) (ps qs : List PartValue) → ArePartsFrom relations place automata ps → ArePartsFrom relations place automata qs → ps ≡ qs
+one_parts relations place [] [] [] a b = refl
+one_parts relations place [] [] (q ∷ qs) a b = absurd b
+one_parts relations place [] (p ∷ ps) qs a b = absurd a
+one_parts relations place (v ∷ automata) [] qs a b = absurd a
+one_parts relations place (v ∷ automata) (p ∷ ps) [] a b = absurd b
+one_parts relations place (v ∷ automata) (p ∷ ps) (q ∷ qs) (is, value, rest) (is', value', rest') =
+    let both : Some p.relation ≡ Some q.relation = sym is ∙ is' in
+    let relation : p.relation ≡ q.relation = cc in
+    let letter : p.value ≡ q.value = value ∙ sym value' in
+    let others : ps ≡ qs = one_parts relations (suc place) automata ps qs rest rest' in
+    λ i. record { relation = relation i; value = letter i } ∷ others i
+
+one_systems : (relations : List NamedRelation) (automata : List ValuedName) (ps : List PartValue) (ss ts : List SystemValue) → automata ≢ [] → ArePartsFrom relations 0 automata ps → AreSystemsFor ps ss → AreSystemsFor ps ts → ss ≡ ts
+one_systems relations [] ps ss ts some are a b = absurd (some refl)
+one_systems relations (v ∷ automata) [] ss ts some are a b = absurd are
+one_systems relations (v ∷ automata) (p ∷ ps) ss ts some are a b = a ∙ sym b
+
+record IsWordMade (admitted : StepLog) (custom : Custom) (tables : List Loaded) (automata : List ValuedName) (r : Result (List StepLine) Fault) : Type 0 where
+  word : WordValue
+  lines : List StepLine
+  done : AreCombineSteps admitted custom tables automata word lines
+  is : r ≡ Ok lines
+
+record IsWordRefused (admitted : StepLog) (custom : Custom) (tables : List Loaded) (automata : List ValuedName) (r : Result (List StepLine) Fault) : Type 0 where
+  fault : StepFault
+  told : fault ≢ steps.Memory
+  stops : IsCombiningStopped admitted custom tables automata fault
+  is : r ≡ Err (fault_of fault)
+
+-- a word is made, or its step is refused, or the tables are not read
+abbrev IsOutcome : StepLog → Custom → List Loaded → List ValuedName → Result (List StepLine) Fault → Type 0
+IsOutcome admitted custom tables automata r = IsWordMade admitted custom tables automata r ⊎ (IsWordRefused admitted custom tables automata r ⊎ IsStopped admitted custom tables r)
+
+combined_is : (admitted : StepLog) (custom : Custom) (tables : List Loaded) (automata : List ValuedName) (r : Result (List StepLine) Fault) → CombinedAnswers admitted custom tables automata r → IsOutcome admitted custom tables automata r
+combined_is admitted custom tables automata (Ok lines) (word, a) = inl (record { word = word; lines = lines; done = a; is = refl })
+combined_is admitted custom tables automata (Err (faults.Letters step)) (inl a) = inr (inr (stopped_by admitted custom tables (steps.Letters step) (λ is. cc) a))
+combined_is admitted custom tables automata (Err (faults.Letters step)) (inr a) = inr (inl (record { fault = steps.Letters step; told = λ is. cc; stops = a; is = refl }))
+combined_is admitted custom tables automata (Err (faults.States step)) (inl a) = inr (inr (stopped_by admitted custom tables (steps.States step) (λ is. cc) a))
+combined_is admitted custom tables automata (Err (faults.States step)) (inr a) = inr (inl (record { fault = steps.States step; told = λ is. cc; stops = a; is = refl }))
+combined_is admitted custom tables automata (Err faults.Command) a = absurd a
+combined_is admitted custom tables automata (Err (faults.Syntax grammar at)) a = absurd a
+combined_is admitted custom tables automata (Err (faults.MixedChain byte)) a = absurd a
+combined_is admitted custom tables automata (Err (faults.Number grammar at)) a = absurd a
+combined_is admitted custom tables automata (Err (faults.NotLinear byte)) a = absurd a
+combined_is admitted custom tables automata (Err (faults.Depth grammar at)) a = absurd a
+combined_is admitted custom tables automata (Err (faults.Long bytes)) a = absurd a
+combined_is admitted custom tables automata (Err (faults.Unknown folder name)) a = absurd a
+combined_is admitted custom tables automata (Err (faults.File folder name flaw)) a = absurd a
+combined_is admitted custom tables automata (Err (faults.Arity name tracks given)) a = absurd a
+combined_is admitted custom tables automata (Err (faults.SystemUnknown name)) a = absurd a
+combined_is admitted custom tables automata (Err (faults.NotAdmitted name law)) a = absurd a
+combined_is admitted custom tables automata (Err (faults.Clash name first other)) a = absurd a
+combined_is admitted custom tables automata (Err (faults.Direction first other)) a = absurd a
+combined_is admitted custom tables automata (Err (faults.WordGap name spelling)) a = absurd a
+combined_is admitted custom tables automata (Err (faults.Plain name)) a = absurd a
+combined_is admitted custom tables automata (Err (faults.Store folder name)) a = absurd a
+combined_is admitted custom tables automata (Err faults.Memory) a = absurd a
+combined_is admitted custom tables automata (Err faults.ScriptLimit) a = absurd a
+combined_is admitted custom tables automata (Err (faults.MacroArgs of at given)) a = absurd a
+combined_is admitted custom tables automata (Err (faults.MacroDepth of)) a = absurd a
+combined_is admitted custom tables automata (Err faults.MacroLong) a = absurd a
+combined_is admitted custom tables automata (Err (faults.Morphism kind)) a = absurd a
+combined_is admitted custom tables automata (Err (faults.LetterMissing letter)) a = absurd a
+combined_is admitted custom tables automata (Err (faults.CombineShape one two)) a = absurd a
+
+module _ (admitted : StepLog) (custom : Custom) (tables : List Loaded) (automata : List ValuedName) (files : Files) (named : List File) (listed : AreListedBy files named tables) (some : automata ≢ []) where
+  ways : (systems : List NamedSystem) → AreMeant custom systems → AllByRecursion (readings.IsOneWay systems) tables
+  ways systems are = table_ways custom systems tables are (tables_one_way files named tables listed)
+
+  alike : (systems others : List NamedSystem) → AreSealed systems → AreMeant custom systems → AreSealed others → AreMeant custom others → AreAlike systems others
+  alike systems others sealed are sealed' are' = (meant_agree custom systems others sealed are sealed' are').systems
+
+  -- the relations and what is before the last step are the same
+  record AreSame (a b : AreListedParts admitted custom tables automata) : Type 0 where
+    reading : a.reading ≡ b.reading
+    parts : a.parts ≡ b.parts
+    tracks_same : a.tracks ≡ b.tracks
+
+  same_before : (a b : AreListedParts admitted custom tables automata) → AreSame a b
+  same_before a b =
+      let read : (a.reads ≡ b.reads) × (a.reading ≡ b.reading) =
+      one_reading one_table one_word_outcome a.systems b.systems a.sealed (alike a.systems b.systems a.sealed a.meant b.sealed b.meant) admitted a.reading b.reading tables a.reads b.reads (ways a.systems a.meant) a.read b.read in
+      let there : ArePartsFrom (relations_in a.reads) 0 automata b.parts = subst (λ (rs : List TableRead). ArePartsFrom (relations_in rs) 0 automata b.parts) (sym read.0) b.parts_are in
+      let parts : a.parts ≡ b.parts = one_parts (relations_in a.reads) 0 automata a.parts b.parts a.parts_are there in
+      let tracks_of : AreSystemsFor a.parts b.tracks = subst (λ (ps : List PartValue). AreSystemsFor ps b.tracks) (sym parts) b.tracks_are in
+      record { reading = read.1; parts = parts; tracks_same = one_systems (relations_in a.reads) automata a.parts a.tracks b.tracks some a.parts_are a.tracks_are tracks_of }
+
+  -- what is said of what is before the one last step holds of the other
+  moved : (P : StepLog → List PartValue → List SystemValue → Type 0) (a b : AreListedParts admitted custom tables automata) → P b.reading b.parts b.tracks → P a.reading a.parts a.tracks
+  moved P a b p =
+      let same : AreSame a b = same_before a b in
+      subst (λ (ts : List SystemValue). P a.reading a.parts ts) (sym same.tracks_same) (subst (λ (ps : List PartValue). P a.reading ps b.tracks) (sym same.parts) (subst (λ (old : StepLog). P old b.parts b.tracks) (sym same.reading) p))
+
+  step_fault_same : (f g : StepFault) → combines.Step f ≡ combines.Step g → f ≡ g
+  step_fault_same f g same = cc
+
+  both_made : (r s : Result (List StepLine) Fault) → IsWordMade admitted custom tables automata r → IsWordMade admitted custom tables automata s → r ≡ s
+  both_made r s p q =
+      let a = p.done.before in
+      let b = q.done.before in
+      let there = moved (λ old ps ts. IsCombineDone old ps ts q.word q.done.log) a b q.done.done in
+      let one : HasOneCombination a.reading a.parts a.tracks = one_outcome a.reading a.parts a.tracks in
+      let same : p.done.log ≡ q.done.log = (one.words p.word q.word p.done.log q.done.log p.done.done there).1 in
+      let lines : p.lines ≡ q.lines = p.done.lines_are ∙ (ap (λ (log : StepLog). log.lines) same ∙ sym q.done.lines_are) in
+      p.is ∙ (ap (λ (ls : List StepLine). let x : Result (List StepLine) Fault = Ok ls in x) lines ∙ sym q.is)
+
+  made_refused : (r s : Result (List StepLine) Fault) → IsWordMade admitted custom tables automata r → IsWordRefused admitted custom tables automata s → ⊥
+  made_refused r s p q =
+      let a = p.done.before in
+      let b = q.stops.before in
+      let there = moved (λ old ps ts. IsCombineRefused old ps ts (combines.Step q.fault) q.stops.log) a b q.stops.refused in
+      let e : combines.Step q.fault ≡ combines.Step steps.Memory = (one_outcome a.reading a.parts a.tracks).apart p.word (combines.Step q.fault) p.done.log q.stops.log p.done.done there in
+      q.told (step_fault_same q.fault steps.Memory e)
+
+  both_refused : (r s : Result (List StepLine) Fault) → IsWordRefused admitted custom tables automata r → IsWordRefused admitted custom tables automata s → r ≡ s
+  both_refused r s p q =
+      let a = p.stops.before in
+      let b = q.stops.before in
+      let there = moved (λ old ps ts. IsCombineRefused old ps ts (combines.Step q.fault) q.stops.log) a b q.stops.refused in
+      let e : combines.Step p.fault ≡ combines.Step q.fault =
+      (one_outcome a.reading a.parts a.tracks).faults (combines.Step p.fault) (combines.Step q.fault) p.stops.log q.stops.log p.stops.refused there (λ is. p.told (step_fault_same p.fault steps.Memory is)) (λ is. q.told (step_fault_same q.fault steps.Memory is)) in
+      p.is ∙ (ap (λ (f : StepFault). let x : Result (List StepLine) Fault = Err (fault_of f) in x) (step_fault_same p.fault q.fault e) ∙ sym q.is)
+
+  read_stopped : (a : AreListedParts admitted custom tables automata) (s : Result (List StepLine) Fault) → IsStopped admitted custom tables s → ⊥
+  read_stopped a s q =
+      reading_apart one_table one_word_outcome a.systems q.systems a.sealed (alike a.systems q.systems a.sealed a.meant q.sealed q.meant) admitted a.reading tables a.reads q.fault (ways a.systems a.meant) a.read q.stops
+
+  both_stopped : (r s : Result (List StepLine) Fault) → IsStopped admitted custom tables r → IsStopped admitted custom tables s → r ≡ s
+  both_stopped r s p q =
+      let same : p.fault ≡ q.fault = one_stopping one_table one_word_outcome p.systems q.systems p.sealed (alike p.systems q.systems p.sealed p.meant q.sealed q.meant) admitted tables p.fault q.fault (ways p.systems p.meant) p.stops q.stops in
+      p.is ∙ (ap (λ f. let x : Result (List StepLine) Fault = Err (fault_of_reading f) in x) same ∙ sym q.is)
+
+  combined_single : IsSingle (Pure (CombinedAnswers admitted custom tables automata))
+  combined_single r s a b = by (combined_is admitted custom tables automata r a) (combined_is admitted custom tables automata s b)
+    where
+      by : IsOutcome admitted custom tables automata r → IsOutcome admitted custom tables automata s → r ≡ s
+      by (inl p) (inl q) = both_made r s p q
+      by (inl p) (inr (inl q)) = absurd (made_refused r s p q)
+      by (inl p) (inr (inr q)) = absurd (read_stopped p.done.before s q)
+      by (inr (inl p)) (inl q) = absurd (made_refused s r q p)
+      by (inr (inl p)) (inr (inl q)) = both_refused r s p q
+      by (inr (inl p)) (inr (inr q)) = absurd (read_stopped p.stops.before s q)
+      by (inr (inr p)) (inl q) = absurd (read_stopped q.done.before r p)
+      by (inr (inr p)) (inr (inl q)) = absurd (read_stopped q.stops.before r p)
+      by (inr (inr p)) (inr (inr q)) = both_stopped r s p q
+
+some_listed : (h : Headers) (automata : List ValuedName) → HaveSystemsOfFirst h (listed_names automata) → automata ≢ []
+some_listed h [] one = absurd one
+some_listed h (v ∷ automata) one = λ none. let e : suc (length automata) ≡ 0 = ap length none in omega (arith, e)
+
+pub combine_single : (limit : ℕ) (ledger : Ledger) (text : List ℕ) → IsSingle (combine_checks limit ledger text)
+combine_single limit ledger text =
+    let custom : Custom = custom_of ledger in
+    then_single (Pure (HeadAnswers SpellsCombine text)) (λ head. after_combine_head limit ledger head) (head_single SpellsCombine (one_head SpellsCombine one_combine) text) (λ head spells.
+    then_single (files_loaded ledger (listed_files head.automata)) (λ ts. after_listed_tables limit ledger head ts) (files_single ledger (listed_files head.automata)) (λ ts there.
+    then_single (systems_known limit custom (listed_systems ts head.automata)) (λ admitted. after_listed_systems ledger head ts admitted) (systems_single limit custom (listed_systems ts head.automata)) (λ admitted known.
+    then_single (Pure (PlainAnswers (headers_of ts) (listed_names head.automata))) (λ none. after_plain ledger head ts admitted) (plain_single (headers_of ts) (listed_names head.automata)) (λ none plain.
+    then_single (Pure (ShapeAnswers (headers_of ts) (listed_names head.automata))) (λ one. after_shape ledger head ts admitted) (shape_single (headers_of ts) (listed_names head.automata)) (λ one shape.
+    then_single (Pure (CombinedAnswers admitted custom ts head.automata)) (λ lines. after_combined ledger head ts lines) (combined_single admitted custom ts head.automata there.0 (listed_files head.automata) there.2 (some_listed (headers_of ts) head.automata shape)) (λ lines combined.
+    then_single (Pure (WordTracksAnswers custom (headers_of ts) (listed_names head.automata))) (λ over. stored custom (combine_success ledger head over lines)) (tracks_single custom (headers_of ts) (listed_names head.automata) shape) (λ over are.
+    stored_single custom (combine_success ledger head over lines))))))))

@@ -1,0 +1,99 @@
+-- From the head of a `promote` to what it stores.
+use Rattle.std.proofs.Common.{◌≡◌, ℕ, Bool, true, false, List, [], ◌∷◌, ◌++◌, Result, Ok, Err, inl, inr, refl, sym, ap, ◌∙◌, subst}
+use Rattle.std.specs.Int.{w32}
+use Rattle.std.specs.List.{All}
+use Rattle.std.specs.Prelude.{FitsSigned}
+use Rattle.std.specs.declared.alloc.Global.{Global}
+use Rattle.std.specs.declared.vec.Vec.{Vec}
+use Rattle.std.proofs.lemmas.List.{append-nil}
+use Rattle.wal_outside.specs.Places.{Place}
+use Rattle.wal_outside.specs.declared.folder.Folder.TheVariants.{Words}
+use Rattle.command_head.specs.Breaks.{HasHead}
+use Rattle.command_head.specs.Grammar.{SpellsPromote}
+use Rattle.command_head.specs.Heads.{PromoteHead}
+use Rattle.digit_tuple.specs.declared.step_fault.StepFault.TheVariants as steps
+use Rattle.digit_tuple.specs.declared.steps.StepLine.{StepLine}
+use Rattle.fixed_points.specs.Promotion.{IsPromoteStep, IsPromoteRefused}
+use Rattle.fixed_points.specs.declared.promote_fault.PromoteFault.{PromoteFault}
+use Rattle.fixed_points.specs.declared.promote_fault.PromoteFault.TheVariants as promotes
+use Rattle.morph_words.specs.Rules.{Rules}
+use Rattle.word_output.specs.Words.{WordValue}
+use Rattle.definitions.specs.Texts.{IsFixedText}
+use Rattle.definitions.specs.Trees.{Ledger, custom_of}
+use Rattle.system_files.specs.SystemFiles.{Custom}
+use Rattle.session_cli.specs.declared.fault.Fault.{Fault}
+use Rattle.session_cli.specs.declared.plan.Made.{Made}
+use Rattle.session_cli.specs.declared.plan.Plan.{Plan}
+use Rattle.session_cli.specs.Accepting.{Success, stored}
+use Rattle.session_cli.specs.BaseWords.{IsOverBase, PrintsOverBase, base_name}
+use Rattle.session_cli.specs.Checks.{Pure, Fails}
+use Rattle.session_cli.specs.HeadAnswers.{HeadAnswers}
+use Rattle.session_cli.specs.Lines.{shown_steps}
+use Rattle.session_cli.specs.MorphismChecks.{MorphismAnswers, morphism_loaded}
+use Rattle.session_cli.specs.MorphismFaults.{fault_of_promotion}
+use Rattle.session_cli.specs.Plans.{IsMade, Makes, Plans}
+use Rattle.session_cli.specs.PromoteOutcomes.{PromotedAnswers, fixed_success, after_morphism, after_promote_head, promote_checks}
+use Rattle.session_cli.specs.SystemChecks.{no_steps}
+use Rattle.session_cli.specs.WordPrinting.{IsWordTextOf, HasNoWordText, named_text}
+use Rattle.session_cli.proofs.BaseTexts.{fixed_text}
+use Rattle.session_cli.proofs.CheckSteps.{fails_first, fails_after, plans_after}
+use Rattle.session_cli.proofs.StoringTexts.{unstored, word_refused}
+
+-- what has no fixed point, or passes the limit
+pub not_promoted : (limit : ℕ) (rules : Rules) (fault : PromoteFault) → IsPromoteRefused (no_steps limit) rules fault → Fails (Pure (PromotedAnswers limit rules)) (fault_of_promotion fault)
+not_promoted limit rules (promotes.Morphism kind) refused = refused
+not_promoted limit rules (promotes.Step (steps.Letters step)) refused = absurd refused.1
+not_promoted limit rules (promotes.Step (steps.States step)) refused = refused
+not_promoted limit rules (promotes.Step steps.Memory) refused = tt
+
+pub promotion_refused : (limit : ℕ) (custom : Custom) (name : List ℕ) (rules : Rules) (fault : Fault) → Fails (Pure (PromotedAnswers limit rules)) fault → Fails (after_morphism limit custom name rules) fault
+promotion_refused limit custom name rules fault refused = fails_first (Pure (PromotedAnswers limit rules)) (λ lines. stored custom (fixed_success name rules lines)) fault refused
+
+module _ (limit : ℕ) (custom : Custom) (name : List ℕ) (rules : Rules) (word : WordValue) (line : StepLine) (step : IsPromoteStep limit rules word line) (fits : All (λ letter. FitsSigned w32 letter) word.function.letters) where
+  -- the text of the word is too long
+  pub fixed_refused : (fault : Fault) → HasNoWordText (base_name step.k ∷ []) word fault → Fails (after_morphism limit custom name rules) fault
+  fixed_refused fault refused =
+      fails_after (Pure (PromotedAnswers limit rules)) (λ lines. stored custom (fixed_success name rules lines)) (line ∷ []) fault (word, line, step, refl)
+      (unstored custom (fixed_success name rules (line ∷ [])) (named_text (base_name step.k ∷ []) word) fault (fixed_text custom limit rules word line step fits) (word_refused (base_name step.k ∷ []) word fault refused))
+
+  -- or it is stored
+  pub fixed_made : (shown : Bool) (made : Made) → IsWordTextOf (base_name step.k ∷ []) word made.stored.items → made.printed ≡ shown_steps shown (line ∷ []) → IsMade custom (after_morphism limit custom name rules) shown made
+  fixed_made shown made text printed =
+      let has : IsFixedText custom rules made.stored.items = subst (λ (t : List ℕ). IsFixedText custom rules t) (sym text.0) (fixed_text custom limit rules word line step fits) in
+      record {
+        success = fixed_success name rules (line ∷ []);
+        answers = (line ∷ [], (word, line, step, refl), (refl, (made.stored.items, has, text.1)));
+        has_text = has;
+        printed_is = printed ∙ sym (append-nil (shown_steps shown (line ∷ [])));
+      }
+
+-- nothing is read after the morphism
+pub no_more_read : (limit : ℕ) (custom : Custom) (name : List ℕ) (rules : Rules) (place : Place) → (after_morphism limit custom name rules).reads place → ⊥
+no_more_read limit custom name rules place (inl read) = read
+no_more_read limit custom name rules place (inr (lines, promoted, read)) = read
+
+-- an accepted `promote` stands under the word's name among words
+stands_at : (limit : ℕ) (custom : Custom) (name : List ℕ) (rules : Rules) (success : Success) → (after_morphism limit custom name rules).answers (Ok success) → (Words ≡ success.folder) × (name ≡ success.name)
+stands_at limit custom name rules success (lines, promoted, (is, text)) = (sym (ap (λ (s : Success). s.folder) is), sym (ap (λ (s : Success). s.name) is))
+
+module _ (limit : ℕ) (ledger : Ledger) (text : List ℕ) where
+  pub promote_unread : (fault : Fault) → Fails (Pure (HeadAnswers SpellsPromote text)) fault → Fails (promote_checks limit ledger text) fault
+  promote_unread fault refused = fails_first (Pure (HeadAnswers SpellsPromote text)) (λ h. after_promote_head limit ledger h) fault refused
+
+  module _ (head : PromoteHead) (spells : HasHead SpellsPromote (λ (h : PromoteHead). h) text (Ok head)) where
+    pub promote_unloaded : (fault : Fault) → Fails (morphism_loaded ledger head.morphism) fault → Fails (promote_checks limit ledger text) fault
+    promote_unloaded fault refused =
+        fails_after (Pure (HeadAnswers SpellsPromote text)) (λ h. after_promote_head limit ledger h) head fault spells
+        (fails_first (morphism_loaded ledger head.morphism) (λ rules. after_morphism limit (custom_of ledger) head.word rules) fault refused)
+
+    pub promote_failed : (rules : Rules) (fault : Fault) → MorphismAnswers ledger head.morphism (Ok rules) → Fails (after_morphism limit (custom_of ledger) head.word rules) fault → Fails (promote_checks limit ledger text) fault
+    promote_failed rules fault there refused =
+        fails_after (Pure (HeadAnswers SpellsPromote text)) (λ h. after_promote_head limit ledger h) head fault spells
+        (fails_after (morphism_loaded ledger head.morphism) (λ rs. after_morphism limit (custom_of ledger) head.word rs) rules fault there refused)
+
+    pub promote_planned : (rules : Rules) (shown : Bool) (plan : Plan) → MorphismAnswers ledger head.morphism (Ok rules) → plan.folder ≡ Words → plan.name ≡ head.word → Makes (custom_of ledger) (after_morphism limit (custom_of ledger) head.word rules) shown (Ok plan.made)
+        → Plans (custom_of ledger) (promote_checks limit ledger text) shown (Ok plan)
+    promote_planned rules shown plan there folder name made =
+        let at : (Words ≡ made.success.folder) × (head.word ≡ made.success.name) = stands_at limit (custom_of ledger) head.word rules made.success made.answers in
+        plans_after (custom_of ledger) (Pure (HeadAnswers SpellsPromote text)) (λ h. after_promote_head limit ledger h) head shown (Ok plan) spells
+        (plans_after (custom_of ledger) (morphism_loaded ledger head.morphism) (λ rs. after_morphism limit (custom_of ledger) head.word rs) rules shown (Ok plan) there (record { made = made; folder_is = folder ∙ at.0; name_is = name ∙ at.1 }))

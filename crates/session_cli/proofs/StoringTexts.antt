@@ -1,0 +1,90 @@
+-- A text of an entry is stored, or is too long.
+use Rattle.std.proofs.Common.{◌≡◌, ℕ, Bool, true, false, List, [], ◌++◌, Result, Ok, Err, refl, ◌∙◌}
+use Rattle.wal_outside.specs.declared.folder.Folder.{Folder}
+use Rattle.definitions.specs.Texts.{HasText}
+use Rattle.system_files.specs.SystemFiles.{Custom}
+use Rattle.word_output.specs.Words.{WordValue}
+use Rattle.session_cli.specs.declared.fault.Fault.{Fault}
+use Rattle.session_cli.specs.declared.fault.Fault.TheVariants as faults
+use Rattle.session_cli.specs.declared.plan.Made.{Made}
+use Rattle.session_cli.specs.Accepting.{Success, stored}
+use Rattle.session_cli.specs.Checks.{Fails}
+use Rattle.session_cli.specs.Lines.{shown_steps}
+use Rattle.session_cli.specs.Plans.{IsMade, Makes}
+use Rattle.session_cli.specs.TextOutcomes.{text_success}
+use Rattle.session_cli.specs.TextPlans.{IsTextMade, IsTextRefused, StoresText}
+use Rattle.session_cli.specs.WordPrinting.{HasNoWordText, named_text}
+
+nothing_shown : (shown : Bool) → [] ≡ shown_steps shown [] ++ []
+nothing_shown true = refl
+nothing_shown false = refl
+
+-- a text of an entry that is too long refuses the command
+pub unstored : (custom : Custom) (made : Success) (text : List ℕ) (fault : Fault) → HasText custom made.entry text → IsTextRefused text fault → Fails (stored custom made) fault
+unstored custom made text (faults.Long bytes) has (is, long) = (is, (text, has, long))
+unstored custom made text faults.Memory has refused = tt
+unstored custom made text faults.Command has refused = absurd refused
+unstored custom made text (faults.Syntax grammar at) has refused = absurd refused
+unstored custom made text (faults.MixedChain at) has refused = absurd refused
+unstored custom made text (faults.Number grammar at) has refused = absurd refused
+unstored custom made text (faults.NotLinear at) has refused = absurd refused
+unstored custom made text (faults.Depth grammar at) has refused = absurd refused
+unstored custom made text (faults.MacroArgs of at given) has refused = absurd refused
+unstored custom made text (faults.MacroDepth of) has refused = absurd refused
+unstored custom made text faults.MacroLong has refused = absurd refused
+unstored custom made text (faults.Unknown folder of) has refused = absurd refused
+unstored custom made text (faults.File folder of flaw) has refused = absurd refused
+unstored custom made text (faults.Arity of tracks given) has refused = absurd refused
+unstored custom made text (faults.SystemUnknown of) has refused = absurd refused
+unstored custom made text (faults.NotAdmitted of law) has refused = absurd refused
+unstored custom made text (faults.Clash of one two) has refused = absurd refused
+unstored custom made text (faults.Direction one two) has refused = absurd refused
+unstored custom made text (faults.Letters step) has refused = absurd refused
+unstored custom made text (faults.States step) has refused = absurd refused
+unstored custom made text (faults.WordGap of spelling) has refused = absurd refused
+unstored custom made text (faults.Plain of) has refused = absurd refused
+unstored custom made text (faults.Morphism kind) has refused = absurd refused
+unstored custom made text (faults.LetterMissing letter) has refused = absurd refused
+unstored custom made text (faults.CombineShape one two) has refused = absurd refused
+unstored custom made text (faults.Store folder of) has refused = absurd refused
+unstored custom made text faults.ScriptLimit has refused = absurd refused
+
+-- bytes that are stored as they are
+pub text_stored : (custom : Custom) (folder : Folder) (name bytes : List ℕ) (shown : Bool) (result : Result Made Fault) → StoresText bytes result → Makes custom (stored custom (text_success folder name bytes)) shown result
+text_stored custom folder name bytes shown (Ok made) is = record {
+  success = text_success folder name bytes;
+  answers = (refl, (bytes, refl, is.fits));
+  has_text = is.stored_is;
+  printed_is = is.printed_is ∙ nothing_shown shown;
+}
+text_stored custom folder name bytes shown (Err fault) refused = unstored custom (text_success folder name bytes) bytes fault refl refused
+
+-- a word whose text is too long
+pub word_refused : (names : List (List ℕ)) (v : WordValue) (fault : Fault) → HasNoWordText names v fault → IsTextRefused (named_text names v) fault
+word_refused names v (faults.Long bytes) refused = refused
+word_refused names v faults.Memory refused = tt
+word_refused names v faults.Command refused = absurd refused
+word_refused names v (faults.Syntax grammar at) refused = absurd refused
+word_refused names v (faults.MixedChain at) refused = absurd refused
+word_refused names v (faults.Number grammar at) refused = absurd refused
+word_refused names v (faults.NotLinear at) refused = absurd refused
+word_refused names v (faults.Depth grammar at) refused = absurd refused
+word_refused names v (faults.MacroArgs of at given) refused = absurd refused
+word_refused names v (faults.MacroDepth of) refused = absurd refused
+word_refused names v faults.MacroLong refused = absurd refused
+word_refused names v (faults.Unknown folder of) refused = absurd refused
+word_refused names v (faults.File folder of flaw) refused = absurd refused
+word_refused names v (faults.Arity of tracks given) refused = absurd refused
+word_refused names v (faults.SystemUnknown of) refused = absurd refused
+word_refused names v (faults.NotAdmitted of law) refused = absurd refused
+word_refused names v (faults.Clash of one two) refused = absurd refused
+word_refused names v (faults.Direction one two) refused = absurd refused
+word_refused names v (faults.Letters step) refused = absurd refused
+word_refused names v (faults.States step) refused = absurd refused
+word_refused names v (faults.WordGap of spelling) refused = absurd refused
+word_refused names v (faults.Plain of) refused = absurd refused
+word_refused names v (faults.Morphism kind) refused = absurd refused
+word_refused names v (faults.LetterMissing letter) refused = absurd refused
+word_refused names v (faults.CombineShape one two) refused = absurd refused
+word_refused names v (faults.Store folder of) refused = absurd refused
+word_refused names v faults.ScriptLimit refused = absurd refused

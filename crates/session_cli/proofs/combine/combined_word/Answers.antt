@@ -1,0 +1,107 @@
+use Rattle.std.proofs.Common.{◌≢◌, List, [], sym, subst}
+use Rattle.std.proofs.lemmas.Result.{err_from_is_err_and}
+use Rattle.combinations.specs.CombineSteps.{IsCombineDone, IsCombineRefused}
+use Rattle.combinations.specs.Parts.{PartValue, systems_at}
+use Rattle.combinations.specs.Shapes.{HaveOneShape as HaveOneTracks}
+use Rattle.combinations.specs.declared.combine_fault.CombineFault.TheVariants.{Step}
+use Rattle.dfa_loading.specs.Headers.{headers_of}
+use Rattle.dfa_loading.specs.declared.loaded.Loaded.{Loaded}
+use Rattle.formula_build.specs.Libraries.{ReadValue}
+use Rattle.session_cli.specs.CombineMakes.{HasRelations, automata_in, automata_of}
+use Rattle.session_cli.specs.CombineSteps.{ArePartsFrom}
+use Rattle.session_cli.specs.TableReads.{relations_in}
+use Rattle.session_cli.specs.TableReading.{AreReadable}
+use Rattle.session_cli.proofs.FormulaReady.{stopped_here}
+use Rattle.session_cli.proofs.ListedParts.{parts_shaped, some_automata, some_parts}
+use Rattle.session_cli.proofs.ListedSteps.{list_done, list_refused, unread_list}
+use Rattle.session_cli.proofs.ListedTables.{listed_no_gap, listed_readable, listed_relations, listed_under}
+use Rattle.session_cli.proofs.combine.combined_word.Goals as goal
+
+pub read_tables-requires : goal.read_tables-requires
+read_tables-requires c =
+    let possible = c.requires in
+    let read = c.args.read.now in
+    let systems = c.args.names.now.systems in
+    subst (λ (ts : List Loaded). AreReadable systems ts) (sym c.deref.ensures.value)
+    (listed_readable (automata_of read) read.tables.items possible.read_list.files possible.read_list.listed systems c.are_sealed.ensures possible.meant.0 possible.meant.1 possible.plain possible.systems)
+
+pub returns-in_err-library : goal.returns-in_err-library
+returns-in_err-library c =
+    let p = err_from_is_err_and c.from_residual.result c.from_residual.ensures.1 in
+    let possible = c.requires in
+    let read = c.args.read.now in
+    let systems = c.args.names.now.systems in
+    let fault = c.in_err-library.field-0.0 in
+    λ custom meant.
+    rw (p.1, p.2) (unread_list c.args.steps.now custom read.tables.items (automata_of read)
+    (λ name spelling missing. listed_no_gap (automata_of read) read.tables.items possible.read_list.files possible.read_list.listed missing.systems c.args.steps.now name spelling missing.gap) fault
+    (stopped_here systems c.args.steps.now custom read.tables.items fault c.are_sealed.ensures meant (rw c.deref.ensures.value at c.in_err-library.ensures)))
+
+pub parts_of-requires-clause-named : goal.parts_of-requires-clause-named
+parts_of-requires-clause-named c =
+    let possible = c.requires in
+    let read = c.args.read.now in
+    let systems = c.args.names.now.systems in
+    let done = rw c.deref.ensures.value at c.in_ok-library.ensures in
+    let named : HasRelations (relations_in done.0) (automata_of read) =
+    listed_relations (automata_of read) read.tables.items possible.read_list.files possible.read_list.listed systems c.are_sealed.ensures possible.meant.0 possible.meant.1 possible.plain possible.systems done.0 c.args.steps.now c.read_tables.new.steps done.1 in
+    subst (λ (l : ReadValue). HasRelations l.relations (automata_in c.deref-2.result.now)) (sym done.2) (subst (λ xs. HasRelations (relations_in done.0) (automata_in xs)) (sym c.deref-2.ensures.value) named)
+
+pub returns-in_err-parts : goal.returns-in_err-parts
+returns-in_err-parts c =
+    let p = err_from_is_err_and c.from_residual-in_err-parts.result c.from_residual-in_err-parts.ensures.1 in
+    λ custom meant. rw (p.1, p.2) tt
+
+pub word_of-requires-clause-some : goal.word_of-requires-clause-some
+word_of-requires-clause-some c =
+    let possible = c.requires in
+    let read = c.args.read.now in
+    let systems = c.args.names.now.systems in
+    let done = rw c.deref.ensures.value at c.in_ok-library.ensures in
+    let parts = c.in_ok-parts.parts.items in
+    let are : ArePartsFrom (relations_in done.0) 0 (automata_of read) parts =
+    subst (λ (l : ReadValue). ArePartsFrom l.relations 0 (automata_of read) parts) done.2 (subst (λ xs. ArePartsFrom c.in_ok-library.library.relations 0 (automata_in xs) parts) c.deref-2.ensures.value c.in_ok-parts.ensures) in
+    let some : automata_of read ≢ [] = some_automata read.automata.items possible.read_list.some in
+    subst (λ (ps : List PartValue). ps ≢ []) (sym c.deref-3.ensures.value) (some_parts (relations_in done.0) 0 (automata_of read) parts are some)
+
+pub word_of-requires-clause-shape : goal.word_of-requires-clause-shape
+word_of-requires-clause-shape c =
+    let possible = c.requires in
+    let read = c.args.read.now in
+    let systems = c.args.names.now.systems in
+    let done = rw c.deref.ensures.value at c.in_ok-library.ensures in
+    let parts = c.in_ok-parts.parts.items in
+    let are : ArePartsFrom (relations_in done.0) 0 (automata_of read) parts =
+    subst (λ (l : ReadValue). ArePartsFrom l.relations 0 (automata_of read) parts) done.2 (subst (λ xs. ArePartsFrom c.in_ok-library.library.relations 0 (automata_in xs) parts) c.deref-2.ensures.value c.in_ok-parts.ensures) in
+    let some : automata_of read ≢ [] = some_automata read.automata.items possible.read_list.some in
+    let under = listed_under (automata_of read) read.tables.items possible.read_list.files possible.read_list.listed systems c.are_sealed.ensures possible.meant.0 possible.meant.1 possible.plain possible.systems done.0 c.args.steps.now c.read_tables.new.steps done.1 in
+    subst HaveOneTracks (sym c.deref-3.ensures.value) (parts_shaped systems (headers_of read.tables.items) (relations_in done.0) under (automata_of read) parts are possible.shape)
+
+pub returns-in_err-word : goal.returns-in_err-word
+returns-in_err-word c =
+    let p = err_from_is_err_and c.from_residual-in_err-word.result c.from_residual-in_err-word.ensures.1 in
+    let possible = c.requires in
+    let read = c.args.read.now in
+    let systems = c.args.names.now.systems in
+    let done = rw c.deref.ensures.value at c.in_ok-library.ensures in
+    let parts = c.in_ok-parts.parts.items in
+    let are : ArePartsFrom (relations_in done.0) 0 (automata_of read) parts =
+    subst (λ (l : ReadValue). ArePartsFrom l.relations 0 (automata_of read) parts) done.2 (subst (λ xs. ArePartsFrom c.in_ok-library.library.relations 0 (automata_in xs) parts) c.deref-2.ensures.value c.in_ok-parts.ensures) in
+    let some : automata_of read ≢ [] = some_automata read.automata.items possible.read_list.some in
+    let fault = c.in_err-word.field-0.0 in
+    let refused = subst (λ (ps : List PartValue). IsCombineRefused c.read_tables.new.steps ps (systems_at ps 0) (Step fault) c.word_of.new.steps) c.deref-3.ensures.value c.in_err-word.ensures in
+    λ custom meant. rw (p.1, p.2) (list_refused c.args.steps.now read systems c.are_sealed.ensures done.0 c.read_tables.new.steps done.1 parts are some custom meant fault c.word_of.new.steps refused)
+
+pub returns : goal.returns
+returns c =
+    let possible = c.requires in
+    let read = c.args.read.now in
+    let systems = c.args.names.now.systems in
+    let done = rw c.deref.ensures.value at c.in_ok-library.ensures in
+    let parts = c.in_ok-parts.parts.items in
+    let are : ArePartsFrom (relations_in done.0) 0 (automata_of read) parts =
+    subst (λ (l : ReadValue). ArePartsFrom l.relations 0 (automata_of read) parts) done.2 (subst (λ xs. ArePartsFrom c.in_ok-library.library.relations 0 (automata_in xs) parts) c.deref-2.ensures.value c.in_ok-parts.ensures) in
+    let some : automata_of read ≢ [] = some_automata read.automata.items possible.read_list.some in
+    let word = c.in_ok-word.word in
+    let made = subst (λ (ps : List PartValue). IsCombineDone c.read_tables.new.steps ps (systems_at ps 0) word c.word_of.new.steps) c.deref-3.ensures.value c.in_ok-word.ensures in
+    λ custom meant. list_done c.args.steps.now read systems c.are_sealed.ensures done.0 c.read_tables.new.steps done.1 parts are some custom meant word c.word_of.new.steps made

@@ -1,0 +1,88 @@
+use Rattle.std.proofs.Common.{◌≡◌, ◌∙◌, List, ℕ, Ok, refl, sym, ap, subst}
+use Rattle.std.specs.List.{AllByRecursion}
+use Rattle.std.proofs.lemmas.Result.{err_from_is_err_and}
+use Rattle.dfa_loading.specs.Headers.{headers_of}
+use Rattle.formula_resolve.specs.FirstMentions.{first_systems}
+use Rattle.system_admission.specs.SystemSteps.{AdmitsNames}
+use Rattle.system_files.specs.SystemFiles.{Custom}
+use Rattle.session_cli.specs.Checks.{Fails}
+use Rattle.session_cli.specs.CombineMakes.{automata_in, head_of, listed_systems_of}
+use Rattle.session_cli.specs.CombineOutcomes.{listed_mentions}
+use Rattle.session_cli.specs.SealedSystems.{HasBuiltIn}
+use Rattle.session_cli.specs.SystemChecks.{no_steps, systems_known}
+use Rattle.session_cli.specs.UserSystems.{AreAdmitted}
+use Rattle.session_cli.proofs.CombineChains.{list_own, list_unknown, list_known}
+use Rattle.session_cli.proofs.SealedLemmas.{all_there}
+use Rattle.session_cli.proofs.TextReads.{texts_none, texts_refused, texts_read}
+use Rattle.session_cli.proofs.combine.made_of.Goals as goal
+
+pub returns-in_err-headers : goal.returns-in_err-headers
+returns-in_err-headers g c =
+    let p = err_from_is_err_and c.from_residual.result c.from_residual.ensures.1 in
+    rw (p.1, p.2) (texts_none _ _ _ refl (λ custom ledger files word stores same listed. tt))
+
+pub returns-in_err-mentions : goal.returns-in_err-mentions
+returns-in_err-mentions g c =
+    let p = err_from_is_err_and c.from_residual-in_err-mentions.result c.from_residual-in_err-mentions.ensures.1 in
+    rw (p.1, p.2) (texts_none _ _ _ refl (λ custom ledger files word stores same listed. tt))
+
+pub returns-in_err-mentioned : goal.returns-in_err-mentioned
+returns-in_err-mentioned g c =
+    let p = err_from_is_err_and c.from_residual-in_err-mentioned.result c.from_residual-in_err-mentioned.ensures.1 in
+    rw (p.1, p.2) (texts_none _ _ _ refl (λ custom ledger files word stores same listed. tt))
+
+pub returns-in_err-users : goal.returns-in_err-users
+returns-in_err-users g c =
+    let p = err_from_is_err_and c.from_residual-in_err-users.result c.from_residual-in_err-users.ensures.1 in
+    let fault = c.in_err-users.field-0.0 in
+    let limit = c.args.options.limit in
+    let read = c.args.read.now in
+    let tables = read.tables.items in
+    let headers = c.in_ok-headers.ensures ∙ ap headers_of c.deref.ensures.value in
+    let mentioned = c.deref-3.ensures.value ∙ (c.in_ok-mentions.ensures ∙ ap (λ xs. listed_mentions (automata_in xs)) c.deref-2.ensures.value) in
+    let names : c.deref-4.result.now ≡ listed_systems_of read = c.deref-4.ensures.value ∙ (c.in_ok-mentioned.ensures ∙ (λ i. first_systems (headers i) (mentioned i))) in
+    rw (p.1, p.2) (texts_refused _ _ _ _ fault c.in_err-users.ensures
+    (λ custom refused ledger files word stores same listed. list_unknown limit ledger (head_of word read) tables fault
+    (subst (λ (k : Custom). Fails (systems_known limit k (listed_systems_of read)) fault) (sym same) (subst (λ (ns : List (List ℕ)). Fails (systems_known limit custom ns) fault) names refused))))
+
+pub combined-requires-clause-systems : goal.combined-requires-clause-systems
+combined-requires-clause-systems g c =
+    let read = c.args.read.now in
+    let headers = c.in_ok-headers.ensures ∙ ap headers_of c.deref.ensures.value in
+    let mentioned = c.deref-3.ensures.value ∙ (c.in_ok-mentions.ensures ∙ ap (λ xs. listed_mentions (automata_in xs)) c.deref-2.ensures.value) in
+    let once = c.in_ok-mentioned.ensures ∙ (λ i. first_systems (headers i) (mentioned i)) in
+    let names : c.deref-4.result.now ≡ listed_systems_of read = c.deref-4.ensures.value ∙ once in
+    let also : c.deref-5.result.now ≡ listed_systems_of read = c.deref-5.ensures.value ∙ once in
+    let users = c.in_ok-users.users in
+    let first = c.in_ok-users.ensures in
+    let adds = c.in_ok-add_all.ensures in
+    let admitted = subst (λ (ns : List (List ℕ)). AreAdmitted c.args.options.limit ns first.stands.0 users) names (first.gives first.stands.0 first.stands.1) in
+    record {
+      mentioned = all_there users.named c.add_all.new.systems (listed_systems_of read) adds.extends admitted.there (subst (AllByRecursion (HasBuiltIn c.add_all.new.systems)) also adds.there);
+      default = adds.default;
+    }
+
+pub combined-requires-clause-meant : goal.combined-requires-clause-meant
+combined-requires-clause-meant g c =
+    let first = c.in_ok-users.ensures in
+    (first.stands.0, c.in_ok-add_all.ensures.extends.meant first.stands.0 (first.gives first.stands.0 first.stands.1).meant)
+
+pub returns : goal.returns
+returns g c =
+    let limit = c.args.options.limit in
+    let shown = c.args.options.shown in
+    let read = c.args.read.now in
+    let tables = read.tables.items in
+    let headers = c.in_ok-headers.ensures ∙ ap headers_of c.deref.ensures.value in
+    let mentioned = c.deref-3.ensures.value ∙ (c.in_ok-mentions.ensures ∙ ap (λ xs. listed_mentions (automata_in xs)) c.deref-2.ensures.value) in
+    let names : c.deref-4.result.now ≡ listed_systems_of read = c.deref-4.ensures.value ∙ (c.in_ok-mentioned.ensures ∙ (λ i. first_systems (headers i) (mentioned i))) in
+    let users = c.in_ok-users.users in
+    let first = c.in_ok-users.ensures in
+    let custom = first.stands.0 in
+    let meant = c.in_ok-add_all.ensures.extends.meant custom (first.gives custom first.stands.1).meant in
+    let own = list_own users.steps shown read custom c.combined.result c.requires (c.combined.ensures custom meant) in
+    texts_read _ _ _ _ users c.combined.result own first
+    (λ k admitted ledger files word stores same listed.
+    let admits = (subst (λ (ns : List (List ℕ)). AreAdmitted limit ns k users) names admitted).admits in
+    list_known limit ledger (head_of word read) tables users.steps shown c.combined.result (subst (λ (j : Custom). AdmitsNames j (listed_systems_of read) (no_steps limit) (Ok tt) users.steps) (sym same) admits)
+    (c.combined.ensures k (c.in_ok-add_all.ensures.extends.meant k admitted.meant) ledger files word stores same listed))

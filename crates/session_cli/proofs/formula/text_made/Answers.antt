@@ -1,0 +1,42 @@
+use Rattle.std.proofs.Common.{Err, ◌∙◌}
+use Rattle.std.proofs.lemmas.Result.{err_from_is_err_and}
+use Rattle.formula_parse.specs.Views.{formula_view}
+use Rattle.formula_resolve.specs.FirstMentions.{first_files}
+use Rattle.formula_resolve.specs.Mentions.{mentions}
+use Rattle.definitions.proofs.CustomTexts.{stored_custom}
+use Rattle.session_cli.proofs.FilesAlike.{bases_alike, listed_alike, unloaded_alike}
+use Rattle.session_cli.proofs.FilesElsewhere.{loads_elsewhere}
+use Rattle.session_cli.proofs.FormulaChains.{text_unparsed, text_parsed, formula_unloaded, formula_loaded}
+use Rattle.session_cli.proofs.FormulaRefusals.{unparsed_formula}
+use Rattle.session_cli.proofs.LoadedFiles.{unloaded}
+use Rattle.session_cli.proofs.StoreReads.{own_parse, from_none, from_refused}
+use Rattle.session_cli.proofs.TextReads.{then_texts}
+use Rattle.session_cli.proofs.formula.text_made.Goals as goal
+
+pub returns-in_err-formula : goal.returns-in_err-formula
+returns-in_err-formula g c =
+    let p = err_from_is_err_and c.from_residual.result c.from_residual.ensures.1 in
+    let fault = c.in_err-formula.field-0.0 in
+    rw (p.1, p.2) (from_none _ _ _ (own_parse fault) (λ found ledger files place stores same. text_unparsed c.args.options.limit ledger place c.args.text.now _ (unparsed_formula c.args.text.now fault c.in_err-formula.ensures)))
+
+pub returns-in_err-tables : goal.returns-in_err-tables
+returns-in_err-tables g c =
+    let p = err_from_is_err_and c.from_residual-in_err-tables.result c.from_residual-in_err-tables.ensures.1 in
+    let f = formula_view c.in_ok-formula.formula in
+    let fault = c.in_err-tables.field-0.0 in
+    rw (p.1, p.2) (from_refused _ _ _ _ fault c.in_err-tables.ensures
+    (λ found refused ledger files place stores same. text_parsed c.args.options.limit ledger place c.args.text.now f c.args.options.shown (Err fault) c.in_ok-formula.ensures
+    (formula_unloaded c.args.options.limit ledger place f fault (unloaded ledger files (first_files (mentions f)) fault stores (unloaded_alike files found same (first_files (mentions f)) fault refused)))))
+
+pub made_of-requires : goal.made_of-requires
+made_of-requires g c = record { text = c.args.text.now; reads = c.in_ok-formula.ensures; files = c.in_ok-tables.ensures.found; listed = c.in_ok-tables.ensures.gives }
+
+pub returns : goal.returns
+returns g c =
+    let f = formula_view c.in_ok-formula.formula in
+    let tables = c.in_ok-tables.tables.items in
+    then_texts _ _ _ _ _ _ c.in_ok-tables.tables c.made_of.result c.in_ok-tables.ensures c.made_of.ensures (λ found custom listed. loads_elsewhere found custom f c.in_ok-tables.tables listed)
+    (λ found listed makes ledger files place stores same.
+    let here = listed_alike files found same (first_files (mentions f)) tables listed in
+    text_parsed c.args.options.limit ledger place c.args.text.now f c.args.options.shown c.made_of.result c.in_ok-formula.ensures
+    (formula_loaded c.args.options.limit ledger place f tables c.args.options.shown c.made_of.result (files, stores, here) (makes ledger files place stores (stored_custom ledger files stores ∙ bases_alike files found same) here)))

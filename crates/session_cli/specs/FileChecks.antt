@@ -1,0 +1,27 @@
+-- The files that a command names, loaded one after another.
+use Rattle.std.specs.Prelude.{ℕ, List, Result, Ok, Err}
+use Rattle.wal_outside.specs.Files.{Files}
+use Rattle.wal_outside.specs.Places.{Place}
+use Rattle.dfa_loading.specs.Loading.{AreListedBy, FirstRefuses, ReadsAt}
+use Rattle.dfa_loading.specs.declared.fault.LoadFault.TheVariants as loads
+use Rattle.dfa_loading.specs.declared.loaded.Loaded.{Loaded}
+use Rattle.formula_resolve.specs.declared.file.File.{File}
+use Rattle.definitions.specs.Trees.{Ledger}
+use Rattle.definitions.specs.Texts.{Stores}
+use Rattle.session_cli.specs.declared.fault.Fault.{Fault}
+use Rattle.session_cli.specs.declared.fault.Fault.TheVariants as faults
+use Rattle.session_cli.specs.Checks.{Check}
+
+-- the tables of the files, by the texts of the ledger; or the first that is none
+abbrev pub FilesAnswers : Ledger → List File → Result (List Loaded) Fault → Type 0
+FilesAnswers ledger named (Ok tables) = (files : Files) × Stores ledger files × AreListedBy files named tables
+FilesAnswers ledger named (Err (faults.Unknown folder name)) = (files : Files) × Stores ledger files × FirstRefuses files named (loads.Unknown folder name)
+FilesAnswers ledger named (Err (faults.File folder name flaw)) = (files : Files) × Stores ledger files × FirstRefuses files named (loads.File folder name flaw)
+FilesAnswers ledger named (Err fault) = ⊥
+
+-- one of the files is read at this place, and those before it list tables
+abbrev pub FilesAt : Ledger → List File → Place → Type 0
+FilesAt ledger named place = (files : Files) × Stores ledger files × ReadsAt files named place.0 place.1
+
+abbrev pub files_loaded : Ledger → List File → Check (List Loaded)
+files_loaded ledger named = record { answers = FilesAnswers ledger named; reads = FilesAt ledger named }

@@ -1,0 +1,41 @@
+-- The text of a formula, with its calls of macros expanded by the texts that stand among macros. Each of these is read once, where a call of it is
+-- met first.
+use Rattle.std.specs.Prelude.{◌≡◌, ◌≢◌, ℕ, List, Vec, Result, Ok, Err, MatchResult, ⊤}
+use Rattle.std.specs.declared.alloc.Global.{Global}
+use Rattle.wal_outside.specs.Files.{Files}
+use Rattle.wal_outside.specs.Places.{Place}
+use Rattle.wal_outside.specs.declared.folder.Folder.{Folder}
+use Rattle.wal_outside.specs.declared.folder.Folder.TheVariants.{Macros}
+use Rattle.dfa_loading.specs.declared.fault.LoadFault.TheVariants as loads
+use Rattle.macro_expand.specs.Expansion.{expansion}
+use Rattle.macro_loading.specs.MacroFiles as macros
+use Rattle.macro_loading.specs.MacroFiles.{ReadsMacroAt, macros_of}
+use Rattle.macro_loading.specs.declared.fault.ExpansionFault.TheVariants as expansions
+use Rattle.definitions.specs.Trees.{Ledger}
+use Rattle.definitions.specs.Texts.{Stores}
+use Rattle.session_cli.specs.declared.fault.Grammar.TheVariants as grammars
+use Rattle.session_cli.specs.declared.fault.Fault.{Fault}
+use Rattle.session_cli.specs.declared.fault.Fault.TheVariants as faults
+use Rattle.session_cli.specs.Checks.{Check}
+
+-- some files that are the texts of the ledger have the property
+abbrev pub OfFiles : Ledger → (Files → Type 0) → Type 0
+OfFiles ledger Has = (files : Files) × Stores ledger files × Has files
+
+-- the expansion by the macros of the ledger, or the first fault that is met from the left
+abbrev pub ExpandedAnswers : Ledger → List ℕ → Result (List ℕ) Fault → Type 0
+ExpandedAnswers ledger body (Ok text) = OfFiles ledger (λ files. expansion (macros_of files) body ≡ Ok text)
+ExpandedAnswers ledger body (Err (faults.Syntax grammars.Macro at)) = OfFiles ledger (λ files. macros.Fails files body (expansions.Syntax at))
+ExpandedAnswers ledger body (Err (faults.MacroArgs name place given)) = OfFiles ledger (λ files. macros.Fails files body (expansions.MacroArgs name place given))
+ExpandedAnswers ledger body (Err (faults.MacroDepth name)) = OfFiles ledger (λ files. macros.Fails files body (expansions.MacroDepth name))
+ExpandedAnswers ledger body (Err faults.MacroLong) = OfFiles ledger (λ files. macros.Fails files body expansions.MacroLong)
+ExpandedAnswers ledger body (Err (faults.Unknown folder name)) = OfFiles ledger (λ files. macros.Fails files body (expansions.Load (loads.Unknown folder name)))
+ExpandedAnswers ledger body (Err (faults.File folder name flaw)) = OfFiles ledger (λ files. macros.Fails files body (expansions.Load (loads.File folder name flaw)))
+ExpandedAnswers ledger body (Err fault) = ⊥
+
+-- a macro that is met is read at this place
+abbrev pub ExpandsAt : Ledger → List ℕ → Place → Type 0
+ExpandsAt ledger body place = OfFiles ledger (λ files. ReadsMacroAt files body place.0 place.1)
+
+abbrev pub expanded : Ledger → List ℕ → Check (List ℕ)
+expanded ledger body = record { answers = ExpandedAnswers ledger body; reads = ExpandsAt ledger body }

@@ -1,0 +1,44 @@
+-- What a `promote` does, by its checks in their order: the shape of its head, the file of the morphism, that the morphism has a fixed point,
+-- the step, and the length of the text to store.
+use Rattle.std.specs.Prelude.{◌≡◌, ℕ, List, [], ◌∷◌, None, Result, Ok, Err}
+use Rattle.digit_tuple.specs.Steps.{StepLog}
+use Rattle.digit_tuple.specs.declared.step_fault.StepFault.TheVariants as steps
+use Rattle.digit_tuple.specs.declared.steps.StepLine.{StepLine}
+use Rattle.wal_outside.specs.declared.folder.Folder.TheVariants.{Words}
+use Rattle.command_head.specs.Grammar.{SpellsPromote}
+use Rattle.command_head.specs.Heads.{PromoteHead}
+use Rattle.fixed_points.specs.Promotion.{IsPromoteStep, IsPromoteRefused}
+use Rattle.fixed_points.specs.declared.promote_fault.PromoteFault.TheVariants as promotes
+use Rattle.morph_words.specs.Rules.{Rules}
+use Rattle.word_output.specs.Words.{WordValue}
+use Rattle.definitions.specs.Trees.{Defined, Fixed, Ledger, custom_of}
+use Rattle.system_files.specs.SystemFiles.{Custom}
+use Rattle.session_cli.specs.declared.fault.Fault.{Fault}
+use Rattle.session_cli.specs.declared.fault.Fault.TheVariants as faults
+use Rattle.session_cli.specs.Accepting.{Success, stored}
+use Rattle.session_cli.specs.Checks.{Check, Pure, Then}
+use Rattle.session_cli.specs.HeadAnswers.{HeadAnswers}
+use Rattle.session_cli.specs.MorphismChecks.{morphism_loaded}
+use Rattle.session_cli.specs.SystemChecks.{no_steps}
+
+-- the line of the step; or why the morphism has no fixed point, or the number of the step where it passes the limit
+abbrev pub PromotedAnswers : ℕ → Rules → Result (List StepLine) Fault → Type 0
+PromotedAnswers limit rules (Ok lines) = (word : WordValue) × (line : StepLine) × IsPromoteStep limit rules word line × (lines ≡ line ∷ [])
+PromotedAnswers limit rules (Err (faults.Morphism kind)) = IsPromoteRefused (no_steps limit) rules (promotes.Morphism kind)
+PromotedAnswers limit rules (Err (faults.States step)) = IsPromoteRefused (no_steps limit) rules (promotes.Step (steps.States step))
+PromotedAnswers limit rules (Err fault) = ⊥
+
+-- what is stored and printed of a fixed point
+abbrev pub fixed_success : List ℕ → Rules → List StepLine → Success
+fixed_success name rules lines = record { folder = Words; name = name; entry = Defined (Fixed rules); lines = lines; verdict = None }
+
+-- the checks after the morphism, and after the head
+abbrev pub after_morphism : ℕ → Custom → List ℕ → Rules → Check Success
+after_morphism limit custom name rules = Then (Pure (PromotedAnswers limit rules)) (λ lines. stored custom (fixed_success name rules lines))
+
+abbrev pub after_promote_head : ℕ → Ledger → PromoteHead → Check Success
+after_promote_head limit ledger head = Then (morphism_loaded ledger head.morphism) (λ rules. after_morphism limit (custom_of ledger) head.word rules)
+
+-- all checks of a `promote`
+abbrev pub promote_checks : ℕ → Ledger → List ℕ → Check Success
+promote_checks limit ledger text = Then (Pure (HeadAnswers SpellsPromote text)) (λ head. after_promote_head limit ledger head)

@@ -1,0 +1,42 @@
+-- What a `macro` and a `morphism` do: they store a text, and the printed rules of a morphism. Their checks are the shape of the head, for a
+-- `morphism` its rules, and the length of the text to store.
+use Rattle.std.specs.Prelude.{ℕ, List, [], None, Result, Ok, Err, codes}
+use Rattle.wal_outside.specs.declared.folder.Folder.{Folder}
+use Rattle.wal_outside.specs.declared.folder.Folder.TheVariants.{Macros, Morphisms}
+use Rattle.command_head.specs.Grammar.{SpellsNamed}
+use Rattle.command_head.specs.Heads.{NamedHead}
+use Rattle.morph_words.specs.Faults.{Parses}
+use Rattle.morph_words.specs.Printed.{printed}
+use Rattle.morph_words.specs.Rules.{Rules}
+use Rattle.morph_words.specs.declared.fault.RulesFault.TheVariants as rules_faults
+use Rattle.definitions.specs.Trees.{Bytes, Ledger, custom_of}
+use Rattle.system_files.specs.SystemFiles.{Custom}
+use Rattle.session_cli.specs.declared.fault.Grammar.TheVariants as grammars
+use Rattle.session_cli.specs.declared.fault.Fault.{Fault}
+use Rattle.session_cli.specs.declared.fault.Fault.TheVariants as faults
+use Rattle.session_cli.specs.Accepting.{Success, stored}
+use Rattle.session_cli.specs.Checks.{Check, Pure, Then}
+use Rattle.session_cli.specs.HeadAnswers.{HeadAnswers}
+
+-- bytes are stored, and nothing is printed
+abbrev pub text_success : Folder → List ℕ → List ℕ → Success
+text_success folder name bytes = record { folder = folder; name = name; entry = Bytes bytes; lines = []; verdict = None }
+
+-- all checks of a `macro`
+abbrev pub macro_checks : Ledger → List ℕ → Check Success
+macro_checks ledger text = Then (Pure (HeadAnswers (SpellsNamed (codes "macro")) text)) (λ (head : NamedHead). stored (custom_of ledger) (text_success Macros head.name head.body))
+
+-- the rules of a quoted text, or where it breaks the grammar
+abbrev pub RulesAnswers : List ℕ → Result Rules Fault → Type 0
+RulesAnswers body (Ok rules) = Parses body (Ok rules)
+RulesAnswers body (Err (faults.Syntax grammars.Rules at)) = Parses body (Err (rules_faults.Syntax at))
+RulesAnswers body (Err (faults.Number grammars.Rules at)) = Parses body (Err (rules_faults.Number at))
+RulesAnswers body (Err fault) = ⊥
+
+-- the checks after the head
+abbrev pub after_rules_head : Custom → NamedHead → Check Success
+after_rules_head custom head = Then (Pure (RulesAnswers head.body)) (λ rules. stored custom (text_success Morphisms head.name (printed rules)))
+
+-- all checks of a `morphism`
+abbrev pub morphism_checks : Ledger → List ℕ → Check Success
+morphism_checks ledger text = Then (Pure (HeadAnswers (SpellsNamed (codes "morphism")) text)) (λ head. after_rules_head (custom_of ledger) head)
