@@ -59,6 +59,19 @@ pub mod ListedSteps
 pub mod CombineChains
 pub mod CombineTexts
 pub mod CombineMaking
+pub mod NamedWords
+pub mod LetterResolution
+pub mod LetterPlaces
+pub mod LetterRelations
+pub mod PartLemmas
+pub mod MappedLemmas
+pub mod ImageOutcomeLemmas
+pub mod OldWords
+pub mod ImageReads
+pub mod ImagedSteps
+pub mod ImageTexts
+pub mod ImageChains
+pub mod ImagePlanning
 pub mod OneLimits
 pub mod ClapTurns
 pub mod ClapWalks
@@ -74,5 +87,7 @@ pub mod OneBuildings
 pub mod OneFormulas
 pub mod OneTextCommands
 pub mod OneCombines
+pub mod ImageLaws
+pub mod OneImages
 pub mod OneOutcomes
 pub mod OneRuns

@@ -32,7 +32,7 @@ module _ {X : Type 0} (P : X → Type 0) where
   all_more [] x all one = (one, tt)
   all_more (y ∷ xs) x all one = (all.0, all_more xs x all.1 one)
 
-  all_parts : (xs ys : List X) → AllByRecursion P (xs ++ ys) → AllByRecursion P xs × AllByRecursion P ys
+  pub all_parts : (xs ys : List X) → AllByRecursion P (xs ++ ys) → AllByRecursion P xs × AllByRecursion P ys
   all_parts [] ys all = (tt, all)
   all_parts (x ∷ xs) ys all = let parts = all_parts xs ys all.1 in ((all.0, parts.0), parts.1)
 

@@ -37,6 +37,8 @@ use Rattle.session_cli.proofs.OneHeads.{head_single}
 use Rattle.session_cli.proofs.OneTexts.{stored_single}
 use Rattle.session_cli.proofs.OneFormulas.{formula_single}
 use Rattle.session_cli.proofs.OneCombines.{combine_single}
+use Rattle.session_cli.proofs.OneImages.{image_single}
+use Rattle.session_cli.proofs.ImageLaws.{one_image_outcome}
 use Rattle.session_cli.proofs.OneSystems.{systems_single}
 use Rattle.session_cli.proofs.OneTextCommands.{macro_single, morphism_single, promote_single}
 
@@ -298,6 +300,7 @@ word_by_letters n =
     else if n == 109097 then words.Macro
     else if n == 109111 then words.Morphism
     else if n == 112114 then words.Promote
+    else if n == 105109 then words.Image
     else words.Combine
 
 word_again : (word : CommandWord) → word_by_letters (letters_of_word (word_text word)) ≡ word
@@ -308,6 +311,7 @@ word_again words.Macro = refl
 word_again words.Morphism = refl
 word_again words.Promote = refl
 word_again words.Combine = refl
+word_again words.Image = refl
 
 one_word : (text : List ℕ) (v w : CommandWord) → text ≡ word_text v → text ≡ word_text w → v ≡ w
 one_word text v w a b = sym (word_again v) ∙ (ap (λ (xs : List ℕ). word_by_letters (letters_of_word xs)) (sym a ∙ b) ∙ word_again w)
@@ -361,6 +365,7 @@ single_by_word promotions words.Macro limit ledger text = macro_single ledger te
 single_by_word promotions words.Morphism limit ledger text = morphism_single ledger text
 single_by_word promotions words.Promote limit ledger text = promote_single promotions limit ledger text
 single_by_word promotions words.Combine limit ledger text = combine_single limit ledger text
+single_by_word promotions words.Image limit ledger text = image_single one_image_outcome limit ledger text
 
 pub one_answer : PromotionsHaveOneOutcome → (limit : ℕ) (ledger : Ledger) (text : List ℕ) (answer other : Answer) → Outcome limit ledger text answer → Outcome limit ledger text other → answer ≡ other
 one_answer promotions limit ledger text =

@@ -12,6 +12,7 @@ use Rattle.session_cli.specs.declared.command_word.CommandWord.TheVariants as wo
 use Rattle.session_cli.specs.Accepting.{Success, Answer}
 use Rattle.session_cli.specs.CombineOutcomes.{combine_checks}
 use Rattle.session_cli.specs.FormulaOutcomes.{formula_checks}
+use Rattle.session_cli.specs.ImageOutcomes.{image_checks}
 use Rattle.session_cli.specs.Outcomes.{checks_of, checks_by, word_text}
 use Rattle.session_cli.specs.PromoteOutcomes.{promote_checks}
 use Rattle.session_cli.specs.RegOutcomes.{reg_checks}
@@ -25,6 +26,9 @@ Stands success = (success.folder ≢ Bases) × MayStandIn success.folder (tree_o
 abbrev pub MayStore : Answer → Type 0
 MayStore (Ok success) = Stands success
 MayStore (Err fault) = Unit {0}
+
+image_stands : (limit : ℕ) (ledger : Ledger) (text : List ℕ) (success : Success) → (image_checks limit ledger text).answers (Ok success) → Stands success
+image_stands limit ledger text success (head, h, (rules, m, (tables, t, (admitted, a, (one, o, (uniform, u, (track, w, (lines, l, (entry, e, (is, fits)))))))))) = subst Stands (sym is) ((λ same. cc), (λ i. Words))
 
 reg_stands : (limit : ℕ) (ledger : Ledger) (text : List ℕ) (success : Success) → (reg_checks limit ledger text).answers (Ok success) → Stands success
 reg_stands limit ledger text success (head, h, (admitted, a, (tracks, t, (pattern, p, (lines, l, (is, fits)))))) = subst Stands (sym is) ((λ same. cc), ((λ same. cc), (λ same. cc)))
@@ -47,6 +51,7 @@ combine_stands limit ledger text success (head, h, (tables, t, (admitted, a, (no
 by_word : (word : CommandWord) (limit : ℕ) (ledger : Ledger) (text : List ℕ) (success : Success) → (checks_by word limit ledger text).answers (Ok success) → Stands success
 by_word words.Reg limit ledger text success is = reg_stands limit ledger text success is
 by_word words.Eval limit ledger text success is = formula_stands (word_text words.Eval) Results limit ledger text success (λ same. cc) (λ same. cc) is
+by_word words.Image limit ledger text success is = image_stands limit ledger text success is
 by_word words.Def limit ledger text success is = formula_stands (word_text words.Def) Automata limit ledger text success (λ same. cc) (λ same. cc) is
 by_word words.Macro limit ledger text success is = macro_stands ledger text success is
 by_word words.Morphism limit ledger text success is = morphism_stands ledger text success is

@@ -18,6 +18,9 @@ pub mod MorphismChecks
 pub mod PromoteOutcomes
 pub mod CombineSteps
 pub mod CombineOutcomes
+pub mod RecodedWords
+pub mod ImageSteps
+pub mod ImageOutcomes
 pub mod Outcomes
 pub mod SpellingTexts
 pub mod Lines
@@ -29,6 +32,10 @@ pub mod Laws
 pub mod FormulaFaults
 pub mod SystemFaults
 pub mod MorphismFaults
+pub mod ImageFaults
+pub mod LetterSettings
+pub mod LetterParts
+pub mod OneImage
 pub mod Plans
 pub mod StoreReads
 pub mod KnownSystems
@@ -40,6 +47,7 @@ pub mod FormulaPlans
 pub mod FormulaMakes
 pub mod MacroMakes
 pub mod CombineMakes
+pub mod ImageMakes
 pub mod WordPrinting
 pub mod BaseWords
 pub mod TextPlans

@@ -15,6 +15,7 @@ use Rattle.session_cli.specs.FormulaOutcomes.{formula_checks}
 use Rattle.session_cli.specs.TextOutcomes.{macro_checks, morphism_checks}
 use Rattle.session_cli.specs.PromoteOutcomes.{promote_checks}
 use Rattle.session_cli.specs.CombineOutcomes.{combine_checks}
+use Rattle.session_cli.specs.ImageOutcomes.{image_checks}
 
 -- a command may have 65,536 bytes
 abbrev pub IsShort : List ℕ → Type 0
@@ -34,6 +35,7 @@ word_text words.Macro = codes "macro"
 word_text words.Morphism = codes "morphism"
 word_text words.Promote = codes "promote"
 word_text words.Combine = codes "combine"
+word_text words.Image = codes "image"
 
 -- the first word is that of this command, or none that a command has
 abbrev pub WordAnswers : List ℕ → Result CommandWord Fault → Type 0
@@ -50,6 +52,7 @@ checks_by words.Macro limit ledger text = macro_checks ledger text
 checks_by words.Morphism limit ledger text = morphism_checks ledger text
 checks_by words.Promote limit ledger text = promote_checks limit ledger text
 checks_by words.Combine limit ledger text = combine_checks limit ledger text
+checks_by words.Image limit ledger text = image_checks limit ledger text
 
 -- the checks after the length
 abbrev pub after_length : ℕ → Ledger → List ℕ → Check Success

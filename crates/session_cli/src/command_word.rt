@@ -22,6 +22,8 @@ pub(crate) enum CommandWord {
     Promote,
     /// `combine`: the word that listed automata make together.
     Combine,
+    /// `image`: a word whose letters are mapped by a morphism.
+    Image,
 }
 
 /// The command whose word stands first in a text. None where it is none that a command has.
@@ -36,6 +38,7 @@ pub(crate) fn command_word(text: &[u8]) -> Option<CommandWord>
         b"morphism" => Some(CommandWord::Morphism),
         b"promote" => Some(CommandWord::Promote),
         b"combine" => Some(CommandWord::Combine),
+        b"image" => Some(CommandWord::Image),
         _ => None,
     }
 }

@@ -4,8 +4,10 @@ ghost use Rattle.session_cli.specs.TrackSystems.{fault_of};
 ghost use Rattle.session_cli.specs.FormulaFaults.{fault_of_loading, fault_of_resolution, fault_of_reading, fault_of_formula, fault_of_expansion};
 ghost use Rattle.session_cli.specs.HeadAnswers.{fault_of_head};
 ghost use Rattle.session_cli.specs.MorphismFaults.{fault_of_promotion, fault_of_rules};
+ghost use Rattle.session_cli.specs.ImageFaults.{fault_of_imaging};
 ghost use Rattle.session_cli.specs.SystemFaults.{fault_of_system};
 
+use crate::image_fault::ImageFault;
 use crate::read_fault::ReadFault;
 use adder_check::admit_fault::Law;
 use command_head::HeadFault;
@@ -115,6 +117,18 @@ impl From<StepFault> for Fault {
             StepFault::Letters(step) => Fault::Letters(step),
             StepFault::States(step) => Fault::States(step),
             StepFault::Memory => Fault::Memory,
+        }
+    }
+}
+
+impl From<ImageFault> for Fault {
+    ghost from_gives = { λ f e. e ≡ fault_of_imaging f };
+
+    fn from(fault: ImageFault) -> Fault {
+        match fault {
+            ImageFault::Morphism(kind) => Fault::Morphism(kind),
+            ImageFault::Missing(letter) => Fault::LetterMissing(letter),
+            ImageFault::Step(fault) => Fault::from(fault),
         }
     }
 }

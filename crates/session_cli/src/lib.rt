@@ -43,6 +43,18 @@ mod word_text;
 mod promote;
 // the command `combine`
 mod combine;
+// the tables of files that a command mentions
+mod table_loading;
+// why a word has no image
+mod image_fault;
+// what the names of the formulas of letters stand for
+mod setting;
+// the relations of letters, one after another
+mod letter_parts;
+// images of words
+mod imaging;
+// the command `image`
+mod image;
 // what a command stores and prints, from its text
 mod planning;
 // one command

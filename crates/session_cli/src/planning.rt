@@ -11,6 +11,7 @@ use crate::combine::plan_combine;
 use crate::command_word::{CommandWord, command_word};
 use crate::fault::Fault;
 use crate::formula::{FormulaCommand, plan_formula};
+use crate::image::plan_image;
 use crate::plan::Plan;
 use crate::promote::plan_promote;
 use crate::reg::plan_reg;
@@ -71,6 +72,7 @@ pub(crate) fn plan_of<T: Store>(
         Some(CommandWord::Morphism) => plan_morphism(alloc, text),
         Some(CommandWord::Promote) => plan_promote(alloc, options, text, store),
         Some(CommandWord::Combine) => plan_combine(alloc, options, text, systems, store),
+        Some(CommandWord::Image) => plan_image(alloc, options, text, systems, store),
         None => Err(Fault::Command),
     }
 }

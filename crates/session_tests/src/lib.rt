@@ -88,6 +88,16 @@ mod promotion_rows;
 #[cfg(test)]
 mod promotion_texts;
 
+// images of words
+#[cfg(test)]
+mod image_files;
+#[cfg(test)]
+mod image_rows;
+#[cfg(test)]
+mod image_steps;
+#[cfg(test)]
+mod image_texts;
+
 // automata combined to words
 #[cfg(test)]
 mod combine_faults;

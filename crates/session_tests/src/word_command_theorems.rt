@@ -54,9 +54,8 @@ const TERNARY: &str = "morphism thue \"0->01 1->10\"; \
     promote T thue; \
     morphism pairs \"0->01 1->20 2->23 3->02\"; \
     promote Pairs pairs; \
-    def rises \"Pairs[n]=@0\"; \
-    def falls \"Pairs[n]=@2\"; \
-    combine V rises=1 falls=-1; \
+    morphism change \"0->1 1->0 2->[-1] 3->0\"; \
+    image V change Pairs; \
     macro again \"Ei,n n>=1 & At t<%1 => %0[i+t]=%0[i+n+t]\"; ";
 
 /// Squares, and factors that are missing (Axel Thue).
@@ -91,8 +90,8 @@ static DOUBLING_STATEMENTS: [Statement; 6] = [
 /// Commands that make the Rudin-Shapiro word of one over four letters, and powers of 2.
 const RUDIN: &str = "morphism rudin \"0->01 1->02 2->31 3->32\"; \
     promote Four rudin; \
-    def odd \"Four[n]=@2 | Four[n]=@3\"; \
-    combine R odd; \
+    morphism parity \"0->0 1->0 2->1 3->1\"; \
+    image R parity Four; \
     reg power msd_2 \"0*10*\"; \
     macro again \"Ei,n n>=1 & At t<%1 => %0[i+t]=%0[i+n+t]\"; \
     macro orders \"n>=1 & Ei At t<n => %0[i+t]=%0[i+n+t]\"; \
@@ -116,8 +115,8 @@ static RUDIN_STATEMENTS: [Statement; 5] = [
 /// Commands that make the paperfolding word of one over four letters.
 const FOLDING: &str = "morphism folding \"0->01 1->21 2->03 3->23\"; \
     promote Sides folding; \
-    def valleys \"Sides[n]=@0 | Sides[n]=@1\"; \
-    combine P valleys; \
+    morphism folds \"0->1 1->1 2->0 3->0\"; \
+    image P folds Sides; \
     macro again \"Ei,n n>=1 & At t<%1 => %0[i+t]=%0[i+n+t]\"; \
     macro orders \"n>=1 & Ei At t<n => %0[i+t]=%0[i+n+t]\"; \
     macro palindromes \"n>=1 & Ei At 2*t<n => %0[i+t]=%0[i+n-1-t]\"; ";

@@ -57,6 +57,11 @@ returns-in-Some-Combine g c =
     from_part _ _ _ _ c.plan_combine.result c.plan_combine.ensures
     (λ found plans ledger stores. planned_by_word words.Combine c.args.options.limit ledger c.args.text.now c.args.options.shown c.plan_combine.result c.if-text-gt-COMMAND_LIMIT.false (rw c.in-Some-Combine.field-0-is at c.in-Some-Combine.ensures) (plans ledger stores))
 
+pub returns-in-Some-Image : goal.returns-in-Some-Image
+returns-in-Some-Image g c =
+    from_part _ _ _ _ c.plan_image.result c.plan_image.ensures
+    (λ found plans ledger stores. planned_by_word words.Image c.args.options.limit ledger c.args.text.now c.args.options.shown c.plan_image.result c.if-text-gt-COMMAND_LIMIT.false (rw c.in-Some-Image.field-0-is at c.in-Some-Image.ensures) (plans ledger stores))
+
 pub returns-then-text-gt-COMMAND_LIMIT : goal.returns-then-text-gt-COMMAND_LIMIT
 returns-then-text-gt-COMMAND_LIMIT g c = from_none _ _ _ refl (λ found ledger stores. too_long c.args.options.limit ledger c.args.text.now c.if-text-gt-COMMAND_LIMIT.true)
 

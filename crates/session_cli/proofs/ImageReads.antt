@@ -1,0 +1,149 @@
+-- A morphism and then tables, each read by files that are found: they are found together, since they stand in other folders.
+use Rattle.std.proofs.Common.{◌≡◌, ℕ, List, [], ◌∷◌, Option, None, Some, IfSome, Result, Ok, Err, inl, inr, sym, ◌∙◌, subst}
+use Rattle.std.specs.declared.alloc.Global.{Global}
+use Rattle.std.specs.declared.vec.Vec.{Vec}
+use Rattle.wal_outside.specs.Files.{Files}
+use Rattle.wal_outside.specs.Views.{StoreView}
+use Rattle.wal_outside.specs.declared.folder.Folder.{Folder}
+use Rattle.wal_outside.specs.declared.folder.Folder.TheVariants.{Automata, Words, Bases, Macros, Morphisms, Results, Commands}
+use Rattle.dfa_loading.specs.Loading.{AreListedBy, FirstRefuses, ReadsAt}
+use Rattle.dfa_loading.specs.Places.{IsCausedBy, IsListedBy, Refuses}
+use Rattle.dfa_loading.specs.declared.fault.LoadFault.{LoadFault}
+use Rattle.dfa_loading.specs.declared.fault.LoadFault.TheVariants as loads
+use Rattle.dfa_loading.specs.declared.loaded.Loaded.{Loaded}
+use Rattle.formula_resolve.specs.declared.file.File.{File}
+use Rattle.formula_resolve.specs.declared.file.File.TheVariants.{Automaton, Word}
+use Rattle.morph_words.specs.Rules.{Rules}
+use Rattle.morphism_loading.specs.MorphismFiles.{FailsMorphism, IsLoadedMorphism, IsMorphismIn}
+use Rattle.definitions.specs.Texts.{Stores}
+use Rattle.definitions.specs.Trees.{Ledger}
+use Rattle.session_cli.specs.declared.fault.Fault.{Fault}
+use Rattle.session_cli.specs.declared.fault.Fault.TheVariants as faults
+use Rattle.session_cli.specs.Checks.{Fails}
+use Rattle.session_cli.specs.FormulaFaults.{fault_of_loading}
+use Rattle.session_cli.specs.FormulaPlans.{AreUnloaded, LoadsTables}
+use Rattle.session_cli.specs.MorphismChecks.{morphism_loaded}
+use Rattle.session_cli.specs.StoreReads.{IsReadFault, HasRead, FromFiles}
+use Rattle.session_cli.proofs.TextReads.{reads_both}
+
+-- the files with the morphisms of others
+abbrev pub with_morphisms : Files → Files → Files
+with_morphisms files others Automata = files Automata
+with_morphisms files others Words = files Words
+with_morphisms files others Bases = files Bases
+with_morphisms files others Macros = files Macros
+with_morphisms files others Morphisms = others Morphisms
+with_morphisms files others Results = files Results
+with_morphisms files others Commands = files Commands
+
+module _ (files others : Files) where
+  -- the morphism is the same there
+  morphism_with : (name : List ℕ) (rules : Rules) → IsMorphismIn others name rules → IsMorphismIn (with_morphisms files others) name rules
+  morphism_with name rules is = record { text = is.text; there = is.there; short = is.short; spells = is.spells }
+
+  -- and so are tables
+  one_with : (file : File) (table : Loaded) → IsListedBy files file table → IsListedBy (with_morphisms files others) file table
+  one_with (Automaton name) table l = record { text = l.text; there = l.there; short = l.short; lists = l.lists }
+  one_with (Word name) table l = record { text = l.text; there = l.there; short = l.short; lists = l.lists }
+
+  listed_with : (named : List File) (tables : List Loaded) → AreListedBy files named tables → AreListedBy (with_morphisms files others) named tables
+  listed_with [] [] all = tt
+  listed_with [] (table ∷ tables) all = all
+  listed_with (file ∷ named) [] all = all
+  listed_with (file ∷ named) (table ∷ tables) all = (one_with file table all.0, listed_with named tables all.1)
+
+  refused_with : (file : File) (fault : LoadFault) → Refuses files file fault → Refuses (with_morphisms files others) file fault
+  refused_with (Automaton name) (loads.Unknown folder at) is = is
+  refused_with (Word name) (loads.Unknown folder at) is = is
+  refused_with (Automaton name) (loads.File folder at flaw) is = is
+  refused_with (Word name) (loads.File folder at flaw) is = is
+  refused_with file (loads.Store folder at) is = absurd is
+  refused_with file loads.Memory is = absurd is
+
+  first_with : (named : List File) (fault : LoadFault) → FirstRefuses files named fault → FirstRefuses (with_morphisms files others) named fault
+  first_with [] fault first = first
+  first_with (file ∷ named) fault (inl refused) = inl (refused_with file fault refused)
+  first_with (file ∷ named) fault (inr (table, listed, rest)) = inr (table, one_with file table listed, first_with named fault rest)
+
+  reads_with : (named : List File) (folder : Folder) (name : List ℕ) → ReadsAt files named folder name → ReadsAt (with_morphisms files others) named folder name
+  reads_with [] folder name at = at
+  reads_with (file ∷ named) folder name (inl at) = inl at
+  reads_with (file ∷ named) folder name (inr (table, listed, rest)) = inr (table, one_with file table listed, reads_with named folder name rest)
+
+  unloaded_with : (named : List File) (fault : Fault) → AreUnloaded files named fault → AreUnloaded (with_morphisms files others) named fault
+  unloaded_with named (faults.Unknown folder name) first = first_with named (loads.Unknown folder name) first
+  unloaded_with named (faults.File folder name flaw) first = first_with named (loads.File folder name flaw) first
+  unloaded_with named (faults.Store folder name) at = reads_with named folder name at
+  unloaded_with named faults.Memory first = tt
+  unloaded_with named faults.Command first = absurd first
+  unloaded_with named (faults.Syntax grammar at) first = absurd first
+  unloaded_with named (faults.MixedChain at) first = absurd first
+  unloaded_with named (faults.Number grammar at) first = absurd first
+  unloaded_with named (faults.NotLinear at) first = absurd first
+  unloaded_with named (faults.Depth grammar at) first = absurd first
+  unloaded_with named (faults.Long bytes) first = absurd first
+  unloaded_with named (faults.Arity of tracks given) first = absurd first
+  unloaded_with named (faults.SystemUnknown name) first = absurd first
+  unloaded_with named (faults.NotAdmitted name law) first = absurd first
+  unloaded_with named (faults.Clash of one two) first = absurd first
+  unloaded_with named (faults.Direction one other) first = absurd first
+  unloaded_with named (faults.Letters step) first = absurd first
+  unloaded_with named (faults.States step) first = absurd first
+  unloaded_with named (faults.WordGap of spelling) first = absurd first
+  unloaded_with named (faults.Plain of) first = absurd first
+  unloaded_with named faults.ScriptLimit first = absurd first
+  unloaded_with named (faults.MacroArgs of at given) first = absurd first
+  unloaded_with named (faults.MacroDepth of) first = absurd first
+  unloaded_with named faults.MacroLong first = absurd first
+  unloaded_with named (faults.Morphism kind) first = absurd first
+  unloaded_with named (faults.LetterMissing letter) first = absurd first
+  unloaded_with named (faults.CombineShape one two) first = absurd first
+
+  loads_with : (named : List File) (r : Result (Vec Loaded Global) Fault) → LoadsTables named files r → LoadsTables named (with_morphisms files others) r
+  loads_with named (Ok tables) listed = listed_with named tables.items listed
+  loads_with named (Err fault) refused = unloaded_with named fault refused
+
+-- files that are the store's where it tells them, of which both properties are known
+record AreBoth (P Q : Files → Type 0) (told : Option Files) : Type 0 where
+  found : Files
+  told_so : IfSome told (λ (files : Files). found ≡ files)
+  first : P found
+  second : Q found
+
+both : (P Q : Files → Type 0) (told : Option Files) (a b : Files) → IfSome told (λ (t : Files). a ≡ t) → IfSome told (λ (t : Files). b ≡ t) → P a → Q b → P (with_morphisms b a) → Q (with_morphisms b a) → AreBoth P Q told
+both P Q None a b here there p q pp qq = record { found = with_morphisms b a; told_so = tt; first = pp; second = qq }
+both P Q (Some t) a b here there p q pp qq = record { found = a; told_so = here; first = p; second = subst Q (there ∙ sym here) q }
+
+-- what was read of a morphism and of tables after it
+abbrev pub LoadsBoth : List ℕ → Rules → List File → Files → Result (Vec Loaded Global) Fault → Type 0
+LoadsBoth name rules named files r = IsMorphismIn files name rules × LoadsTables named files r
+
+pub then_tables : (name : List ℕ) (rules : Rules) (named : List File) (old mid new : StoreView) (r : Result (Vec Loaded Global) Fault) → IsLoadedMorphism name old (Ok rules) mid → FromFiles (LoadsTables named) mid r new → FromFiles (LoadsBoth name rules named) old r new
+then_tables name rules named old mid new r first second =
+    let there : IfSome old.files (λ (t : Files). second.found ≡ t) = subst (λ (o : Option Files). IfSome o (λ (t : Files). second.found ≡ t)) first.has_read.files second.told in
+    let c = both (λ (files : Files). IsMorphismIn files name rules) (λ (files : Files). LoadsTables named files r) old.files first.found second.found first.told there first.gives second.gives
+    (morphism_with second.found first.found name rules first.gives) (loads_with second.found first.found named r second.gives) in
+    let read : HasRead {X = Rules} old (Ok rules) mid = record { files = first.has_read.files; later = first.has_read.later; cause = first.has_read.cause } in
+    record { found = c.found; told = c.told_so; gives = (c.first, c.second); has_read = reads_both old mid new rules r read second.has_read }
+
+caused_so : (f : LoadFault) (old new : StoreView) → IsCausedBy f old new → IsReadFault (fault_of_loading f) old new
+caused_so (loads.Unknown folder name) old new is = is
+caused_so (loads.File folder name flaw) old new is = is
+caused_so (loads.Store folder name) old new is = is
+caused_so loads.Memory old new is = is
+
+-- a morphism that is not loaded refuses a command
+unloaded_morphism : (ledger : Ledger) (files : Files) (name : List ℕ) (f : LoadFault) → Stores ledger files → FailsMorphism files name f → Fails (morphism_loaded ledger name) (fault_of_loading f)
+unloaded_morphism ledger files name (loads.Unknown folder at) stores fails = (files, stores, fails)
+unloaded_morphism ledger files name (loads.File folder at flaw) stores fails = (files, stores, fails)
+unloaded_morphism ledger files name (loads.Store folder at) stores fails = fails
+unloaded_morphism ledger files name loads.Memory stores fails = tt
+
+pub from_no_morphism : {X : Type 0} (Gives : Files → Result X Fault → Type 0) (name : List ℕ) (old new : StoreView) (f : LoadFault) → IsLoadedMorphism name old (Err f) new
+    → ((found : Files) → ((ledger : Ledger) → Stores ledger found → Fails (morphism_loaded ledger name) (fault_of_loading f)) → Gives found (Err (fault_of_loading f))) → FromFiles Gives old (Err (fault_of_loading f)) new
+from_no_morphism Gives name old new f l so = record {
+  found = l.found;
+  told = l.told;
+  gives = so l.found (λ ledger stores. unloaded_morphism ledger l.found name f stores l.gives);
+  has_read = record { files = l.has_read.files; later = l.has_read.later; cause = caused_so f old new l.has_read.cause };
+}

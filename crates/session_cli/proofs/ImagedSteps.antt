@@ -1,0 +1,78 @@
+-- The steps by which the image of a word is made, and why they are refused, from what the code of each part answers.
+use Rattle.std.proofs.Common.{◌≡◌, ℕ, List, Some, inl, inr, refl, sym, subst}
+use Rattle.digit_tuple.specs.Steps.{StepLog}
+use Rattle.digit_tuple.specs.declared.step_fault.StepFault.{StepFault}
+use Rattle.digit_tuple.specs.declared.step_fault.StepFault.TheVariants as step_faults
+use Rattle.dfa_loading.specs.declared.loaded.Loaded.{Loaded}
+use Rattle.formula_build.specs.Libraries.{NamedSystem, AreSealed, word_named}
+use Rattle.morph_words.specs.Rules.{Rules}
+use Rattle.morph_words.specs.Uniform.{HasLength, IsImageLength, IsLengthRefused}
+use Rattle.morph_words.specs.declared.morphism_kind.MorphismKind.{MorphismKind}
+use Rattle.morph_words.specs.declared.morphism_kind.MorphismKind.TheVariants as kinds
+use Rattle.morph_words.proofs.UniformLemmas.{not_uniform, one_length}
+use Rattle.session_cli.specs.ImageSteps.{IsImageDone, IsImageRefused}
+use Rattle.word_images.specs.ImageWords.{IsImageWord}
+use Rattle.session_cli.specs.declared.image_fault.ImageFault.{ImageFault}
+use Rattle.session_cli.specs.declared.image_fault.ImageFault.TheVariants as images
+use Rattle.word_output.specs.Words.{WordValue}
+use Rattle.system_files.specs.SystemFiles.{Custom}
+use Rattle.session_cli.specs.declared.read_fault.ReadFault.{ReadFault}
+use Rattle.session_cli.specs.declared.read_fault.ReadFault.TheVariants.{Step, Gap}
+use Rattle.session_cli.specs.Checks.{Pure, Fails}
+use Rattle.session_cli.specs.FormulaFaults.{fault_of_reading}
+use Rattle.session_cli.specs.FormulaSteps.{AreMeant}
+use Rattle.session_cli.specs.ImageFaults.{fault_of_imaging}
+use Rattle.session_cli.specs.FormulaPlans.{HasSystems}
+use Rattle.session_cli.specs.ImageMakes.{IsImaged, old_system_of, old_systems_of}
+use Rattle.session_cli.specs.ImageOutcomes.{IsOldWordRead, AreImageStepsRefused, ImagedAnswers}
+use Rattle.session_cli.specs.declared.image.ReadImage.{ReadImage}
+use Rattle.session_cli.specs.TableReads.{TableRead, AreTablesRead, words_in}
+use Rattle.session_cli.specs.TrackSystems.{fault_of}
+use Rattle.session_cli.proofs.FormulaReady.{IsUnread}
+
+-- images of one length that is allowed are of no other kind
+pub of_one_kind : (rules : Rules) (k : ℕ) (kind : MorphismKind) → HasLength IsImageLength rules k → IsLengthRefused IsImageLength rules kind → ⊥
+of_one_kind rules k (kinds.NotUniform letter) has refused = not_uniform rules letter k refused.holds has.uniform
+of_one_kind rules k (kinds.Length letter) has refused = refused.outside (subst IsImageLength (one_length rules letter k refused.k refused.first.holds has.uniform refused.uniform) has.allowed)
+of_one_kind rules k (kinds.NotClosed letter) has refused = refused
+of_one_kind rules k (kinds.NotFixed letter) has refused = refused
+
+module _ (admitted : StepLog) (custom : Custom) (tables : List Loaded) (old name : List ℕ) (rules : Rules) where
+  -- a step passes a limit
+  unimaged : (fault : StepFault) → AreImageStepsRefused admitted custom tables old name rules fault → Fails (Pure (ImagedAnswers admitted custom tables old name rules)) (fault_of fault)
+  unimaged (step_faults.Letters step) refused = refused
+  unimaged (step_faults.States step) refused = refused
+  unimaged step_faults.Memory refused = tt
+
+  -- one that reads the table does, or a letter is missing, or memory runs out there
+  pub unread_old : (fault : ReadFault) → IsUnread admitted custom tables fault → Fails (Pure (ImagedAnswers admitted custom tables old name rules)) (fault_of_reading fault)
+  unread_old (Step fault) (inl memory) = subst (λ (f : StepFault). Fails (Pure (ImagedAnswers admitted custom tables old name rules)) (fault_of f)) (sym memory) tt
+  unread_old (Step fault) (inr stopped) = unimaged fault (inl stopped)
+  unread_old (Gap of spelling) missing = missing
+
+  module _ (systems : List NamedSystem) (sealed : AreSealed systems) (reads : List TableRead) (reading : StepLog) (made : AreTablesRead systems admitted tables reads reading) (word : WordValue) (word_is : word_named (words_in reads) old ≡ Some word)
+      (meant : AreMeant custom systems) where
+    abbrev before : IsOldWordRead admitted custom tables old
+    before = record { systems = systems; sealed = sealed; meant = meant; reads = reads; reading = reading; read = made; word = word; word_is = word_is }
+
+    -- the steps are refused
+    pub steps_unimaged : (k : ℕ) → HasLength IsImageLength rules k → (fault : ImageFault) (log : StepLog) → IsImageRefused reading rules word name fault log → Fails (Pure (ImagedAnswers admitted custom tables old name rules)) (fault_of_imaging fault)
+    steps_unimaged k has (images.Morphism kind) log (refused, same) = absurd (of_one_kind rules k kind has refused)
+    steps_unimaged k has (images.Missing letter) log refused = record { before = before; log = log; refused = refused }
+    steps_unimaged k has (images.Step fault) log (inl memory) = subst (λ (f : StepFault). Fails (Pure (ImagedAnswers admitted custom tables old name rules)) (fault_of f)) (sym memory) tt
+    steps_unimaged k has (images.Step fault) log (inr stopped) = unimaged fault (inr (record { before = before; log = log; refused = inr stopped }))
+
+-- the image is made over systems for which the names stand that the old word mentions
+pub imaged_here : (admitted : StepLog) (custom : Custom) (read : ReadImage) (systems : List NamedSystem) → AreSealed systems → (reads : List TableRead) (reading : StepLog) → AreTablesRead systems admitted read.tables.items reads reading
+    → (word : WordValue) → word_named (words_in reads) read.old ≡ Some word → AreMeant custom systems → HasSystems (old_systems_of read) systems → (v : WordValue) (log : StepLog) → IsImageDone reading read.morphism word (old_system_of read) v log
+    → IsImageWord read.morphism word v → IsImaged admitted custom read v log.lines
+imaged_here admitted custom read systems sealed reads reading made word word_is meant has v log done image = record {
+  steps = record {
+    before = record { systems = systems; sealed = sealed; meant = meant; reads = reads; reading = reading; read = made; word = word; word_is = word_is };
+    log = log;
+    done = done;
+    lines_are = refl;
+  };
+  image = image;
+  has = has;
+}

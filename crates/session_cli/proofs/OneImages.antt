@@ -1,0 +1,407 @@
+-- An `image` has one outcome.
+use Rattle.std.proofs.Common.{◌≡◌, ◌≢◌, ◌⊎◌, ℕ, Bool, true, false, List, [], ◌∷◌, length, if◌then◌else◌, None, Some, Result, Ok, Err, bytes_eq, inl, inr, refl, sym, ap, ◌∙◌, subst}
+use Rattle.std.specs.List.{AllByRecursion}
+use Rattle.std.proofs.lemmas.Option.{none-some}
+use Rattle.wal_outside.specs.Files.{Files}
+use Rattle.wal_outside.specs.declared.folder.Folder.TheVariants.{Morphisms, Words}
+use Rattle.command_head.specs.Grammar.{SpellsImage}
+use Rattle.command_head.specs.Heads.{ImageHead}
+use Rattle.command_head.proofs.OneFault.{one_head}
+use Rattle.command_head.proofs.WordHeads.{one_image}
+use Rattle.digit_tuple.specs.Steps.{StepLog}
+use Rattle.digit_tuple.specs.declared.direction.Direction.{Direction}
+use Rattle.digit_tuple.specs.declared.step_fault.StepFault.{StepFault}
+use Rattle.digit_tuple.specs.declared.step_fault.StepFault.TheVariants as steps
+use Rattle.digit_tuple.specs.declared.steps.StepLine.{StepLine}
+use Rattle.dfa_loading.specs.Headers.{headers_of}
+use Rattle.dfa_loading.specs.Loading.{AreListedBy}
+use Rattle.dfa_loading.specs.declared.fault.LoadFault.{LoadFault}
+use Rattle.dfa_loading.specs.declared.fault.LoadFault.TheVariants as loads
+use Rattle.dfa_loading.specs.declared.loaded.Loaded.{Loaded}
+use Rattle.formula_build.specs.Libraries.{NamedWord, NamedSystem, AreSealed, AreWords, word_named}
+use Rattle.formula_resolve.specs.Arity.{kept_count}
+use Rattle.formula_resolve.specs.FirstMentions.{first_files, first_systems}
+use Rattle.formula_resolve.specs.Headers.{Headers, word_tracks}
+use Rattle.formula_resolve.specs.declared.file.File.{File}
+use Rattle.morph_words.specs.Rules.{Rules, IsMorphism}
+use Rattle.morph_words.specs.Uniform.{HasLength, IsImageLength, IsLengthRefused}
+use Rattle.morph_words.specs.declared.morphism_kind.MorphismKind.{MorphismKind}
+use Rattle.morph_words.proofs.MorphismShape.{spells_morphisms}
+use Rattle.morph_words.proofs.OneParse as parsing
+use Rattle.morph_words.proofs.UniformLemmas.{one_lengths}
+use Rattle.morphism_loading.specs.MorphismFiles.{AnswersMorphism, IsMorphismIn, RefusesMorphism}
+use Rattle.morphism_loading.proofs.OneAnswer.{files_have_one_answer}
+use Rattle.session_cli.specs.ImageSteps.{IsImageDone, IsImageRefused}
+use Rattle.session_cli.specs.OneImage.{HasOneImage, ImagesHaveOneOutcome}
+use Rattle.session_cli.specs.declared.image_fault.ImageFault.{ImageFault}
+use Rattle.session_cli.specs.declared.image_fault.ImageFault.TheVariants as images
+use Rattle.word_output.specs.Words.{IsWordValue, WordValue}
+use Rattle.system_files.specs.SystemFiles.{Custom}
+use Rattle.definitions.proofs.FileTables.{file_is_table}
+use Rattle.definitions.proofs.NameLemmas.{one_meaning}
+use Rattle.definitions.proofs.OneTable.{one_table}
+use Rattle.definitions.proofs.TableRelations.{table_holds}
+use Rattle.definitions.specs.Named.{IsSystemNamed}
+use Rattle.definitions.specs.Texts.{Stores}
+use Rattle.definitions.specs.Tracks as tracks
+use Rattle.definitions.specs.Trees.{Entry, Ledger, custom_of}
+use Rattle.session_cli.specs.declared.fault.Fault.{Fault}
+use Rattle.session_cli.specs.declared.fault.Fault.TheVariants as faults
+use Rattle.session_cli.specs.declared.read_fault.ReadFault.{ReadFault}
+use Rattle.session_cli.specs.declared.read_fault.ReadFault.TheVariants.{Gap}
+use Rattle.session_cli.specs.Accepting.{stored}
+use Rattle.session_cli.specs.Checks.{Pure}
+use Rattle.session_cli.specs.FileChecks.{files_loaded}
+use Rattle.session_cli.specs.FormulaFaults.{fault_of_loading, fault_of_reading}
+use Rattle.session_cli.specs.FormulaSteps.{AreMeant}
+use Rattle.session_cli.specs.HeadAnswers.{HeadAnswers}
+use Rattle.session_cli.specs.ImageFaults.{fault_of_imaging}
+use Rattle.session_cli.specs.ImageOutcomes.{WordTrack, IsOldWordRead, AreImageSteps, IsImagingStopped, OneTrackAnswers, LengthsAnswers, TrackAnswers, ImagedAnswers, OldAnswers, old_mentions, image_success, after_image_steps, after_track, after_lengths, after_one_track, after_old_systems, after_old_table, after_image_morphism, after_image_head, image_checks}
+use Rattle.session_cli.specs.MorphismChecks.{MorphismAnswers, morphism_loaded}
+use Rattle.session_cli.specs.SystemChecks.{systems_known}
+use Rattle.session_cli.specs.TableReads.{TableRead, words_in}
+use Rattle.session_cli.proofs.CheckSteps.{IsSingle, then_single}
+use Rattle.session_cli.proofs.ImagedSteps.{of_one_kind}
+use Rattle.session_cli.proofs.OneBuildings.{IsStopped, stopped_by, table_ways, read_readable}
+use Rattle.session_cli.proofs.OneHeads.{head_single}
+use Rattle.session_cli.proofs.OneLoadings.{files_single, same_there}
+use Rattle.session_cli.proofs.OneSealed.{meant_agree}
+use Rattle.session_cli.proofs.OneSystems.{systems_single}
+use Rattle.session_cli.proofs.OneTableReadings as readings
+use Rattle.session_cli.proofs.OneTableReadings.{StopsReading, gap_stops, one_reading, reading_apart, one_stopping}
+use Rattle.session_cli.proofs.OneTexts.{stored_single}
+use Rattle.session_cli.proofs.TableFiles.{tables_listed}
+use Rattle.session_cli.proofs.TableFits.{are_words}
+use Rattle.session_cli.proofs.TableHeaders.{tables_one_way}
+use Rattle.session_cli.proofs.TableReads.{AreAlike}
+use Rattle.session_cli.proofs.WordLaws.{one_word_outcome}
+
+-- the morphism, or the fault, by some files of the ledger
+abbrev of_morphism : Result Rules LoadFault → Result Rules Fault
+of_morphism (Ok rules) = Ok rules
+of_morphism (Err fault) = Err (fault_of_loading fault)
+
+record IsMorphismRead (ledger : Ledger) (name : List ℕ) (r : Result Rules Fault) : Type 0 where
+  answer : Result Rules LoadFault
+  files : Files
+  stores : Stores ledger files
+  answers : AnswersMorphism files name answer
+  is : r ≡ of_morphism answer
+
+morphism_is : (ledger : Ledger) (name : List ℕ) (r : Result Rules Fault) → MorphismAnswers ledger name r → IsMorphismRead ledger name r
+morphism_is ledger name (Ok rules) (files, stores, are) = record { answer = Ok rules; files = files; stores = stores; answers = are; is = refl }
+morphism_is ledger name (Err (faults.Unknown folder under)) (files, stores, refuses) = record { answer = Err (loads.Unknown folder under); files = files; stores = stores; answers = refuses; is = refl }
+morphism_is ledger name (Err (faults.File folder under flaw)) (files, stores, refuses) = record { answer = Err (loads.File folder under flaw); files = files; stores = stores; answers = refuses; is = refl }
+morphism_is ledger name (Err faults.Command) a = absurd a
+morphism_is ledger name (Err (faults.Syntax grammar at)) a = absurd a
+morphism_is ledger name (Err (faults.MixedChain byte)) a = absurd a
+morphism_is ledger name (Err (faults.Number grammar at)) a = absurd a
+morphism_is ledger name (Err (faults.NotLinear byte)) a = absurd a
+morphism_is ledger name (Err (faults.Depth grammar at)) a = absurd a
+morphism_is ledger name (Err (faults.Long bytes)) a = absurd a
+morphism_is ledger name (Err (faults.Arity of tracks given)) a = absurd a
+morphism_is ledger name (Err (faults.SystemUnknown of)) a = absurd a
+morphism_is ledger name (Err (faults.NotAdmitted of law)) a = absurd a
+morphism_is ledger name (Err (faults.Clash of first other)) a = absurd a
+morphism_is ledger name (Err (faults.Direction first other)) a = absurd a
+morphism_is ledger name (Err (faults.Letters step)) a = absurd a
+morphism_is ledger name (Err (faults.States step)) a = absurd a
+morphism_is ledger name (Err (faults.WordGap of spelling)) a = absurd a
+morphism_is ledger name (Err (faults.Plain of)) a = absurd a
+morphism_is ledger name (Err (faults.Store folder of)) a = absurd a
+morphism_is ledger name (Err faults.Memory) a = absurd a
+morphism_is ledger name (Err faults.ScriptLimit) a = absurd a
+morphism_is ledger name (Err (faults.MacroArgs of at given)) a = absurd a
+morphism_is ledger name (Err (faults.MacroDepth of)) a = absurd a
+morphism_is ledger name (Err faults.MacroLong) a = absurd a
+morphism_is ledger name (Err (faults.Morphism kind)) a = absurd a
+morphism_is ledger name (Err (faults.LetterMissing letter)) a = absurd a
+morphism_is ledger name (Err (faults.CombineShape one two)) a = absurd a
+
+-- what other files of one ledger have under a name is the same
+answers_there : (ledger : Ledger) (files others : Files) (name : List ℕ) (answer : Result Rules LoadFault) → Stores ledger files → Stores ledger others → AnswersMorphism others name answer → AnswersMorphism files name answer
+answers_there ledger files others name (Ok rules) stores also are = record { text = are.text; there = same_there ledger files others stores also Morphisms name ∙ are.there; short = are.short; spells = are.spells }
+answers_there ledger files others name (Err (loads.Unknown folder under)) stores also (at, none) = (at, same_there ledger files others stores also Morphisms name ∙ none)
+answers_there ledger files others name (Err (loads.File folder under flaw)) stores also (at, (text, there, flawed)) = (at, (text, same_there ledger files others stores also Morphisms name ∙ there, flawed))
+answers_there ledger files others name (Err (loads.Store folder under)) stores also refuses = absurd refuses
+answers_there ledger files others name (Err loads.Memory) stores also refuses = absurd refuses
+
+pub morphism_loaded_single : (ledger : Ledger) (name : List ℕ) → IsSingle (morphism_loaded ledger name)
+morphism_loaded_single ledger name r s a b =
+    let p : IsMorphismRead ledger name r = morphism_is ledger name r a in
+    let q : IsMorphismRead ledger name s = morphism_is ledger name s b in
+    let same : p.answer ≡ q.answer = files_have_one_answer parsing.one_answer p.files name p.answer q.answer p.answers (answers_there ledger p.files q.files name q.answer p.stores q.stores q.answers) in
+    p.is ∙ (ap of_morphism same ∙ sym q.is)
+
+-- the word has one track, or another number of them
+abbrev IsTrackAnswer : Headers → List ℕ → Result (Unit {0}) Fault → Type 0
+IsTrackAnswer h old r = ((length (word_tracks h old) ≡ 1) × (r ≡ Ok tt)) ⊎ ((length (word_tracks h old) ≢ 1) × (r ≡ Err (faults.Arity old (kept_count (length (word_tracks h old))) 1)))
+
+track_is : (h : Headers) (old : List ℕ) (r : Result (Unit {0}) Fault) → OneTrackAnswers h old r → IsTrackAnswer h old r
+track_is h old (Ok one) a = inl (a, refl)
+track_is h old (Err (faults.Arity name count given)) (name_is, other, count_is, given_is) = inr (other, λ i. Err (faults.Arity (name_is i) (count_is i) (given_is i)))
+track_is h old (Err faults.Command) a = absurd a
+track_is h old (Err (faults.Syntax grammar at)) a = absurd a
+track_is h old (Err (faults.MixedChain byte)) a = absurd a
+track_is h old (Err (faults.Number grammar at)) a = absurd a
+track_is h old (Err (faults.NotLinear byte)) a = absurd a
+track_is h old (Err (faults.Depth grammar at)) a = absurd a
+track_is h old (Err (faults.Long bytes)) a = absurd a
+track_is h old (Err (faults.Unknown folder name)) a = absurd a
+track_is h old (Err (faults.File folder name flaw)) a = absurd a
+track_is h old (Err (faults.SystemUnknown name)) a = absurd a
+track_is h old (Err (faults.NotAdmitted name law)) a = absurd a
+track_is h old (Err (faults.Clash name first other)) a = absurd a
+track_is h old (Err (faults.Direction first other)) a = absurd a
+track_is h old (Err (faults.Letters step)) a = absurd a
+track_is h old (Err (faults.States step)) a = absurd a
+track_is h old (Err (faults.WordGap name spelling)) a = absurd a
+track_is h old (Err (faults.Plain name)) a = absurd a
+track_is h old (Err (faults.Store folder name)) a = absurd a
+track_is h old (Err faults.Memory) a = absurd a
+track_is h old (Err faults.ScriptLimit) a = absurd a
+track_is h old (Err (faults.MacroArgs of at given)) a = absurd a
+track_is h old (Err (faults.MacroDepth of)) a = absurd a
+track_is h old (Err faults.MacroLong) a = absurd a
+track_is h old (Err (faults.Morphism kind)) a = absurd a
+track_is h old (Err (faults.LetterMissing letter)) a = absurd a
+track_is h old (Err (faults.CombineShape one two)) a = absurd a
+
+one_track_single : (h : Headers) (old : List ℕ) → IsSingle (Pure (OneTrackAnswers h old))
+one_track_single h old r s a b = by (track_is h old r a) (track_is h old s b)
+  where
+    by : IsTrackAnswer h old r → IsTrackAnswer h old s → r ≡ s
+    by (inl (one, is)) (inl (one', is')) = is ∙ sym is'
+    by (inl (one, is)) (inr (other, is')) = absurd (other one)
+    by (inr (other, is)) (inl (one, is')) = absurd (other one)
+    by (inr (other, is)) (inr (other', is')) = is ∙ sym is'
+
+-- all images have one length, or the first kind tells
+abbrev IsLengthAnswer : Rules → Result (Unit {0}) Fault → Type 0
+IsLengthAnswer rules r = ((k : ℕ) × HasLength IsImageLength rules k × (r ≡ Ok tt)) ⊎ ((kind : MorphismKind) × IsLengthRefused IsImageLength rules kind × (r ≡ Err (faults.Morphism kind)))
+
+length_is : (rules : Rules) (r : Result (Unit {0}) Fault) → LengthsAnswers rules r → IsLengthAnswer rules r
+length_is rules (Ok uniform) (k, has) = inl (k, has, refl)
+length_is rules (Err (faults.Morphism kind)) a = inr (kind, a, refl)
+length_is rules (Err faults.Command) a = absurd a
+length_is rules (Err (faults.Syntax grammar at)) a = absurd a
+length_is rules (Err (faults.MixedChain byte)) a = absurd a
+length_is rules (Err (faults.Number grammar at)) a = absurd a
+length_is rules (Err (faults.NotLinear byte)) a = absurd a
+length_is rules (Err (faults.Depth grammar at)) a = absurd a
+length_is rules (Err (faults.Long bytes)) a = absurd a
+length_is rules (Err (faults.Unknown folder name)) a = absurd a
+length_is rules (Err (faults.File folder name flaw)) a = absurd a
+length_is rules (Err (faults.Arity name tracks given)) a = absurd a
+length_is rules (Err (faults.SystemUnknown name)) a = absurd a
+length_is rules (Err (faults.NotAdmitted name law)) a = absurd a
+length_is rules (Err (faults.Clash name first other)) a = absurd a
+length_is rules (Err (faults.Direction first other)) a = absurd a
+length_is rules (Err (faults.Letters step)) a = absurd a
+length_is rules (Err (faults.States step)) a = absurd a
+length_is rules (Err (faults.WordGap name spelling)) a = absurd a
+length_is rules (Err (faults.Plain name)) a = absurd a
+length_is rules (Err (faults.Store folder name)) a = absurd a
+length_is rules (Err faults.Memory) a = absurd a
+length_is rules (Err faults.ScriptLimit) a = absurd a
+length_is rules (Err (faults.MacroArgs of at given)) a = absurd a
+length_is rules (Err (faults.MacroDepth of)) a = absurd a
+length_is rules (Err faults.MacroLong) a = absurd a
+length_is rules (Err (faults.LetterMissing letter)) a = absurd a
+length_is rules (Err (faults.CombineShape one two)) a = absurd a
+
+lengths_single : (rules : Rules) → IsMorphism rules → IsSingle (Pure (LengthsAnswers rules))
+lengths_single rules morphism r s a b = by (length_is rules r a) (length_is rules s b)
+  where
+    by : IsLengthAnswer rules r → IsLengthAnswer rules s → r ≡ s
+    by (inl (k, has, is)) (inl (j, has', is')) = is ∙ sym is'
+    by (inl (k, has, is)) (inr (kind, refused, is')) = absurd (of_one_kind rules k kind has refused)
+    by (inr (kind, refused, is)) (inl (k, has, is')) = absurd (of_one_kind rules k kind has refused)
+    by (inr (kind, refused, is)) (inr (other, refused', is')) =
+        is ∙ (ap (λ (x : MorphismKind). let r : Result (Unit {0}) Fault = Err (faults.Morphism x) in r) ((one_lengths 1 40 rules morphism).one_kind kind other refused refused') ∙ sym is')
+
+-- the system of the track is what its name means
+abbrev IsOverTrack : Custom → Headers → List ℕ → Result WordTrack Fault → Type 0
+IsOverTrack custom h old r = (track : WordTrack) × TrackAnswers custom h old (Ok track) × (r ≡ Ok track)
+
+over_is : (custom : Custom) (h : Headers) (old : List ℕ) (r : Result WordTrack Fault) → TrackAnswers custom h old r → IsOverTrack custom h old r
+over_is custom h old (Ok track) a = (track, a, refl)
+over_is custom h old (Err fault) a = absurd a
+
+first_same : (a b : List ℕ) → a ∷ [] ≡ b ∷ [] → a ≡ b
+first_same a b same = cc
+
+one_track_over : (custom : Custom) (h : Headers) (old : List ℕ) (t u : WordTrack) → TrackAnswers custom h old (Ok t) → TrackAnswers custom h old (Ok u) → t ≡ u
+one_track_over custom h old t u (is, meant) (is', meant') =
+    let names : t.system.name ≡ u.system.name = first_same t.system.name u.system.name (sym is ∙ is') in
+    let there : IsSystemNamed custom u.system.name t.way t.system.system = subst (λ (n : List ℕ). IsSystemNamed custom n t.way t.system.system) names meant in
+    let one = one_meaning custom u.system.name t.way u.way t.system.system u.system.system there meant' in
+    λ i. record { way = one.0 i; system = record { name = names i; system = one.1 i } }
+
+tracks_single : (custom : Custom) (h : Headers) (old : List ℕ) → IsSingle (Pure (TrackAnswers custom h old))
+tracks_single custom h old r s a b =
+    let p : IsOverTrack custom h old r = over_is custom h old r a in
+    let q : IsOverTrack custom h old s = over_is custom h old s b in
+    p.2 ∙ (ap (λ (t : WordTrack). let x : Result WordTrack Fault = Ok t in x) (one_track_over custom h old p.0 q.0 p.1 q.1) ∙ sym q.2)
+
+-- one entry stands under the name
+abbrev IsEntry : Ledger → List ℕ → Result Entry Fault → Type 0
+IsEntry ledger old r = (entry : Entry) × (ledger Words old ≡ Some entry) × (r ≡ Ok entry)
+
+entry_is : (ledger : Ledger) (old : List ℕ) (r : Result Entry Fault) → OldAnswers ledger old r → IsEntry ledger old r
+entry_is ledger old (Ok entry) a = (entry, a, refl)
+entry_is ledger old (Err fault) a = absurd a
+
+some_same : (a b : Entry) → Some a ≡ Some b → a ≡ b
+some_same a b same = cc
+
+old_single : (ledger : Ledger) (old : List ℕ) → IsSingle (Pure (OldAnswers ledger old))
+old_single ledger old r s a b =
+    let p : IsEntry ledger old r = entry_is ledger old r a in
+    let q : IsEntry ledger old s = entry_is ledger old s b in
+    p.2 ∙ (ap (λ (e : Entry). let x : Result Entry Fault = Ok e in x) (some_same p.0 q.0 (sym p.1 ∙ q.1)) ∙ sym q.2)
+
+record IsImageMade (admitted : StepLog) (custom : Custom) (tables : List Loaded) (old name : List ℕ) (rules : Rules) (r : Result (List StepLine) Fault) : Type 0 where
+  word : WordValue
+  lines : List StepLine
+  done : AreImageSteps admitted custom tables old name rules word lines
+  is : r ≡ Ok lines
+
+record IsImageStoppedBy (admitted : StepLog) (custom : Custom) (tables : List Loaded) (old name : List ℕ) (rules : Rules) (r : Result (List StepLine) Fault) : Type 0 where
+  fault : ImageFault
+  told : fault ≢ images.Step steps.Memory
+  stops : IsImagingStopped admitted custom tables old name rules fault
+  is : r ≡ Err (fault_of_imaging fault)
+
+-- the image is made, or refused, or the table is not read
+abbrev IsOutcome : StepLog → Custom → List Loaded → List ℕ → List ℕ → Rules → Result (List StepLine) Fault → Type 0
+IsOutcome admitted custom tables old name rules r = IsImageMade admitted custom tables old name rules r ⊎ (IsImageStoppedBy admitted custom tables old name rules r ⊎ IsStopped admitted custom tables r)
+
+imaged_is : (admitted : StepLog) (custom : Custom) (tables : List Loaded) (old name : List ℕ) (rules : Rules) (r : Result (List StepLine) Fault) → ImagedAnswers admitted custom tables old name rules r → IsOutcome admitted custom tables old name rules r
+imaged_is admitted custom tables old name rules (Ok lines) (word, a) = inl (record { word = word; lines = lines; done = a; is = refl })
+imaged_is admitted custom tables old name rules (Err (faults.Letters step)) (inl a) = inr (inr (stopped_by admitted custom tables (steps.Letters step) (λ is. cc) a))
+imaged_is admitted custom tables old name rules (Err (faults.Letters step)) (inr a) = inr (inl (record { fault = images.Step (steps.Letters step); told = λ is. cc; stops = a; is = refl }))
+imaged_is admitted custom tables old name rules (Err (faults.States step)) (inl a) = inr (inr (stopped_by admitted custom tables (steps.States step) (λ is. cc) a))
+imaged_is admitted custom tables old name rules (Err (faults.States step)) (inr a) = inr (inl (record { fault = images.Step (steps.States step); told = λ is. cc; stops = a; is = refl }))
+imaged_is admitted custom tables old name rules (Err (faults.WordGap of spelling)) a =
+    inr (inr (record { systems = a.systems; sealed = a.sealed; meant = a.meant; fault = Gap of spelling; stops = gap_stops a.systems admitted tables of spelling a.gap; is = refl }))
+imaged_is admitted custom tables old name rules (Err (faults.LetterMissing letter)) a = inr (inl (record { fault = images.Missing letter; told = λ is. cc; stops = a; is = refl }))
+imaged_is admitted custom tables old name rules (Err faults.Command) a = absurd a
+imaged_is admitted custom tables old name rules (Err (faults.Syntax grammar at)) a = absurd a
+imaged_is admitted custom tables old name rules (Err (faults.MixedChain byte)) a = absurd a
+imaged_is admitted custom tables old name rules (Err (faults.Number grammar at)) a = absurd a
+imaged_is admitted custom tables old name rules (Err (faults.NotLinear byte)) a = absurd a
+imaged_is admitted custom tables old name rules (Err (faults.Depth grammar at)) a = absurd a
+imaged_is admitted custom tables old name rules (Err (faults.Long bytes)) a = absurd a
+imaged_is admitted custom tables old name rules (Err (faults.Unknown folder of)) a = absurd a
+imaged_is admitted custom tables old name rules (Err (faults.File folder of flaw)) a = absurd a
+imaged_is admitted custom tables old name rules (Err (faults.Arity of count given)) a = absurd a
+imaged_is admitted custom tables old name rules (Err (faults.SystemUnknown of)) a = absurd a
+imaged_is admitted custom tables old name rules (Err (faults.NotAdmitted of law)) a = absurd a
+imaged_is admitted custom tables old name rules (Err (faults.Clash of first other)) a = absurd a
+imaged_is admitted custom tables old name rules (Err (faults.Direction first other)) a = absurd a
+imaged_is admitted custom tables old name rules (Err (faults.Plain of)) a = absurd a
+imaged_is admitted custom tables old name rules (Err (faults.Store folder of)) a = absurd a
+imaged_is admitted custom tables old name rules (Err faults.Memory) a = absurd a
+imaged_is admitted custom tables old name rules (Err faults.ScriptLimit) a = absurd a
+imaged_is admitted custom tables old name rules (Err (faults.MacroArgs of at given)) a = absurd a
+imaged_is admitted custom tables old name rules (Err (faults.MacroDepth of)) a = absurd a
+imaged_is admitted custom tables old name rules (Err faults.MacroLong) a = absurd a
+imaged_is admitted custom tables old name rules (Err (faults.Morphism kind)) a = absurd a
+imaged_is admitted custom tables old name rules (Err (faults.CombineShape one two)) a = absurd a
+
+-- a word under a name is one
+found_word : (words : List NamedWord) (name : List ℕ) (v : WordValue) → AreWords words → word_named words name ≡ Some v → IsWordValue v
+found_word [] name v are found = absurd (none-some v found)
+found_word (w ∷ words) name v are found = by (bytes_eq w.name name) (λ (there : word_named words name ≡ Some v). found_word words name v are.1 there) found
+  where
+    by : (b : Bool) → (word_named words name ≡ Some v → IsWordValue v) → (if b then Some w.word else word_named words name) ≡ Some v → IsWordValue v
+    by true rest is = let same : w.word ≡ v = cc in subst IsWordValue same are.0
+    by false rest is = rest is
+
+module _ (law : ImagesHaveOneOutcome) (admitted : StepLog) (custom : Custom) (tables : List Loaded) (old name : List ℕ) (rules : Rules) (morphism : IsMorphism rules) (files : Files) (named : List File) (listed : AreListedBy files named tables) where
+  ways : (systems : List NamedSystem) → AreMeant custom systems → AllByRecursion (readings.IsOneWay systems) tables
+  ways systems are = table_ways custom systems tables are (tables_one_way files named tables listed)
+
+  alike : (systems others : List NamedSystem) → AreSealed systems → AreMeant custom systems → AreSealed others → AreMeant custom others → AreAlike systems others
+  alike systems others sealed are sealed' are' = (meant_agree custom systems others sealed are sealed' are').systems
+
+  -- one word is read, and so one image is made
+  one_at : (a : IsOldWordRead admitted custom tables old) → HasOneImage a.reading rules a.word name
+  one_at a =
+      let readable = read_readable a.systems admitted a.reading tables a.reads (tables_listed file_is_table files named tables listed) (ways a.systems a.meant) a.read in
+      law a.reading rules a.word name morphism (found_word (words_in a.reads) old a.word (are_words table_holds a.systems a.sealed tables a.reads admitted a.reading readable a.read) a.word_is)
+
+  word_same : (u v : WordValue) → Some u ≡ Some v → u ≡ v
+  word_same u v same = cc
+
+  same_before : (a b : IsOldWordRead admitted custom tables old) → (a.reading ≡ b.reading) × (a.word ≡ b.word)
+  same_before a b =
+      let read : (a.reads ≡ b.reads) × (a.reading ≡ b.reading) =
+      one_reading one_table one_word_outcome a.systems b.systems a.sealed (alike a.systems b.systems a.sealed a.meant b.sealed b.meant) admitted a.reading b.reading tables a.reads b.reads (ways a.systems a.meant) a.read b.read in
+      (read.1, word_same a.word b.word (sym a.word_is ∙ (ap (λ (rs : List TableRead). word_named (words_in rs) old) read.0 ∙ b.word_is)))
+
+  -- what is said of the one word that is read holds of the other
+  moved : (P : StepLog → WordValue → Type 0) (a b : IsOldWordRead admitted custom tables old) → P b.reading b.word → P a.reading a.word
+  moved P a b p =
+      let same = same_before a b in
+      subst (λ (w : WordValue). P a.reading w) (sym same.1) (subst (λ (l : StepLog). P l b.word) (sym same.0) p)
+
+  both_made : (r s : Result (List StepLine) Fault) → IsImageMade admitted custom tables old name rules r → IsImageMade admitted custom tables old name rules s → r ≡ s
+  both_made r s p q =
+      let a = p.done.before in
+      let there = moved (λ l w. IsImageDone l rules w name q.word q.done.log) a q.done.before q.done.done in
+      let same : p.done.log ≡ q.done.log = ((one_at a).words p.word q.word p.done.log q.done.log p.done.done there).1 in
+      let lines : p.lines ≡ q.lines = p.done.lines_are ∙ (ap (λ (log : StepLog). log.lines) same ∙ sym q.done.lines_are) in
+      p.is ∙ (ap (λ (ls : List StepLine). let x : Result (List StepLine) Fault = Ok ls in x) lines ∙ sym q.is)
+
+  made_refused : (r s : Result (List StepLine) Fault) → IsImageMade admitted custom tables old name rules r → IsImageStoppedBy admitted custom tables old name rules s → ⊥
+  made_refused r s p q =
+      let a = p.done.before in
+      let there = moved (λ l w. IsImageRefused l rules w name q.fault q.stops.log) a q.stops.before q.stops.refused in
+      q.told ((one_at a).apart p.word q.fault p.done.log q.stops.log p.done.done there)
+
+  both_refused : (r s : Result (List StepLine) Fault) → IsImageStoppedBy admitted custom tables old name rules r → IsImageStoppedBy admitted custom tables old name rules s → r ≡ s
+  both_refused r s p q =
+      let a = p.stops.before in
+      let there = moved (λ l w. IsImageRefused l rules w name q.fault q.stops.log) a q.stops.before q.stops.refused in
+      let same : p.fault ≡ q.fault = ((one_at a).faults p.fault q.fault p.stops.log q.stops.log p.stops.refused there p.told q.told).0 in
+      p.is ∙ (ap (λ (f : ImageFault). let x : Result (List StepLine) Fault = Err (fault_of_imaging f) in x) same ∙ sym q.is)
+
+  read_stopped : (a : IsOldWordRead admitted custom tables old) (s : Result (List StepLine) Fault) → IsStopped admitted custom tables s → ⊥
+  read_stopped a s q =
+      reading_apart one_table one_word_outcome a.systems q.systems a.sealed (alike a.systems q.systems a.sealed a.meant q.sealed q.meant) admitted a.reading tables a.reads q.fault (ways a.systems a.meant) a.read q.stops
+
+  both_stopped : (r s : Result (List StepLine) Fault) → IsStopped admitted custom tables r → IsStopped admitted custom tables s → r ≡ s
+  both_stopped r s p q =
+      let same : p.fault ≡ q.fault = one_stopping one_table one_word_outcome p.systems q.systems p.sealed (alike p.systems q.systems p.sealed p.meant q.sealed q.meant) admitted tables p.fault q.fault (ways p.systems p.meant) p.stops q.stops in
+      p.is ∙ (ap (λ (f : ReadFault). let x : Result (List StepLine) Fault = Err (fault_of_reading f) in x) same ∙ sym q.is)
+
+  imaged_single : IsSingle (Pure (ImagedAnswers admitted custom tables old name rules))
+  imaged_single r s a b = by (imaged_is admitted custom tables old name rules r a) (imaged_is admitted custom tables old name rules s b)
+    where
+      by : IsOutcome admitted custom tables old name rules r → IsOutcome admitted custom tables old name rules s → r ≡ s
+      by (inl p) (inl q) = both_made r s p q
+      by (inl p) (inr (inl q)) = absurd (made_refused r s p q)
+      by (inl p) (inr (inr q)) = absurd (read_stopped p.done.before s q)
+      by (inr (inl p)) (inl q) = absurd (made_refused s r q p)
+      by (inr (inl p)) (inr (inl q)) = both_refused r s p q
+      by (inr (inl p)) (inr (inr q)) = absurd (read_stopped p.stops.before s q)
+      by (inr (inr p)) (inl q) = absurd (read_stopped q.done.before r p)
+      by (inr (inr p)) (inr (inl q)) = absurd (read_stopped q.stops.before r p)
+      by (inr (inr p)) (inr (inr q)) = both_stopped r s p q
+
+pub image_single : ImagesHaveOneOutcome → (limit : ℕ) (ledger : Ledger) (text : List ℕ) → IsSingle (image_checks limit ledger text)
+image_single law limit ledger text =
+    let custom : Custom = custom_of ledger in
+    then_single (Pure (HeadAnswers SpellsImage text)) (λ head. after_image_head limit ledger head) (head_single SpellsImage (one_head SpellsImage one_image) text) (λ head spells.
+    then_single (morphism_loaded ledger head.morphism) (λ rules. after_image_morphism limit ledger head rules) (morphism_loaded_single ledger head.morphism) (λ rules read.
+    then_single (files_loaded ledger (first_files (old_mentions head.old))) (λ ts. after_old_table limit ledger head rules ts) (files_single ledger (first_files (old_mentions head.old))) (λ ts there.
+    then_single (systems_known limit custom (first_systems (headers_of ts) (old_mentions head.old))) (λ admitted. after_old_systems ledger head rules ts admitted) (systems_single limit custom (first_systems (headers_of ts) (old_mentions head.old))) (λ admitted known.
+    then_single (Pure (OneTrackAnswers (headers_of ts) head.old)) (λ one. after_one_track ledger head rules ts admitted) (one_track_single (headers_of ts) head.old) (λ one has.
+    then_single (Pure (LengthsAnswers rules)) (λ uniform. after_lengths ledger head rules ts admitted) (lengths_single rules (spells_morphisms read.2.text rules read.2.spells)) (λ uniform lengths.
+    then_single (Pure (TrackAnswers custom (headers_of ts) head.old)) (λ track. after_track ledger head rules ts admitted track) (tracks_single custom (headers_of ts) head.old) (λ track over.
+    then_single (Pure (ImagedAnswers admitted custom ts head.old track.system.name rules)) (λ lines. after_image_steps ledger head rules track lines)
+    (imaged_single law admitted custom ts head.old track.system.name rules (spells_morphisms read.2.text rules read.2.spells) there.0 (first_files (old_mentions head.old)) there.2) (λ lines imaged.
+    then_single (Pure (OldAnswers ledger head.old)) (λ entry. stored custom (image_success head track rules entry lines)) (old_single ledger head.old) (λ entry stands.
+    stored_single custom (image_success head track rules entry lines))))))))))

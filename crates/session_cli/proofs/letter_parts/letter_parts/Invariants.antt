@@ -1,0 +1,12 @@
+use Rattle.std.proofs.Common.{take}
+use Rattle.session_cli.specs.ImageSteps.{AreBuilt}
+use Rattle.session_cli.specs.LetterParts.{AreLetterParts}
+use Rattle.session_cli.specs.LetterSettings.{library_in}
+use Rattle.session_cli.proofs.letter_parts.letter_parts.Given as goal
+
+-- the formulas of the letters so far were built
+abbrev pub invariant-loop-letter : goal.invariant-loop-letter
+invariant-loop-letter l = record {
+  built : AreBuilt (library_in l.formulas.setting.now) l.formulas.system.now l.formulas.length l.initial.steps (take l.letter-index l.letters) l.parts.items l.steps;
+  parts : AreLetterParts l.formulas.setting.now l.formulas.system.now l.formulas.length l.parts.items;
+}

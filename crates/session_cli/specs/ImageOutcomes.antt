@@ -1,0 +1,142 @@
+-- What an `image` does, by its checks in their order: the shape of its head, the file of the morphism, that of the word, the word's systems, that
+-- it has one track, that all images have one length, its steps with the letters that have no rule, and the length of the text to store.
+use Rattle.std.specs.Prelude.{◌≡◌, ◌≢◌, ◌⊎◌, ℕ, ℤ, List, [], ◌∷◌, length, None, Some, slice_index_or, Result, Ok, Err}
+use Rattle.digit_tuple.specs.Steps.{StepLog}
+use Rattle.digit_tuple.specs.declared.direction.Direction.{Direction}
+use Rattle.digit_tuple.specs.declared.step_fault.StepFault.{StepFault}
+use Rattle.digit_tuple.specs.declared.step_fault.StepFault.TheVariants as steps
+use Rattle.digit_tuple.specs.declared.steps.StepLine.{StepLine}
+use Rattle.wal_outside.specs.declared.folder.Folder.TheVariants.{Words}
+use Rattle.command_head.specs.Grammar.{SpellsImage}
+use Rattle.command_head.specs.Heads.{ImageHead}
+use Rattle.dfa_loading.specs.Headers.{headers_of}
+use Rattle.dfa_loading.specs.declared.loaded.Loaded.{Loaded}
+use Rattle.formula_build.specs.Libraries.{NamedSystem, AreSealed, word_named}
+use Rattle.formula_resolve.specs.Arity.{kept_count}
+use Rattle.formula_resolve.specs.FirstMentions.{first_files, first_systems}
+use Rattle.formula_resolve.specs.Headers.{Headers, word_tracks}
+use Rattle.formula_resolve.specs.declared.mention.Mention.{Mention}
+use Rattle.formula_resolve.specs.declared.mention.Mention.TheVariants.{Indexed}
+use Rattle.morph_words.specs.Rules.{Rules}
+use Rattle.morph_words.specs.Uniform.{HasLength, IsImageLength, IsLengthRefused}
+use Rattle.session_cli.specs.ImageSteps.{IsImageDone, IsImageRefused}
+use Rattle.session_cli.specs.declared.image_fault.ImageFault.{ImageFault}
+use Rattle.session_cli.specs.declared.image_fault.ImageFault.TheVariants as images
+use Rattle.word_output.specs.Words.{WordValue}
+use Rattle.definitions.specs.Named.{IsSystemNamed}
+use Rattle.definitions.specs.Tracks as named_tracks
+use Rattle.definitions.specs.Trees.{Defined, Entry, Image, Ledger, custom_of, tree_of}
+use Rattle.system_files.specs.SystemFiles.{Custom}
+use Rattle.session_cli.specs.declared.fault.Fault.{Fault}
+use Rattle.session_cli.specs.declared.fault.Fault.TheVariants as faults
+use Rattle.session_cli.specs.Accepting.{Success, stored}
+use Rattle.session_cli.specs.Checks.{Check, Pure, Then}
+use Rattle.session_cli.specs.FileChecks.{files_loaded}
+use Rattle.session_cli.specs.FormulaSteps.{AreMeant, IsReadingStopped, IsLetterMissing}
+use Rattle.session_cli.specs.HeadAnswers.{HeadAnswers}
+use Rattle.session_cli.specs.MorphismChecks.{morphism_loaded}
+use Rattle.session_cli.specs.SystemChecks.{systems_known}
+use Rattle.session_cli.specs.TableReads.{TableRead, AreTablesRead, words_in}
+
+-- the old word is mentioned as one that is indexed at one place
+abbrev pub old_mentions : List ℕ → List Mention
+old_mentions old = Indexed old 1 ∷ []
+
+-- the word has one track, or has another number of them
+abbrev pub OneTrackAnswers : Headers → List ℕ → Result (Unit {0}) Fault → Type 0
+OneTrackAnswers h old (Ok one) = length (word_tracks h old) ≡ 1
+OneTrackAnswers h old (Err (faults.Arity name tracks given)) = (name ≡ old) × (length (word_tracks h old) ≢ 1) × (tracks ≡ kept_count (length (word_tracks h old))) × (given ≡ 1)
+OneTrackAnswers h old (Err fault) = ⊥
+
+-- all images have one length that is allowed, or the first kind that tells that they have not
+abbrev pub LengthsAnswers : Rules → Result (Unit {0}) Fault → Type 0
+LengthsAnswers rules (Ok uniform) = (k : ℕ) × HasLength IsImageLength rules k
+LengthsAnswers rules (Err (faults.Morphism kind)) = IsLengthRefused IsImageLength rules kind
+LengthsAnswers rules (Err fault) = ⊥
+
+-- the system of the word's track, read in a direction
+pub record WordTrack : Type 0 where
+  pub way : Direction
+  pub system : named_tracks.NamedSystem
+
+-- it is what the name of the track's system means
+abbrev pub TrackAnswers : Custom → Headers → List ℕ → Result WordTrack Fault → Type 0
+TrackAnswers custom h old (Ok track) = (word_tracks h old ≡ track.system.name ∷ []) × IsSystemNamed custom track.system.name track.way track.system.system
+TrackAnswers custom h old (Err fault) = ⊥
+
+-- the table is read over sealed systems that names mean, and its steps make this word
+pub record IsOldWordRead (admitted : StepLog) (custom : Custom) (tables : List Loaded) (old : List ℕ) : Type 0 where
+  pub systems : List NamedSystem
+  pub sealed : AreSealed systems
+  pub meant : AreMeant custom systems
+  pub reads : List TableRead
+  pub reading : StepLog
+  pub read : AreTablesRead systems admitted tables reads reading
+  pub word : WordValue
+  pub word_is : word_named (words_in reads) old ≡ Some word
+
+-- the steps of the image make this word, and these are the lines of all steps
+pub record AreImageSteps (admitted : StepLog) (custom : Custom) (tables : List Loaded) (old name : List ℕ) (rules : Rules) (word : WordValue) (lines : List StepLine) : Type 0 where
+  pub before : IsOldWordRead admitted custom tables old
+  pub log : StepLog
+  pub done : IsImageDone before.reading rules before.word name word log
+  pub lines_are : lines ≡ log.lines
+
+-- the image of the word is refused by this fault
+pub record IsImagingStopped (admitted : StepLog) (custom : Custom) (tables : List Loaded) (old name : List ℕ) (rules : Rules) (fault : ImageFault) : Type 0 where
+  pub before : IsOldWordRead admitted custom tables old
+  pub log : StepLog
+  pub refused : IsImageRefused before.reading rules before.word name fault log
+
+-- a step that reads the table, or one of the image, is the first to pass a limit
+abbrev pub AreImageStepsRefused : StepLog → Custom → List Loaded → List ℕ → List ℕ → Rules → StepFault → Type 0
+AreImageStepsRefused admitted custom tables old name rules fault = IsReadingStopped admitted custom tables fault ⊎ IsImagingStopped admitted custom tables old name rules (images.Step fault)
+
+-- the lines of the steps; or the number of the first one that passes a limit; or that the old word lacks a letter at some place, or has one
+-- without a rule, where that comes first
+abbrev pub ImagedAnswers : StepLog → Custom → List Loaded → List ℕ → List ℕ → Rules → Result (List StepLine) Fault → Type 0
+ImagedAnswers admitted custom tables old name rules (Ok lines) = (word : WordValue) × AreImageSteps admitted custom tables old name rules word lines
+ImagedAnswers admitted custom tables old name rules (Err (faults.Letters step)) = AreImageStepsRefused admitted custom tables old name rules (steps.Letters step)
+ImagedAnswers admitted custom tables old name rules (Err (faults.States step)) = AreImageStepsRefused admitted custom tables old name rules (steps.States step)
+ImagedAnswers admitted custom tables old name rules (Err (faults.WordGap word spelling)) = IsLetterMissing admitted custom tables word spelling
+ImagedAnswers admitted custom tables old name rules (Err (faults.LetterMissing letter)) = IsImagingStopped admitted custom tables old name rules (images.Missing letter)
+ImagedAnswers admitted custom tables old name rules (Err fault) = ⊥
+
+-- the definition for which the name of the old word stands now
+abbrev pub OldAnswers : Ledger → List ℕ → Result Entry Fault → Type 0
+OldAnswers ledger old (Ok entry) = ledger Words old ≡ Some entry
+OldAnswers ledger old (Err fault) = ⊥
+
+-- what is stored and printed of an image
+abbrev pub image_success : ImageHead → WordTrack → Rules → Entry → List StepLine → Success
+image_success head track rules entry lines = record { folder = Words; name = head.word; entry = Defined (Image track.way track.system rules (tree_of entry)); lines = lines; verdict = None }
+
+-- the checks after the steps, after the track, after the lengths, after the arity, after the systems, after the table, after the morphism, and
+-- after the head
+abbrev pub after_image_steps : Ledger → ImageHead → Rules → WordTrack → List StepLine → Check Success
+after_image_steps ledger head rules track lines = Then (Pure (OldAnswers ledger head.old)) (λ entry. stored (custom_of ledger) (image_success head track rules entry lines))
+
+abbrev pub after_track : Ledger → ImageHead → Rules → List Loaded → StepLog → WordTrack → Check Success
+after_track ledger head rules tables admitted track = Then (Pure (ImagedAnswers admitted (custom_of ledger) tables head.old track.system.name rules)) (λ lines. after_image_steps ledger head rules track lines)
+
+abbrev pub after_lengths : Ledger → ImageHead → Rules → List Loaded → StepLog → Check Success
+after_lengths ledger head rules tables admitted = Then (Pure (TrackAnswers (custom_of ledger) (headers_of tables) head.old)) (λ track. after_track ledger head rules tables admitted track)
+
+abbrev pub after_one_track : Ledger → ImageHead → Rules → List Loaded → StepLog → Check Success
+after_one_track ledger head rules tables admitted = Then (Pure (LengthsAnswers rules)) (λ uniform. after_lengths ledger head rules tables admitted)
+
+abbrev pub after_old_systems : Ledger → ImageHead → Rules → List Loaded → StepLog → Check Success
+after_old_systems ledger head rules tables admitted = Then (Pure (OneTrackAnswers (headers_of tables) head.old)) (λ one. after_one_track ledger head rules tables admitted)
+
+abbrev pub after_old_table : ℕ → Ledger → ImageHead → Rules → List Loaded → Check Success
+after_old_table limit ledger head rules tables = Then (systems_known limit (custom_of ledger) (first_systems (headers_of tables) (old_mentions head.old))) (λ admitted. after_old_systems ledger head rules tables admitted)
+
+abbrev pub after_image_morphism : ℕ → Ledger → ImageHead → Rules → Check Success
+after_image_morphism limit ledger head rules = Then (files_loaded ledger (first_files (old_mentions head.old))) (λ tables. after_old_table limit ledger head rules tables)
+
+abbrev pub after_image_head : ℕ → Ledger → ImageHead → Check Success
+after_image_head limit ledger head = Then (morphism_loaded ledger head.morphism) (λ rules. after_image_morphism limit ledger head rules)
+
+-- all checks of an `image`
+abbrev pub image_checks : ℕ → Ledger → List ℕ → Check Success
+image_checks limit ledger text = Then (Pure (HeadAnswers SpellsImage text)) (λ head. after_image_head limit ledger head)

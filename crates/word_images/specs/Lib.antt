@@ -1,0 +1,6 @@
+-- Definitions that the contracts cite, in reading order.
+pub mod ImageFormula
+pub mod Recoded
+pub mod ImageWords
+pub mod RecodedLetters
+pub mod Laws

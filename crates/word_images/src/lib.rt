@@ -1,0 +1,25 @@
+//! What images of automatic words are made of: the images of the letters of a word under a morphism all of whose
+//! images have one length, one after another, are a word over the same system.
+//!
+//! For each place of the images there is a recoded word, whose letter at each number is that at this place of the
+//! image. Each letter of the result has a formula over these words that is true at its places.
+#![tactic(auto)]
+
+/// The letters of a word that have no rule.
+mod missing;
+
+/// The letters that stand in images.
+mod outputs;
+
+/// Words whose letters are those at one place of the images.
+mod recoding;
+
+/// The formula of one letter.
+pub mod image_formula;
+
+/// Laws of images.
+pub mod laws;
+
+pub use missing::missing_letter;
+pub use outputs::output_letters;
+pub use recoding::recoded;
