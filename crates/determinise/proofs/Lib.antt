@@ -1,3 +1,10 @@
 pub mod SubsetLemmas
 pub mod TrimmedLemmas
 pub mod ReversalLemmas
+pub mod BitLemmas
+pub mod BitRowLemmas
+pub mod KeyEdgeLemmas
+pub mod BitSetLemmas
+pub mod BitSubsetLemmas
+pub mod ViewedKeyLemmas
+pub mod BitMemberLemmas

@@ -23,7 +23,7 @@ both_true : (x y : Bool) → (x && y) ≡ true → (x ≡ true) × (y ≡ true)
 both_true true y is = (refl, is)
 both_true false y is = absurd (true≢false (sym is))
 
-Contains-range : (n q : ℕ) → q < n → Contains (range_with_len 0 n) q
+pub Contains-range : (n q : ℕ) → q < n → Contains (range_with_len 0 n) q
 Contains-range n q within = (q, omega (arith, length-range_with_len 0 n), get_or-range_with_len 0 n q q within ∙ omega arith)
 
 -- the targets of edges in order by one letter are in order

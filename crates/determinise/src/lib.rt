@@ -4,6 +4,24 @@
 /// The sets of states that words lead to, as a graph of keys.
 pub mod subsets;
 
+/// Sets of numbers as bits.
+pub mod bit_words;
+
+/// Edges as rows of bits.
+pub mod bit_rows;
+
+/// The numbers whose bits are set.
+pub mod bit_members;
+
+/// The sets of states that words lead to, as bits.
+pub mod bit_subsets;
+
+/// The sets of states that words lead to, as lists, with edges from rows of bits.
+pub mod row_subsets;
+
+/// The exploration of sets of states.
+pub mod subset_exploration;
+
 /// The subset construction.
 pub mod subset_construction;
 

@@ -9,11 +9,10 @@ ghost use Rattle.digit_tuple.specs.Width.{HasApart, HasWidth};
 ghost use Rattle.digit_tuple.specs.AcceptingStates.{AreAccepting};
 ghost use Rattle.determinise.specs.Reversed.{SameReversedResidual};
 
-use crate::subsets::Subsets;
+use crate::subset_exploration::explore_subsets;
 use crate::trimmed::trimmed;
 use digit_tuple::accepting_states::accepting_states;
 use digit_tuple::dfa::Dfa;
-use digit_tuple::exploration::explore;
 use digit_tuple::faults::OpFault;
 use digit_tuple::no_words::no_words_within;
 use digit_tuple::reversed::reversed;
@@ -42,9 +41,5 @@ pub fn reverse(alloc: Global, d: &Dfa, limit: u32) -> Result<Stepped<Dfa>, OpFau
         return no_words_within(alloc, alphabet, limit);
     }
     let nfa = reversed(alloc, &reachable)?;
-    let subsets = Subsets {
-        nfa: &nfa,
-        first: &first,
-    };
-    explore(alloc, &subsets, alphabet, limit)
+    explore_subsets(alloc, &nfa, &first, alphabet, limit)
 }

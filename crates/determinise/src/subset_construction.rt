@@ -9,9 +9,8 @@ ghost use Rattle.digit_tuple.specs.Letters.{product, IsWord};
 ghost use Rattle.digit_tuple.specs.Width.{HasApart, HasWidth};
 ghost use Rattle.determinise.specs.Subsets.{Alike};
 
-use crate::subsets::Subsets;
+use crate::subset_exploration::explore_subsets;
 use digit_tuple::dfa::Dfa;
-use digit_tuple::exploration::explore;
 use digit_tuple::faults::OpFault;
 use digit_tuple::nfa::Nfa;
 use digit_tuple::stepped::Stepped;
@@ -35,9 +34,5 @@ pub fn determinise(alloc: Global, n: &Nfa, limit: u32) -> Result<Stepped<Dfa>, O
     ensures letters { ¬ IsErrOf result OpFault.Letters }
 {
     let alphabet = n.alphabet().copy(alloc)?;
-    let subsets = Subsets {
-        nfa: n,
-        first: &[0],
-    };
-    explore(alloc, &subsets, alphabet, limit)
+    explore_subsets(alloc, n, &[0], alphabet, limit)
 }

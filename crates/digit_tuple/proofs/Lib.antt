@@ -5,6 +5,7 @@ pub mod SetLemmas
 pub mod LetterLemmas
 pub mod TupleLemmas
 pub mod PartLemmas
+pub mod PartIndexLemmas
 pub mod NameLemmas
 pub mod JointNames
 pub mod RangeLemmas
@@ -25,6 +26,10 @@ pub mod AddedStates
 pub mod NoWordLemmas
 pub mod NumberingLemmas
 pub mod KeySpanLemmas
+pub mod KeyPartLemmas
+pub mod LinkLemmas
+pub mod FindLemmas
+pub mod KeyHashLemmas
 pub mod KeyEdgeLemmas
 pub mod GroupLemmas
 pub mod KeyLemmas
@@ -37,3 +42,11 @@ pub mod FrontierLemmas
 pub mod ExploredLemmas
 pub mod LetterEdges
 pub mod ReflaggedLemmas
+pub mod NumberListLemmas
+pub mod JoinedRows
+pub mod DecisionLemmas
+pub mod JoinedReads
+pub mod DecisionReads
+pub mod SparseRowLemmas
+pub mod CellLemmas
+pub mod SameRows

@@ -1,64 +1,14 @@
--- Keys of a set in insertion order.
-use Rattle.std.proofs.Common.{◌≡◌, ℕ, ◌+◌, ◌<◌, Bool, true, false, cond, not, if◌then◌else◌, ◌||◌, List, [], ◌∷◌, ◌++◌, map, length, get_or, slice_get, Some, ◌⊎◌, inl, inr, refl, sym, ap, ◌∙◌, true≢false, arith}
-use Rattle.std.specs.Bool.{Decides}
-use Rattle.std.specs.List.{Contains, IsDistinct, list_any, position, position_or_len}
-use Rattle.std.proofs.lemmas.List.Quantifiers.{position-Some}
-use Rattle.std.proofs.lemmas.Map.Keys.{apart_from_distinct}
-use Rattle.std.proofs.lemmas.List.{get_or-map, length-map}
-use Rattle.std.proofs.lemmas.Option.{get_or_from_slice_get}
-use Rattle.std.proofs.lemmas.List.{map-append}
-use Rattle.indexmap.specs.IndexSet.{insert_key}
+-- Keys numbered in the order in which they were first seen.
+use Rattle.std.proofs.Common.{◌≡◌, ◌≢◌, ℕ, List, [], ◌∷◌, ◌++◌, length, inr, refl, sym, ◌∙◌}
+use Rattle.std.specs.List.{Contains}
+use Rattle.std.proofs.lemmas.List.Quantifiers.{all_pairs_push}
+use Rattle.std.proofs.lemmas.List.{get_or_default, get_or_push}
 use Rattle.digit_tuple.specs.Explored.{AreApart, IsNumbered}
-use Rattle.digit_tuple.proofs.MemberLemmas.{Contains-from_map, list_any-contains}
 
--- where no element passes the test
-pub position_or_len-absent : {X : Type 0} (p : X → Bool) (xs : List X) → list_any p xs ≡ false → position_or_len p xs ≡ length xs
-position_or_len-absent p [] none = refl
-position_or_len-absent p (x ∷ xs) none = by (p x) none (position_or_len-absent p xs)
-  where
-    by : (b : Bool) → (b || list_any p xs) ≡ false → (list_any p xs ≡ false → position_or_len p xs ≡ length xs) → cond (not b) (1 + position_or_len p xs) 0 ≡ length (x ∷ xs)
-    by true here rest = absurd (true≢false here)
-    by false here rest = omega (arith, rest here)
-
-module _ {K : Type 0} (f : K → List ℕ) (eq : K → K → Bool) (tells : (x y : K) → Decides (eq x y) (f x ≡ f y)) where
-  -- distinct keys stand for lists that are apart
-  pub AreApart-distinct : (ks : List K) → IsDistinct eq ks → AreApart (map f ks)
-  AreApart-distinct [] distinct i j d before within same = omega arith
-  AreApart-distinct (k ∷ ks) distinct i j d before within same =
-      let n = length-map (k ∷ ks) f in
-      let one : f (get_or (k ∷ ks) i k) ≡ f (get_or (k ∷ ks) j k) = sym (get_or-map f (k ∷ ks) i k d (omega arith)) ∙ same ∙ get_or-map f (k ∷ ks) j k d (omega arith) in
-      true≢false (sym ((tells (get_or (k ∷ ks) i k) (get_or (k ∷ ks) j k)).1 one) ∙ apart_from_distinct eq (k ∷ ks) i j k distinct before (omega arith))
-
-  -- an inserted key has its number
-  pub IsNumbered-inserted : (old new : List K) (key stored : K) (n : ℕ) → IsDistinct eq new → new ≡ insert_key eq old key → n ≡ position_or_len (eq key) old → n < length new → slice_get new n ≡ Some stored → eq key stored ≡ true
-      → IsNumbered (map f old) (map f new) (f key) n
-  IsNumbered-inserted old new key stored n distinct inserted place within read same = record {
-    apart = AreApart-distinct new distinct;
-    key_is = get_or-map f new n stored [] within ∙ ap f (get_or_from_slice_get new n stored stored read) ∙ sym ((tells key stored).0 same);
-    old_or_new = by (list_any (eq key) old) refl;
-  }
-    where
-      by : (b : Bool) → list_any (eq key) old ≡ b → ((map f new ≡ map f old) × (n < length (map f old))) ⊎ ((n ≡ length (map f old)) × (map f new ≡ map f old ++ f key ∷ []))
-      by true e =
-          let kept : new ≡ old = inserted ∙ ap (λ b. if b then old else old ++ key ∷ []) e in
-          inl (ap (map f) kept, omega (arith, length-map old f, ap length kept))
-      by false e =
-          let pushed : new ≡ old ++ key ∷ [] = inserted ∙ ap (λ b. if b then old else old ++ key ∷ []) e in
-          inr (omega (arith, place, position_or_len-absent (eq key) old e, length-map old f), ap (map f) pushed ∙ map-append f old (key ∷ []))
-
--- a key that is found has its number
-pub IsNumbered-found : {K : Type 0} (f : K → List ℕ) (test : K → Bool) (ks : List K) (key : List ℕ) (n : ℕ) → ((x : K) → Decides (test x) (key ≡ f x)) → AreApart (map f ks) → position test ks ≡ Some n → IsNumbered (map f ks) (map f ks) key n
-IsNumbered-found f test [] key n tells apart found = absurd (cc)
-IsNumbered-found f test (k ∷ ks) key n tells apart found =
-    let at = position-Some test (k ∷ ks) n k found in
-    record {
-      apart = apart;
-      key_is = get_or-map f (k ∷ ks) n k [] at.0 ∙ sym ((tells (get_or (k ∷ ks) n k)).0 at.1);
-      old_or_new = inl (refl, omega (arith, at.0, length-map (k ∷ ks) f));
-    }
-
--- a key that no list of them is does not stand among them
-pub Contains-none_passes : {K : Type 0} (f : K → List ℕ) (test : K → Bool) (ks : List K) (key : List ℕ) → ((x : K) → Decides (test x) (key ≡ f x)) → list_any test ks ≡ false → ¬ Contains (map f ks) key
-Contains-none_passes f test ks key tells none there =
-    let found = Contains-from_map f ks key there in
-    true≢false (sym (list_any-contains test ks found.0 found.1 ((tells found.0).1 (sym found.2))) ∙ none)
+-- a new key
+pub IsNumbered-new : (keys : List (List ℕ)) (key : List ℕ) (n : ℕ) → AreApart keys → ¬ Contains keys key → n ≡ length keys → IsNumbered keys (keys ++ key ∷ []) key n
+IsNumbered-new keys key n apart absent all = record {
+  apart = all_pairs_push (λ k l. k ≢ l) keys key apart (λ k d within same. absent (k, within, get_or_default keys k key d within ∙ same));
+  key_is = get_or_push keys key [] n (sym all);
+  old_or_new = inr (all, refl);
+}

@@ -1,7 +1,8 @@
 -- Lists by index.
 use Rattle.std.proofs.Common.{◌≡◌, ℕ, ◌+◌, ◌<◌, List, [], ◌∷◌, ◌++◌, length, map, get_or, sym, ap, ◌∙◌, arith}
-use Rattle.std.specs.List.{All, range_with_len}
+use Rattle.std.specs.List.{All, Contains, range_with_len}
 use Rattle.std.proofs.lemmas.List.{length-map, get_or-map, map-id}
+use Rattle.std.proofs.lemmas.List.Elements.{All-contains}
 use Rattle.std.proofs.lemmas.List.FromFn.{fill_by_all, length-range_with_len, get_or-range_with_len, length-map-range_with_len, get_or-map-range_with_len, map-range_with_len_more}
 
 -- functions that are the same at each index
@@ -26,3 +27,10 @@ range_more n =
     sym (map-id (range_with_len 0 (n + 1)))
     ∙ map-range_with_len_more (λ (x : ℕ). x) 0 n n (omega arith)
     ∙ ap (λ ns. ns ++ n ∷ []) (map-id (range_with_len 0 n))
+
+-- and no others are in the list
+pub Contains-range : (n a : ℕ) → a < n → Contains (range_with_len 0 n) a
+Contains-range n a less = (a, omega (arith, length-range_with_len 0 n, less), omega (arith, get_or-range_with_len 0 n a a less))
+
+pub Contains-from_range : (n a : ℕ) → Contains (range_with_len 0 n) a → a < n
+Contains-from_range n a there = All-contains (λ p. p < n) (range_with_len 0 n) a (All-range n) there

@@ -1,6 +1,8 @@
 pub mod Letters
 pub mod Paddings
 pub mod Parts
+pub mod PartIndex
+pub mod PartChains
 pub mod Names
 pub mod Sets
 pub mod Tuples
@@ -22,7 +24,15 @@ pub mod Steps
 pub mod StepResults
 pub mod Keys
 pub mod KeySpans
+pub mod KeyParts
+pub mod KeyHashes
+pub mod Buckets
 pub mod Groups
 pub mod ExploredWidth
 pub mod Explored
 pub mod NoWords
+pub mod Tables
+pub mod NumberLists
+pub mod Decisions
+pub mod CellCounts
+pub mod SparseRows

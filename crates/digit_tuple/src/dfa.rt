@@ -8,8 +8,10 @@ ghost use Rattle.digit_tuple.specs.DfaRows.{states_in};
 ghost use Rattle.digit_tuple.specs.Reflagged.{AreReflagged, IsReflagged};
 
 use crate::alphabet::Alphabet;
+use crate::dense::target_in;
 use crate::edges::Edge;
 use crate::faults::OutOfMemory;
+use crate::table::{Table, accepts_by};
 use std::alloc::Global;
 use std::marker::Model;
 
@@ -135,15 +137,7 @@ impl Dfa {
     pub fn accepts(&self, word: &[u32]) -> bool
         ensures { result ≡ accepts_of self.now word.now }
     {
-        let mut state = 0;
-        let _ = &self.rows;
-        for letter in word {
-            match self.step(state, *letter) {
-                Some(next) => state = next,
-                None => return false,
-            }
-        }
-        self.accepting(state)
+        accepts_by(self, word)
     }
 
     /// The automaton with the same edges in which the states that the flags say accept, and no others. There is a flag
@@ -163,6 +157,32 @@ impl Dfa {
     {
         let rows = copied_states(alloc, &self.rows)?;
         Dfa::from_states(alloc, self.tracks.copy(alloc)?, rows)
+    }
+}
+
+impl Table for Dfa {
+    ghost letter_count = { λ d. letters_of d };
+
+    ghost state_count = { λ d. states_of d };
+
+    ghost target = { λ d q letter. step_of d q letter };
+
+    ghost accepts = { λ d q. accepting_of d q };
+
+    fn letters(&self) -> u32 {
+        self.tracks.letters()
+    }
+
+    fn states(&self) -> u32 {
+        Dfa::states(self)
+    }
+
+    fn step(&self, q: u32, letter: u32) -> Option<u32> {
+        Dfa::step(self, q, letter)
+    }
+
+    fn accepting(&self, q: u32) -> bool {
+        Dfa::accepting(self, q)
     }
 }
 
@@ -188,37 +208,4 @@ fn copied_states(alloc: Global, states: &[DfaState]) -> Result<Vec<DfaState>, Ou
         })?;
     }
     Ok(rows)
-}
-
-// Where the edge by the letter leads.
-fn target_in(edges: &[Edge], letter: u32) -> Option<u32>
-    requires { AllPairs IsByEarlier edges.now }
-    ensures { result ≡ target_by edges.now letter }
-{
-    let place = place_in(edges, letter);
-    if place < edges.len() && edges[place].letter == letter {
-        Some(edges[place].target)
-    } else {
-        None
-    }
-}
-
-// The place of the edge by the letter, or where it would stand.
-pub(crate) fn place_in(edges: &[Edge], letter: u32) -> usize
-    requires { AllPairs IsByEarlier edges.now }
-    ensures within { result ≤ length edges.now }
-    ensures before { AllWithin (λ edge. edge.letter < letter) edges.now 0 result }
-    ensures after { AllWithin (λ edge. letter ≤ edge.letter) edges.now result (length edges.now) }
-{
-    let mut low = 0;
-    let mut high = edges.len();
-    while low < high {
-        let middle = low + (high - low) / 2;
-        if edges[middle].letter < letter {
-            low = middle + 1;
-        } else {
-            high = middle;
-        }
-    }
-    low
 }

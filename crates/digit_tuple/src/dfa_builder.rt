@@ -6,7 +6,8 @@ ghost use Rattle.digit_tuple.specs.Deterministic.{Automaton, IsPartTable, IsSet,
 ghost use Rattle.digit_tuple.specs.Letters.{product};
 
 use crate::alphabet::Alphabet;
-use crate::dfa::{Dfa, DfaState, place_in};
+use crate::dense::place_in;
+use crate::dfa::{Dfa, DfaState};
 use crate::edges::Edge;
 use crate::faults::OutOfMemory;
 use std::alloc::Global;

@@ -31,11 +31,29 @@ pub mod names;
 /// Parts of letters on some of their tracks.
 pub mod letter_parts;
 
+/// The parts of letters, and the letters of each part.
+pub mod part_index;
+
 /// Edges and states of nondeterministic automata.
 pub mod edges;
 
 /// Nondeterministic automata.
 pub mod nfa;
+
+/// Tables of deterministic automata, whatever form they are kept in.
+pub mod table;
+
+/// Dense tables: the edges of each state in a list of its own.
+pub mod dense;
+
+/// Lists of numbers in one buffer.
+mod number_lists;
+
+/// Rows of edges as decisions by tracks.
+mod decisions;
+
+/// Sparse rows: edges by letters of tracks, of which only those that are there take a place.
+mod sparse_rows;
 
 /// Deterministic automata.
 pub mod dfa;
@@ -63,6 +81,15 @@ pub mod groups;
 
 /// Graphs of keys, which an exploration walks.
 pub mod key_graph;
+
+/// Hashes of keys.
+pub mod key_hashes;
+
+/// Keys, one after another in one buffer.
+pub mod key_arena;
+
+/// Numbers in buckets, by their hashes.
+pub mod buckets;
 
 /// Keys, numbered in the order in which they were first seen.
 pub mod numbering;

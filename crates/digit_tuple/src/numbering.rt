@@ -1,30 +1,35 @@
 //! Keys, numbered in the order in which they were first seen.
 
-ghost use Rattle.std.specs.Prelude.{◌≡◌, ◌<◌, ◌^◌, [], length, IfOk, IsOk, OnErr};
+ghost use Rattle.std.specs.Prelude.{◌≡◌, ◌<◌, ◌^◌, [], length, map, IfOk, IsOk, OnErr, MatchOption};
 ghost use Rattle.std.specs.List.{Contains};
 ghost use Rattle.digit_tuple.specs.Explored.{AreApart, IsNumbered, key_at};
+ghost use Rattle.digit_tuple.specs.KeyHashes.{hash_of};
 
+use crate::buckets::Buckets;
 use crate::faults::OutOfMemory;
-use indexmap::IndexSet;
+use crate::key_arena::KeyArena;
+use crate::key_hashes::key_hash;
 use std::alloc::Global;
 use std::marker::Model;
 
-/// Lists of numbers, no two the same, numbered in the order in which they were first seen.
+/// Lists of numbers, no two the same, numbered in the order in which they were first seen. They stand in
+/// one buffer, and are found by their hashes.
 #[derive(Drop)]
 pub struct Numbering {
-    alloc: Global,
-    lists: IndexSet<Vec<u32>>,
+    keys: KeyArena,
+    buckets: Buckets,
 }
 
 impl Model for Numbering {
-    ghost use Rattle.std.specs.Prelude.{ℕ, List, map};
+    ghost use Rattle.std.specs.Prelude.{◌≡◌, ℕ, List, map};
     ghost use Rattle.digit_tuple.specs.Explored.{AreApart};
+    ghost use Rattle.digit_tuple.specs.KeyHashes.{hash_of};
 
     ghost Value = { List (List ℕ) };
 
-    ghost view = { λ a. map (λ list. list.items) a.lists.keys };
+    ghost view = { λ a. a.keys };
 
-    ghost invariant = { λ a. AreApart (map (λ list. list.items) a.lists.keys) };
+    ghost invariant = { λ a. AreApart a.keys × (a.buckets ≡ map hash_of a.keys) };
 }
 
 impl Numbering {
@@ -33,8 +38,8 @@ impl Numbering {
         ensures { result ≡ [] }
     {
         Numbering {
-            alloc,
-            lists: IndexSet::new(alloc),
+            keys: KeyArena::new(alloc),
+            buckets: Buckets::new(alloc),
         }
     }
 
@@ -44,7 +49,7 @@ impl Numbering {
         ensures apart { AreApart self.now }
         ensures small { result < 2 ^ 63 }
     {
-        self.lists.len()
+        self.keys.len()
     }
 
     /// The key with the number.
@@ -52,7 +57,7 @@ impl Numbering {
         requires { number < length self.now }
         ensures { result.now ≡ key_at self.now number }
     {
-        &self.lists[number]
+        self.keys.key(number)
     }
 
     /// The number of a key, a new one if the key was not seen before. A key that was seen takes no
@@ -62,11 +67,32 @@ impl Numbering {
         ensures seen { Contains self.old key.now → IsOk result }
         ensures err { OnErr result (self.new ≡ self.old) }
     {
-        if let Some(number) = self.lists.get_index_of(key) {
+        let hash = key_hash(key);
+        if let Some(number) = find(&self.keys, &self.buckets, key, hash) {
             return Ok(number);
         }
-        let list = Vec::from_slice(self.alloc, key)?;
-        let (number, _) = self.lists.insert_full(list)?;
+        let number = self.keys.len();
+        self.keys.push(key)?;
+        if let Err(fault) = self.buckets.push(hash) {
+            self.keys.pop();
+            return Err(fault);
+        }
         Ok(number)
     }
+}
+
+// The number of a key with the hash, if it has one.
+fn find(keys: &KeyArena, buckets: &Buckets, key: &[u32], hash: u32) -> Option<usize>
+    requires hash { hash ≡ hash_of key.now }
+    requires buckets { buckets.now ≡ map hash_of keys.now }
+    ensures { MatchOption result (¬ Contains keys.now key.now) (λ number. (number < length keys.now) × (key_at keys.now number ≡ key.now)) }
+{
+    let mut end = keys.len();
+    while let Some(number) = buckets.latest_before(hash, end) {
+        if keys.key(number) == key {
+            return Some(number);
+        }
+        end = number;
+    }
+    None
 }

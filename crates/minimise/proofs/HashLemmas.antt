@@ -2,11 +2,12 @@
 use Rattle.std.proofs.Common.{◌≡◌, ◌≢◌, ℕ, ◌+◌, ◌*◌, ◌<◌, ◌^◌, List, [], ◌∷◌, ◌++◌, take, length, get_or, refl, sym, ap, ◌∙◌, arith}
 use Rattle.std.proofs.lemmas.List.{get_or_default}
 use Rattle.digit_tuple.specs.Deterministic.{Automaton, IsTable, letters_of, states_of, edges_of}
+use Rattle.digit_tuple.specs.KeyHashes.{mixed}
 use Rattle.digit_tuple.specs.declared.edges.Edge.{Edge}
 use Rattle.minimise.specs.Classes.{class_of, dead_class}
 use Rattle.minimise.specs.Refinement.{AreAlike, KeepAlike}
 use Rattle.minimise.specs.Signatures.{class_edges}
-use Rattle.minimise.specs.Hashes.{mixed, hash_edges, hash_of}
+use Rattle.minimise.specs.Hashes.{hash_edges, hash_of}
 use Rattle.minimise.proofs.NumberedLemmas.{AreNumberedBy, same_number}
 use Rattle.minimise.proofs.StabilityLemmas.{rows_from_alike}
 use Rattle.minimise.proofs.SignatureLemmas.{class_edge, class_edges-dead, class_edges-live}

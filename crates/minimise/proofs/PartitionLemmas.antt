@@ -1,5 +1,5 @@
 -- Classes that are parted by sets of states from which words lead to the same outputs.
-use Rattle.std.proofs.Common.{◌≡◌, ◌≢◌, ◌↔◌, ◌==◌, ℕ, suc, ◌+◌, ◌<◌, ◌≤◌, Bool, true, false, List, [], ◌∷◌, ◌++◌, set, take, length, get_or, Option, None, Some, unwrap_or, if◌then◌else◌, ◌⊎◌, inl, inr, refl, sym, ap, ◌∙◌, subst, Vec, Global, eq-eqb, arith, get_or-set_same, get_or-set_other, length-set}
+use Rattle.std.proofs.Common.{◌≡◌, ◌≢◌, ◌↔◌, ◌==◌, ℕ, suc, ◌+◌, ◌-◌, ◌<◌, ◌≤◌, Bool, true, false, List, [], ◌∷◌, ◌++◌, set, take, length, get_or, Option, None, Some, unwrap_or, if◌then◌else◌, ◌⊎◌, inl, inr, refl, sym, ap, ◌∙◌, subst, Vec, Global, eq-eqb, arith, get_or-set_same, get_or-set_other, length-set}
 use Rattle.std.specs.List.{All, Contains, flat_map}
 use Rattle.std.specs.Option.{IfSome, option_to_list}
 use Rattle.std.proofs.lemmas.Bool.{cases_lt, cases_eq, eqb-true}
@@ -12,12 +12,13 @@ use Rattle.digit_tuple.specs.Automaton.{Branching, Leads}
 use Rattle.digit_tuple.specs.Deterministic.{Automaton, IsTable, letters_of, states_of, edges_of, step_of, target_by}
 use Rattle.digit_tuple.specs.Reversed.{IsReversal, edge_to}
 use Rattle.digit_tuple.proofs.MemberLemmas.{Contains-none, Contains-head, Contains-tail, Contains-cases, Contains-filter, Contains-from_filter, Contains-map, Contains-from_map, Contains-flat_map, Contains-from_flat_map}
+use Rattle.minimise.specs.declared.partition.ClassSize.{ClassSize}
 use Rattle.minimise.specs.Classes.{class_of, next_of}
 use Rattle.minimise.specs.Gathering.{IsGathered, edges_by_class}
 use Rattle.minimise.specs.CoarseClasses.{IsCoarse, AreCoarseClasses}
 use Rattle.minimise.specs.Partition.{IsUnion, states_with, IsGiven, IsOneOf, AreParted, list_at, lists_in}
 use Rattle.minimise.proofs.SinkLemmas.{row_of, no_edges_past, next_within}
-use Rattle.minimise.proofs.ClassFromLemmas.{class_from-next, no_class_past}
+use Rattle.minimise.proofs.ClassFromLemmas.{class_from-next}
 
 -- the items of a list of the code
 pub list_at-item : (lists : List (Vec ℕ Global)) (place : ℕ) (list : Vec ℕ Global) → place < length lists → list ≡ get_or lists place list → list_at (lists_in lists) place ≡ list.items
@@ -94,20 +95,17 @@ module _ (d : Automaton) (outputs : List ℕ) (given : length outputs ≡ states
           (subst (Contains into) (sym (next_is p a from.0 from.3)) from.1));
     }
 
--- the states with outputs
-pub IsUnion-outputs : (d : Automaton) (outputs states : List ℕ) → length outputs ≡ states_of d → ((q : ℕ) → Contains states q ↔ (class_of outputs q ≢ 0)) → IsUnion d outputs states
-IsUnion-outputs d outputs states given are = record {
-  within = λ k z inside. by (get_or states k z) ((are (get_or states k z)).0 (Contains-get_or states k z inside)) (cases_lt (get_or states k z) (states_of d));
-  whole = λ p q small low same there. (are q).1 (λ none. (are p).0 there (same [] tt ∙ none));
+-- the states that are not of the sink's class
+pub IsUnion-live : (d : Automaton) (outputs classes states : List ℕ) → AreCoarseClasses d outputs classes
+    → ((q : ℕ) → Contains states q ↔ ((q < length classes) × (class_of classes q ≢ class_of classes (length classes - 1)))) → IsUnion d outputs states
+IsUnion-live d outputs classes states coarse are = record {
+  within = λ k z inside. within (get_or states k z) ((are (get_or states k z)).0 (Contains-get_or states k z inside)) (cases_lt (get_or states k z) (states_of d));
+  whole = λ p q small low same there. (are q).1 (omega (arith, low, coarse.width), λ dead. ((are p).0 there).1 (coarse.coarse p q small low same ∙ dead));
 }
   where
-    by : (q : ℕ) → class_of outputs q ≢ 0 → (q < states_of d) ⊎ (states_of d ≤ q) → q < states_of d
-    by q some (inl less) = less
-    by q some (inr past) = absurd (some (no_class_past d outputs given q past))
-
--- outputs part no residuals
-pub IsCoarse-outputs : (d : Automaton) (outputs : List ℕ) → IsCoarse d outputs outputs
-IsCoarse-outputs d outputs p q small low same = same [] tt
+    within : (q : ℕ) → (q < length classes) × (class_of classes q ≢ class_of classes (length classes - 1)) → (q < states_of d) ⊎ (states_of d ≤ q) → q < states_of d
+    within q both (inl less) = less
+    within q both (inr past) = absurd (both.1 (ap (class_of classes) (omega (arith, both.0, past, coarse.width))))
 
 module _ (d : Automaton) (outputs : List ℕ) where
   -- the states of a class in a union
@@ -178,7 +176,7 @@ module _ (d : Automaton) (outputs old new states : List ℕ) (class : ℕ) (unio
       by (inl there) = given.there p there ∙ sym (given.there q (union.whole p q small low same there))
       by (inr none) = given.elsewhere p none ∙ coarse p q small low same ∙ sym (given.elsewhere q (λ there. none (union.whole q p low small (λ w over. sym (same w over)) there)))
 
-  module _ (sizes : List ℕ) (members pending : List (List ℕ)) (parted : AreParted d outputs old sizes members pending) (count : class ≡ length members) where
+  module _ (sizes : List ClassSize) (members pending : List (List ℕ)) (parted : AreParted d outputs old sizes members pending) (count : class ≡ length members) where
     -- the states left in a class
     pub IsUnion-left : (kept : ℕ) → 0 < kept → kept < length members → IsUnion d outputs (states_with new (list_at members kept) kept)
     IsUnion-left kept other before = record {
@@ -206,7 +204,7 @@ module _ (d : Automaton) (outputs old new states : List ℕ) (class : ℕ) (unio
     IsUnion-one_of kept set before (inr left) = subst (IsUnion d outputs) (sym left.1) (IsUnion-left kept left.0 before)
 
     -- the classes with a new one
-    pub AreParted-split : (more : List ℕ) (set : List ℕ) → length more ≡ length sizes + 1 → class ≤ states_of d → IsUnion d outputs set → AreParted d outputs new more (members ++ states ∷ []) (pending ++ set ∷ [])
+    pub AreParted-split : (more : List ClassSize) (set : List ℕ) → length more ≡ length sizes + 1 → class ≤ states_of d → IsUnion d outputs set → AreParted d outputs new more (members ++ states ∷ []) (pending ++ set ∷ [])
     AreParted-split more set sized room next = record {
       table = parted.table;
       width = given.width ∙ parted.width;
@@ -239,7 +237,7 @@ module _ (d : Automaton) (outputs old new states : List ℕ) (class : ℕ) (unio
             (subst (λ (xs : List ℕ). Contains xs q) (sym (get_or_append_left members (states ∷ []) [] (class_of old q) (parted.below q (omega arith)))) (parted.covered q less (omega (arith, kept, some))))
 
 -- one set is no longer pending
-pub AreParted-pop : (d : Automaton) (outputs classes sizes : List ℕ) (members : List (List ℕ)) (old new : List (Vec ℕ Global)) (r : Option (Vec ℕ Global)) → old ≡ new ++ option_to_list r → AreParted d outputs classes sizes members (lists_in old)
+pub AreParted-pop : (d : Automaton) (outputs classes : List ℕ) (sizes : List ClassSize) (members : List (List ℕ)) (old new : List (Vec ℕ Global)) (r : Option (Vec ℕ Global)) → old ≡ new ++ option_to_list r → AreParted d outputs classes sizes members (lists_in old)
     → AreParted d outputs classes sizes members (lists_in new) × IfSome r (λ (v : Vec ℕ Global). IsUnion d outputs v.items)
 AreParted-pop d outputs classes sizes members old new r is parted = (
   record {
@@ -264,7 +262,7 @@ AreParted-pop d outputs classes sizes members old new r is parted = (
     both = All-pop (λ (v : Vec ℕ Global). IsUnion d outputs v.items) old new r is all
 
 -- the classes of a partition
-pub AreCoarseClasses-parted : (d : Automaton) (outputs classes sizes : List ℕ) (members pending : List (List ℕ)) → AreParted d outputs classes sizes members pending → AreCoarseClasses d outputs classes
+pub AreCoarseClasses-parted : (d : Automaton) (outputs classes : List ℕ) (sizes : List ClassSize) (members pending : List (List ℕ)) → AreParted d outputs classes sizes members pending → AreCoarseClasses d outputs classes
 AreCoarseClasses-parted d outputs classes sizes members pending parted = record {
   width = parted.width;
   below = λ k z within.

@@ -44,6 +44,20 @@ module _ (classes : List ℕ) (dead : ℕ) (es : List Edge) (k : ℕ) (z : Edge)
   class_edges-live other = sym (ap (class_edges classes dead) front ∙ class_edges-push classes dead (take k es) (get_or es k z)
       ∙ ap (λ (b : Bool). class_edges classes dead (take k es) ++ (if b then [] else class_edge classes (get_or es k z) ∷ [])) (ne_eqb (class_of classes (get_or es k z).target) dead other))
 
+-- rows by the same letters to the same classes have the same edges to classes
+pub class_edges-same : (classes : List ℕ) (dead : ℕ) (es fs : List Edge) → length es ≡ length fs
+    → ((k : ℕ) → k < length es → ((get_or es k (record { letter = 0; target = 0 })).letter ≡ (get_or fs k (record { letter = 0; target = 0 })).letter) × (class_of classes (get_or es k (record { letter = 0; target = 0 })).target ≡ class_of classes (get_or fs k (record { letter = 0; target = 0 })).target))
+    → class_edges classes dead es ≡ class_edges classes dead fs
+class_edges-same classes dead [] [] long same = refl
+class_edges-same classes dead [] (f ∷ fs) long same = absurd (omega (arith, long))
+class_edges-same classes dead (e ∷ es) [] long same = absurd (omega (arith, long))
+class_edges-same classes dead (e ∷ es) (f ∷ fs) long same =
+    let rest : class_edges classes dead es ≡ class_edges classes dead fs = class_edges-same classes dead es fs (omega (arith, long)) (λ k within. same (suc k) (omega (arith, within))) in
+    let head = same 0 (omega arith) in
+    ap (λ (c : ℕ). let g : Edge = record { letter = e.letter; target = c } in if c == dead then class_edges classes dead es else g ∷ class_edges classes dead es) head.1
+    ∙ ap (λ (x : ℕ). let g : Edge = record { letter = x; target = class_of classes f.target } in if class_of classes f.target == dead then class_edges classes dead es else g ∷ class_edges classes dead es) head.0
+    ∙ ap (λ (xs : List Edge). if class_of classes f.target == dead then xs else class_edge classes f ∷ xs) rest
+
 pub numbers_in-append : (es fs : List Edge) → numbers_in (es ++ fs) ≡ numbers_in es ++ numbers_in fs
 numbers_in-append [] fs = refl
 numbers_in-append (e ∷ es) fs = ap (λ ns. e.letter ∷ e.target ∷ ns) (numbers_in-append es fs)

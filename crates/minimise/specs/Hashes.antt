@@ -1,17 +1,10 @@
 -- Hashes of states: one number for states that are alike, mostly different ones for others.
-use Rattle.std.specs.Prelude.{ℕ, ◌+◌, ◌*◌, ◌/◌, ◌%◌, ◌^◌, bit_xor, List, [], ◌∷◌}
+use Rattle.std.specs.Prelude.{ℕ, ◌+◌, ◌*◌, ◌^◌, List, [], ◌∷◌}
 use Rattle.digit_tuple.specs.Deterministic.{Automaton, edges_of}
+use Rattle.digit_tuple.specs.KeyHashes.{mixed}
 use Rattle.digit_tuple.specs.declared.edges.Edge.{Edge}
 use Rattle.minimise.specs.Classes.{class_of, dead_class}
 use Rattle.minimise.specs.Signatures.{class_edges}
-
--- the product with a large odd number, whose halves are mixed
-abbrev pub scrambled : ℕ → ℕ
-scrambled n = let product = (n * 0x9E3779B97F4A7C15) % 2 ^ 64 in bit_xor product (product / 2 ^ 32)
-
--- the hash with one more number
-unfoldable pub mixed : ℕ → ℕ → ℕ
-mixed hash n = scrambled (bit_xor hash n)
 
 -- the hash with more edges
 abbrev pub hash_edges : ℕ → List Edge → ℕ

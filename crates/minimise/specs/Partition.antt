@@ -7,6 +7,7 @@ use Rattle.minimise.specs.Outputs.{SameOutputs}
 use Rattle.minimise.specs.Classes.{class_of}
 use Rattle.minimise.specs.CoarseClasses.{IsCoarse}
 use Rattle.minimise.specs.declared.machine.Machine.{Machine}
+use Rattle.minimise.specs.declared.partition.ClassSize.{ClassSize}
 use Rattle.minimise.specs.declared.partition.Partition.{Partition}
 
 -- with a state, the set has all states from which words lead to the same outputs; the sink is none of them
@@ -34,7 +35,7 @@ list_at lists place = slice_index_or lists place []
 
 -- the states of each class but the sink's, 0, stand in the class's list of members, and pending sets are unions of classes
 -- of states from which words lead to the same outputs, which are never parted
-pub record AreParted (d : Automaton) (outputs classes sizes : List ℕ) (members pending : List (List ℕ)) : Type 0 where
+pub record AreParted (d : Automaton) (outputs classes : List ℕ) (sizes : List ClassSize) (members pending : List (List ℕ)) : Type 0 where
   pub table : IsTable (letters_of d) d.states
   pub width : length classes ≡ states_of d + 1
   pub counts : length sizes ≡ length members

@@ -1,13 +1,14 @@
 //! The classes of states that are the residuals: what words that follow lead to.
 //!
-//! Rounds by hashes make them at once where few rounds do. Where they go on, as where states stand in a
-//! long chain, Hopcroft's algorithm parts the states. Each time a comparison of all states tells whether
-//! that was all. Rounds by whole signatures are left for where it was not.
+//! Rounds by hashes make them at once where few rounds do. Where they could go on for long, as where states
+//! stand in a long chain, Hopcroft's algorithm goes on from the classes that they leave. A comparison of all
+//! states tells whether that was all. Rounds by whole signatures are left for where it was not.
 
 ghost use Rattle.std.specs.Prelude.{IfOk};
 ghost use Rattle.minimise.specs.CoarseClasses.{AreResidualClasses};
 ghost use Rattle.minimise.specs.Outputs.{HasOutputs};
 
+use crate::flat_edges::FlatEdges;
 use crate::machine::Machine;
 use crate::partition::parted;
 use crate::refinement::refined_classes;
@@ -22,11 +23,13 @@ pub fn residual_classes(alloc: Global, machine: &Machine) -> Result<Vec<u32>, Ou
     requires { HasOutputs machine.now }
     ensures { IfOk result (λ classes. AreResidualClasses machine.now.dfa.now machine.now.outputs.now classes.items) }
 {
-    if let Some(classes) = classes_by_rounds(alloc, machine)? {
-        return Ok(classes);
+    let rounds = classes_by_rounds(alloc, machine)?;
+    if rounds.stable {
+        return Ok(rounds.classes);
     }
-    let classes = parted(alloc, machine)?;
-    if is_stable(alloc, machine, &classes)? {
+    let classes = parted(alloc, machine, &rounds.classes)?;
+    let flat = FlatEdges::new(alloc, machine.dfa)?;
+    if is_stable(alloc, machine, &flat, &classes)? {
         return Ok(classes);
     }
     refined_classes(alloc, machine)

@@ -1,59 +1,46 @@
 //! Hashes of states: one number for states that are alike, mostly different ones for others. Nothing
 //! rests on that they differ.
 
-ghost use Rattle.std.specs.Prelude.{◌≡◌, ◌+◌, ◌<◌, ◌≤◌, length, IfOk};
-ghost use Rattle.std.specs.List.{All};
-ghost use Rattle.digit_tuple.specs.Deterministic.{states_of};
+ghost use Rattle.std.specs.Prelude.{◌≡◌, ◌+◌, ◌<◌, ◌≤◌, length};
+ghost use Rattle.digit_tuple.specs.Deterministic.{edges_of, states_of};
+ghost use Rattle.minimise.specs.Classes.{dead_class};
+ghost use Rattle.minimise.specs.FlatEdges.{AreFlat};
 ghost use Rattle.minimise.specs.Signatures.{class_edges};
-ghost use Rattle.minimise.specs.Hashes.{mixed, hash_edges, hash_of};
+ghost use Rattle.minimise.specs.Hashes.{hash_edges, hash_of};
 
+use crate::flat_edges::FlatEdges;
 use digit_tuple::dfa::Dfa;
-use digit_tuple::edges::Edge;
-use digit_tuple::faults::OutOfMemory;
+use digit_tuple::key_hashes::mix;
 
-/// The hash of a state or the sink: of its class, and its edges to classes other than the sink's. The
-/// buffer may hold anything.
-pub fn state_hash(
-    dfa: &Dfa,
-    classes: &[u32],
-    state: u32,
-    edges: &mut Vec<Edge>,
-) -> Result<u64, OutOfMemory>
+/// The hash of a state or the sink: of its class, and its edges to classes other than the sink's.
+pub fn state_hash(dfa: &Dfa, flat: &FlatEdges, classes: &[u32], state: u32) -> u64
+    requires flat { AreFlat dfa.now flat.now }
     requires width { length classes.now ≡ states_of dfa.now + 1 }
     requires state { state ≤ states_of dfa.now }
-    ensures { IfOk result (λ hash. hash ≡ hash_of dfa.now classes.now state) }
+    ensures { result ≡ hash_of dfa.now classes.now state }
 {
     let hash = mix(0, u64::from(classes[state as usize]));
-    let states = dfa.states();
-    if state == states {
-        return Ok(hash);
+    if state == dfa.states() {
+        return hash;
     }
-    dfa.edges_into(state, edges)?;
-    Ok(mix_edges(hash, edges, classes, classes[states as usize]))
+    mix_edges(hash, dfa, flat, classes, state)
 }
 
-// The hash with the edges to classes other than the dead one.
-fn mix_edges(start: u64, edges: &[Edge], classes: &[u32], dead: u32) -> u64
-    requires { All (λ edge. edge.target < length classes.now) edges.now }
-    ensures { result ≡ hash_edges start (class_edges classes.now dead edges.now) }
+// The hash with the edges of a state to classes other than the sink's.
+fn mix_edges(start: u64, dfa: &Dfa, flat: &FlatEdges, classes: &[u32], state: u32) -> u64
+    requires flat { AreFlat dfa.now flat.now }
+    requires width { length classes.now ≡ states_of dfa.now + 1 }
+    requires state { state < states_of dfa.now }
+    ensures { result ≡ hash_edges start (class_edges classes.now (dead_class dfa.now classes.now) (edges_of dfa.now state)) }
 {
+    let dead = classes[dfa.states() as usize];
     let mut hash = start;
-    for edge in edges {
-        let class = classes[edge.target as usize];
+    for place in flat.starts[state as usize]..flat.starts[state as usize + 1] {
+        let class = classes[flat.targets[place] as usize];
         if class != dead {
-            hash = mix(
-                hash,
-                u64::from(edge.letter) * 0x1_0000_0000 + u64::from(class),
-            );
+            let letter = u64::from(flat.letters[place]);
+            hash = mix(hash, letter * 0x1_0000_0000 + u64::from(class));
         }
     }
     hash
-}
-
-// The hash with one more number.
-fn mix(hash: u64, number: u64) -> u64
-    ensures { result ≡ mixed hash number }
-{
-    let product = (hash ^ number).wrapping_mul(0x9E37_79B9_7F4A_7C15);
-    product ^ (product >> 32)
 }

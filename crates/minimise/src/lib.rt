@@ -28,8 +28,14 @@ mod leaders;
 /// Whether letters keep classes.
 mod stability;
 
+/// The edges of all states in one table.
+mod flat_edges;
+
 /// Hashes of states.
 mod hashing;
+
+/// Numbers of hashes.
+mod hash_numbers;
 
 /// Classes that are refined by signatures.
 mod refinement;

@@ -1,7 +1,6 @@
 //! Automata with outputs (Moore machines), and the outputs that acceptance gives.
 
-ghost use Rattle.std.specs.Prelude.{◌≡◌, ◌≢◌, ◌<◌, ◌^◌, ◌↔◌, ℕ, length, IfOk};
-ghost use Rattle.std.specs.List.{Contains};
+ghost use Rattle.std.specs.Prelude.{◌≡◌, IfOk};
 ghost use Rattle.minimise.specs.Classes.{class_of};
 ghost use Rattle.minimise.specs.Outputs.{bits_of};
 
@@ -46,18 +45,4 @@ pub fn accepting_outputs(alloc: Global, dfa: &Dfa) -> Result<Vec<u32>, OutOfMemo
         outputs.push(u32::from(dfa.accepting(state)))?;
     }
     Ok(outputs)
-}
-
-/// The states whose outputs are not 0, in order.
-pub fn states_with_output(alloc: Global, outputs: &[u32]) -> Result<Vec<u32>, OutOfMemory>
-    requires { length outputs.now < 2 ^ 32 }
-    ensures { IfOk result (λ states. (q : ℕ) → Contains states.items q ↔ (class_of outputs.now q ≢ 0)) }
-{
-    let mut states = Vec::new(alloc);
-    for place in 0..outputs.len() {
-        if outputs[place] != 0 {
-            states.push(place as u32)?;
-        }
-    }
-    Ok(states)
 }

@@ -2,80 +2,107 @@
 //! letters lead to, in time linear in the table. Where two hashes happen to be equal, states stay together that
 //! a round could part; they are never parted wrongly.
 
-ghost use Rattle.std.specs.Prelude.{◌≡◌, ◌==◌, ℕ, ◌+◌, ◌≤◌, not, count_by, length, IfOk, IfSome, IsTrue};
+ghost use Rattle.std.specs.Prelude.{◌≡◌, ◌==◌, ℕ, ◌+◌, ◌<◌, ◌≤◌, ◌^◌, count_by, length, IfOk, IsTrue};
+ghost use Rattle.std.specs.List.{All};
 ghost use Rattle.digit_tuple.specs.Deterministic.{states_of};
-ghost use Rattle.minimise.specs.CoarseClasses.{AreResidualClasses};
+ghost use Rattle.minimise.specs.CoarseClasses.{AreCoarseClasses, AreResidualClasses};
+ghost use Rattle.minimise.specs.FlatEdges.{AreFlat};
 ghost use Rattle.minimise.specs.Outputs.{HasOutputs};
 ghost use Rattle.minimise.specs.Refinement.{KeepAlike};
 
+use crate::flat_edges::FlatEdges;
+use crate::hash_numbers::HashNumbers;
 use crate::hashing::state_hash;
 use crate::machine::Machine;
 use crate::output_classes::output_classes;
 use crate::stability::is_stable;
 use digit_tuple::dfa::Dfa;
 use digit_tuple::faults::OutOfMemory;
-use indexmap::IndexSet;
 use std::alloc::Global;
 
-/// The residuals as classes, unless it takes many rounds to part all states: more than about
-/// two for each binary digit of their number, or more than eight that part a few states each.
-pub fn classes_by_rounds(alloc: Global, machine: &Machine) -> Result<Option<Vec<u32>>, OutOfMemory>
+/// The classes that rounds leave, and whether no further round parts them.
+#[derive(Drop)]
+pub struct RoundClasses {
+    pub classes: Vec<u32>,
+    pub stable: bool,
+}
+
+/// The classes after rounds. They end where none parts the classes. They also end where one more could
+/// cost too much: a round looks at each edge once, and to part what they leave by smaller parts takes
+/// one look more, and on average half the binary logarithm of the size of the largest class. All of them
+/// are to be no more than the binary digits of the number of states.
+pub fn classes_by_rounds(alloc: Global, machine: &Machine) -> Result<RoundClasses, OutOfMemory>
     requires { HasOutputs machine.now }
-    ensures { IfOk result (λ made. IfSome made (λ classes. AreResidualClasses machine.now.dfa.now machine.now.outputs.now classes.items)) }
+    ensures coarse { IfOk result (λ left. AreCoarseClasses machine.now.dfa.now machine.now.outputs.now left.classes.items) }
+    ensures stable { IfOk result (λ left. IsTrue left.stable → AreResidualClasses machine.now.dfa.now machine.now.outputs.now left.classes.items) }
 {
     let states = machine.dfa.states();
+    let flat = FlatEdges::new(alloc, machine.dfa)?;
     let mut classes = output_classes(alloc, machine.outputs)?.numbers;
-    for round in 0..2 * (32 - states.leading_zeros()) + 8 {
-        if is_stable(alloc, machine, &classes)? {
-            return Ok(Some(classes));
+    let digits = binary_digits(states);
+    for round in 0..digits {
+        if is_stable(alloc, machine, &flat, &classes)? {
+            return Ok(RoundClasses {
+                classes,
+                stable: true,
+            });
         }
-        if round == 8 && are_nearly_one(&classes) {
-            return Ok(None);
+        let largest = largest_class(alloc, &classes[..states as usize])?;
+        if 2 * (round + 2) + binary_digits(largest) > 2 * digits {
+            break;
         }
-        classes = rehashed(alloc, machine.dfa, &classes)?;
+        classes = rehashed(alloc, machine.dfa, &flat, &classes)?;
     }
-    Ok(None)
+    Ok(RoundClasses {
+        classes,
+        stable: false,
+    })
 }
 
 // The classes after a round.
-fn rehashed(alloc: Global, dfa: &Dfa, classes: &[u32]) -> Result<Vec<u32>, OutOfMemory>
-    requires { length classes.now ≡ states_of dfa.now + 1 }
+fn rehashed(
+    alloc: Global,
+    dfa: &Dfa,
+    flat: &FlatEdges,
+    classes: &[u32],
+) -> Result<Vec<u32>, OutOfMemory>
+    requires flat { AreFlat dfa.now flat.now }
+    requires width { length classes.now ≡ states_of dfa.now + 1 }
     ensures { IfOk result (λ new. KeepAlike dfa.now classes.now new.items) }
 {
-    let count = dfa.states() as usize + 1;
-    let mut hashes: IndexSet<u64> = IndexSet::new(alloc);
+    let states = dfa.states();
+    let count = states as usize + 1;
+    let mut hashes = HashNumbers::new(alloc, states)?;
     let mut numbers = Vec::with_capacity(alloc, count)?;
-    let mut edges = Vec::new(alloc);
     for place in 0..count {
-        let hash = state_hash(dfa, classes, place as u32, &mut edges)?;
-        let (number, _) = hashes.insert_full(hash)?;
-        numbers.push(number as u32)?;
+        let hash = state_hash(dfa, flat, classes, place as u32);
+        let number = hashes.number_of(hash)?;
+        numbers.push(number)?;
     }
     Ok(numbers)
 }
 
-// Whether nearly all have one class: all but 256 at most, and but one of sixteen.
-fn are_nearly_one(classes: &[u32]) -> bool
-    ensures { IsTrue result → (class : ℕ) × (count_by (λ c. not (c == class)) classes.now ≤ 256) }
+// How many binary digits a number has, none where it is 0.
+fn binary_digits(number: u32) -> u32
+    ensures { result ≤ 32 }
 {
-    let class = prevailing(classes);
-    let others = classes.iter().filter(|c| **c != class).count();
-    others <= 256 && 16 * others < classes.len()
+    32 - number.leading_zeros()
 }
 
-// A class that more than half have, if there is one (Robert Boyer and J Strother Moore, "MJRTY").
-fn prevailing(classes: &[u32]) -> u32 {
-    let mut prevailing = 0;
-    let mut lead: usize = 0;
+// How many states the largest class has.
+fn largest_class(alloc: Global, classes: &[u32]) -> Result<u32, OutOfMemory>
+    requires small { length classes.now < 2 ^ 32 }
+    requires below { All (λ class. class ≤ length classes.now) classes.now }
+    ensures { IfOk result (λ largest. (class : ℕ) → count_by (λ c. c == class) classes.now ≤ largest) }
+{
+    let mut counts = vec![in alloc; 0; classes.len() + 1]?;
+    let mut largest = 0;
     for class in classes {
-        if *class == prevailing {
-            lead += 1;
-        } else if lead == 0 {
-            prevailing = *class;
-            lead = 1;
-        } else {
-            lead -= 1;
+        let count = counts[*class as usize] + 1;
+        counts[*class as usize] = count;
+        if count > largest {
+            largest = count;
         }
     }
-    prevailing
+    Ok(largest)
 }

@@ -4,10 +4,12 @@ ghost use Rattle.std.specs.Prelude.{◌≡◌, ◌+◌, ◌↔◌, length, IfOk,
 ghost use Rattle.digit_tuple.specs.Deterministic.{IsTable, letters_of, states_of};
 ghost use Rattle.minimise.specs.Classes.{class_of};
 ghost use Rattle.minimise.specs.CoarseClasses.{AreCoarseClasses, AreResidualClasses};
+ghost use Rattle.minimise.specs.FlatEdges.{AreFlat};
 ghost use Rattle.minimise.specs.Outputs.{HasOutputs};
 ghost use Rattle.minimise.specs.Refinement.{AreAlike};
 
 use crate::class_row::ClassRow;
+use crate::flat_edges::FlatEdges;
 use crate::leaders::leaders;
 use crate::machine::Machine;
 use digit_tuple::dfa::Dfa;
@@ -16,8 +18,14 @@ use std::alloc::Global;
 
 /// Whether no round parts the classes and each has one output, so that they are the residuals: each state
 /// and the sink is compared with one of its class, up to the first that differs.
-pub fn is_stable(alloc: Global, machine: &Machine, classes: &[u32]) -> Result<bool, OutOfMemory>
+pub fn is_stable(
+    alloc: Global,
+    machine: &Machine,
+    flat: &FlatEdges,
+    classes: &[u32],
+) -> Result<bool, OutOfMemory>
     requires outputs { HasOutputs machine.now }
+    requires flat { AreFlat machine.now.dfa.now flat.now }
     requires classes { AreCoarseClasses machine.now.dfa.now machine.now.outputs.now classes.now }
     ensures { IfOk result (λ stable. IsTrue stable ↔ AreResidualClasses machine.now.dfa.now machine.now.outputs.now classes.now) }
 {
@@ -31,11 +39,44 @@ pub fn is_stable(alloc: Global, machine: &Machine, classes: &[u32]) -> Result<bo
         if machine.output(state) != machine.output(leader) {
             return Ok(false);
         }
-        if leader != state && !rows.are_alike(dfa, classes, state, leader)? {
+        if leader != state
+            && !lead_alike(dfa, flat, classes, state, leader)
+            && !rows.are_alike(dfa, classes, state, leader)?
+        {
             return Ok(false);
         }
     }
     Ok(true)
+}
+
+// Whether states of one class have edges by the same letters to the same classes, one by one, so that
+// they are alike. Where they do not, they still are if they differ by edges to the sink's class alone.
+fn lead_alike(dfa: &Dfa, flat: &FlatEdges, classes: &[u32], p: u32, q: u32) -> bool
+    requires flat { AreFlat dfa.now flat.now }
+    requires width { length classes.now ≡ states_of dfa.now + 1 }
+    requires own { class_of classes.now p ≡ class_of classes.now q }
+    ensures { IsTrue result → AreAlike dfa.now classes.now p q }
+{
+    let states = dfa.states();
+    if p >= states || q >= states {
+        return false;
+    }
+    let start = flat.starts[p as usize];
+    let other = flat.starts[q as usize];
+    let count = flat.starts[p as usize + 1] - start;
+    if flat.starts[q as usize + 1] - other != count {
+        return false;
+    }
+    for place in 0..count {
+        if flat.letters[start + place] != flat.letters[other + place] {
+            return false;
+        }
+        let class = classes[flat.targets[start + place] as usize];
+        if class != classes[flat.targets[other + place] as usize] {
+            return false;
+        }
+    }
+    true
 }
 
 // Two rows to be compared.

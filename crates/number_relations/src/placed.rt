@@ -31,8 +31,9 @@ impl Relation {
     /// and x. The tracks of the result stand in order of first occurrence of their names.
     ///
     /// Where the names are different the table is a copy of that of `dfa`, and time and memory follow its
-    /// edges; else they follow the states of `dfa` times the letters of the result. Only OutOfMemory is
-    /// answered, which comes too where 2^32 - 1 states are not enough.
+    /// edges; else they follow the states of `dfa`, the letters of the result, and the letters by which
+    /// these states lead on. Only OutOfMemory is answered, which comes too where 2^32 - 1 states are not
+    /// enough.
     pub fn placed(
         alloc: Global,
         dfa: &Dfa,

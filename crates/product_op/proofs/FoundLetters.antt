@@ -1,49 +1,33 @@
 -- The letters by whose parts edges lead on, and letters that are all there are.
-use Rattle.std.proofs.Common.{◌≡◌, ◌≢◌, ◌==◌, ◌&&◌, ℕ, ◌+◌, ◌-◌, ◌<◌, true, List, [], ◌∷◌, ◌++◌, length, get_or, nat_cmp, Option, None, Some, unwrap_or, sym, ap, ◌∙◌, subst, arith, if◌then◌else◌}
+use Rattle.std.proofs.Common.{◌≡◌, ◌≢◌, ◌==◌, ◌&&◌, ℕ, ◌+◌, ◌<◌, true, List, [], ◌∷◌, ◌++◌, length, nat_cmp, Option, None, Some, unwrap_or, sym, ap, ◌∙◌, subst, arith, if◌then◌else◌}
 use Rattle.std.specs.List.{AllPairs, Contains, dedup, flat_map, range_with_len}
 use Rattle.std.specs.List.Sorted.{IsSorted, IsPermutation}
-use Rattle.std.proofs.lemmas.Bool.Decides.{Decides-eqb}
 use Rattle.std.proofs.lemmas.List.{append-nil}
 use Rattle.std.proofs.lemmas.List.Concat.{flat_map-append}
-use Rattle.std.proofs.lemmas.List.Elements.{All-contains, All-contains_itself, All-weaker}
+use Rattle.std.proofs.lemmas.List.Elements.{All-contains_itself, All-weaker}
 use Rattle.std.proofs.lemmas.List.FromFn.{length-range_with_len, get_or-range_with_len, get_or-map-range_with_len}
 use Rattle.std.proofs.lemmas.List.Kept.{AllPairs-from_increasing, Contains-dedup_nat, Contains-from_dedup}
 use Rattle.std.proofs.lemmas.List.Sorted.{Contains-permutation, IsPermutation-sym}
 use Rattle.std.proofs.lemmas.Map.Keys.{IsStrictlyIncreasing-dedup}
 use Rattle.digit_tuple.specs.declared.edges.Edge.{Edge}
 use Rattle.digit_tuple.specs.Deterministic.{states_of, edges_of}
+use Rattle.digit_tuple.specs.PartIndex.{letters_with}
 use Rattle.digit_tuple.proofs.DfaLemmas.{target_by-none}
-use Rattle.digit_tuple.proofs.MemberLemmas.{Contains-filter, Contains-from_filter, Contains-flat_map, Contains-from_flat_map}
-use Rattle.digit_tuple.proofs.RangeLemmas.{All-range, range_more}
+use Rattle.digit_tuple.proofs.MemberLemmas.{Contains-flat_map, Contains-from_flat_map}
+use Rattle.digit_tuple.proofs.PartIndexLemmas.{Contains-letters, Contains-from_letters}
+use Rattle.digit_tuple.proofs.RangeLemmas.{All-range, Contains-range, Contains-from_range, range_more}
 use Rattle.minimise.specs.Classes.{next_of}
 use Rattle.product_op.specs.declared.rule.Rule.{Rule}
-use Rattle.product_op.specs.PartIndex.{letters_with}
 use Rattle.product_op.specs.Readings.{Reading, AreReadings, no_reading, reading_at, part_read, state_at, next_key}
 use Rattle.product_op.specs.SinkKeys.{are_sinks, refuses_all_sinks, live_key_after}
 use Rattle.product_op.specs.LeadingLetters.{letters_on, AreLeading}
 use Rattle.product_op.proofs.SinkKeyLemmas.{are_sinks-all}
 
-Contains-range : (n a : ℕ) → a < n → Contains (range_with_len 0 n) a
-Contains-range n a less = (a, omega (arith, length-range_with_len 0 n, less), omega (arith, get_or-range_with_len 0 n a a less))
-
-Contains-from_range : (n a : ℕ) → Contains (range_with_len 0 n) a → a < n
-Contains-from_range n a there = All-contains (λ p. p < n) (range_with_len 0 n) a (All-range n) there
-
--- letters that have a part
-Contains-letters : (parts : List ℕ) (part a : ℕ) → a < length parts → get_or parts a 0 ≡ part → Contains (letters_with parts part) a
-Contains-letters parts part a less same =
-    Contains-filter (λ b. get_or parts b 0 == part) (range_with_len 0 (length parts - 0)) a (Contains-range (length parts - 0) a (omega (arith, less))) ((Decides-eqb (get_or parts a 0) part).1 same)
-
-Contains-from_letters : (parts : List ℕ) (part a : ℕ) → Contains (letters_with parts part) a → a < length parts
-Contains-from_letters parts part a there =
-    let inside : a < length parts - 0 = Contains-from_range (length parts - 0) a (Contains-from_filter (λ b. get_or parts b 0 == part) (range_with_len 0 (length parts - 0)) a there).0 in
-    omega (arith, inside)
-
 module _ (r : Reading) (state : ℕ) where
   letters_on-below : (a : ℕ) → Contains (letters_on r state) a → a < length r.parts
   letters_on-below a there =
       let found = Contains-from_flat_map (λ (e : Edge). letters_with r.parts e.letter) (edges_of r.automaton state) a there in
-      Contains-from_letters r.parts found.0.letter a found.2
+      (Contains-from_letters r.parts found.0.letter a found.2).0
 
   -- another letter leads to the sink
   letters_on-missing : (a : ℕ) → a < length r.parts → ¬ Contains (letters_on r state) a → next_of r.automaton state (part_read r a) ≡ states_of r.automaton

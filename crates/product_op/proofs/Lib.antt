@@ -4,7 +4,6 @@ pub mod SizeLemmas
 pub mod ReadingLemmas
 pub mod ProductLemmas
 pub mod LanguageLemmas
-pub mod PartIndexLemmas
 pub mod SinkKeyLemmas
 pub mod LeadingLemmas
 pub mod FoundLetters

@@ -3,7 +3,7 @@ use Rattle.std.specs.Prelude.{◌≡◌, ℕ, ◌<◌, List, Option, None}
 use Rattle.std.specs.List.{All, AllPairs, Contains, flat_map}
 use Rattle.digit_tuple.specs.Deterministic.{edges_of}
 use Rattle.digit_tuple.specs.Keys.{KeyEdge}
-use Rattle.product_op.specs.PartIndex.{letters_with}
+use Rattle.digit_tuple.specs.PartIndex.{letters_with}
 use Rattle.product_op.specs.Readings.{Reading}
 
 -- the letters by whose parts an edge leads on from a state, edge by edge

@@ -6,8 +6,6 @@ pub mod OneWidth
 pub mod Readings
 pub mod ReadingLaws
 pub mod TrackReadings
-pub mod PartIndex
-pub mod PartChains
 pub mod SinkKeys
 pub mod LeadingLetters
 pub mod Tuples

@@ -9,7 +9,6 @@ ghost use Rattle.product_op.specs.Readings.{reading_in, readings_in};
 ghost use Rattle.product_op.specs.TrackReadings.{read_on, whole_reading, track_readings, AllFitTracks};
 
 use crate::numbers_below::numbers_below;
-use crate::part_index::PartIndex;
 use crate::reader::Reader;
 use digit_tuple::alphabet::Alphabet;
 use digit_tuple::dfa::Dfa;
@@ -17,6 +16,7 @@ use digit_tuple::faults::OutOfMemory;
 use digit_tuple::letter_parts::letter_parts;
 use digit_tuple::name::Name;
 use digit_tuple::names::places_in;
+use digit_tuple::part_index::PartIndex;
 use minimise::tracked::Tracked;
 use std::alloc::Global;
 use std::rc::Rc;

@@ -10,9 +10,6 @@ pub mod joint_tracks;
 /// What says whether automata that read side by side accept.
 mod rule;
 
-/// The parts of letters, and the letters of each part.
-pub mod part_index;
-
 /// Automata that read parts of letters.
 pub mod reader;
 

@@ -6,10 +6,10 @@ ghost use Rattle.minimise.specs.Classes.{next_of, first_of};
 ghost use Rattle.product_op.specs.Readings.{reading_in};
 ghost use Rattle.product_op.specs.LeadingLetters.{letters_on};
 
-use crate::part_index::PartIndex;
 use digit_tuple::dfa::Dfa;
 use digit_tuple::edges::Edge;
 use digit_tuple::faults::OutOfMemory;
+use digit_tuple::part_index::PartIndex;
 use minimise::sink::{first_state, is_accepting, next_state};
 
 /// An automaton, and the part of each letter that it reads. The number past its states is its sink,

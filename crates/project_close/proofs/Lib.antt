@@ -13,6 +13,7 @@ pub mod ZeroEdges
 pub mod ValueWidths
 pub mod FoundEnds
 pub mod StayingZeros
+pub mod PartEdgeLemmas
 pub mod PartReadingLemmas
 pub mod FewerLemmas
 pub mod SubstitutionLemmas

@@ -14,6 +14,9 @@ pub mod zero_closure;
 /// Automata read on some of their tracks.
 pub mod image;
 
+/// The sets of states that an image leads to, made canonical.
+mod canonical_sets;
+
 /// Projections of automata to all tracks but one.
 pub mod projection;
 

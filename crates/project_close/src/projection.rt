@@ -14,10 +14,10 @@ ghost use Rattle.minimise.specs.Tracked.{IsTracked};
 ghost use Rattle.project_close.specs.Projection.{InProjection, ProjectionAlike};
 ghost use Rattle.project_close.specs.StayingTracks.{staying_places, staying_sizes};
 
+use crate::canonical_sets::canonical_sets;
 use crate::emptiness::accepts_nothing;
 use crate::image::reading_on;
 use crate::track_sizes::sizes_at;
-use determinise::subsets::Subsets;
 use digit_tuple::alphabet::Alphabet;
 use digit_tuple::dfa::Dfa;
 use digit_tuple::direction::Direction;
@@ -26,7 +26,6 @@ use digit_tuple::name::Name;
 use digit_tuple::names::{names_without, places_in};
 use digit_tuple::no_words::no_words_within;
 use digit_tuple::stepped::Stepped;
-use minimise::canonical_exploration::explore_canonical;
 use minimise::tracked::Tracked;
 use std::alloc::Global;
 
@@ -167,9 +166,5 @@ fn live_projection(
     ensures letters { ¬ IsErrOf result OpFault.Letters }
 {
     let reading = reading_on(alloc, d, places, &alphabet, direction)?;
-    let subsets = Subsets {
-        nfa: &reading.image,
-        first: &reading.first,
-    };
-    explore_canonical(alloc, &subsets, alphabet, limit)
+    canonical_sets(alloc, reading, alphabet, limit)
 }

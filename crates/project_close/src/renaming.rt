@@ -19,8 +19,8 @@ use std::alloc::Global;
 /// two the same. The result is canonical; its tracks stand in byte order of the new names, and it
 /// accepts a word exactly where `a` accepts the word that has, on each track, the digits of the track of
 /// its new name. Where the new names stand in byte order already its table is a copy of that of `a`, and
-/// time and memory follow its edges; else they follow the states of `a` times the letters, and
-/// OutOfMemory comes too where 2^32 - 1 states are not enough.
+/// time and memory follow its edges; else they follow its states, edges and letters, and OutOfMemory
+/// comes too where 2^32 - 1 states are not enough.
 pub fn rename(alloc: Global, a: &Tracked, names: &[Name]) -> Result<Tracked, OutOfMemory>
     requires count { length names.now ≡ length a.now.names }
     requires distinct { AreDistinct names.now }

@@ -19,7 +19,7 @@ use std::alloc::Global;
 /// tracks. They are two of its tracks, and have one number of digits (`are_two_tracks`). The result is
 /// canonical; its tracks stand as in `a`, and it accepts a word exactly where `a` accepts the one word
 /// with equal tracks that this is without the dropped track. OutOfMemory comes too where 2^32 - 1 states
-/// are not enough. Time and memory follow the states of `a` times the letters.
+/// are not enough. Time and memory follow the states, edges and letters of `a`.
 pub fn restrict(
     alloc: Global,
     a: &Tracked,

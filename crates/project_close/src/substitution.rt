@@ -22,7 +22,8 @@ use std::alloc::Global;
 /// names once, in any order. `under` may name several tracks alike, if they have one size: then the
 /// result has one track of that name, and its digits are read on each of them, as where a relation of
 /// two arguments is asked of x and x. Only OutOfMemory is answered, which comes too where 2^32 - 1
-/// states are not enough. Time and memory follow the states of `dfa` times the letters of the result.
+/// states are not enough. Time and memory follow the states of `dfa`, the letters of the result, and the
+/// letters by which these states lead on.
 pub fn substitute(
     alloc: Global,
     dfa: &Dfa,

@@ -16,15 +16,15 @@ use Rattle.digit_tuple.proofs.PaddingLemmas.{IsWord-reverse}
 use Rattle.determinise.proofs.ReversalLemmas.{key_accepts-reversed, SameReversedResidual-lead, LeadAlike-residual, IsStateSet-accepting, accepts_of-none, nil_of_length}
 use Rattle.determinise.proofs.reversal.reverse.Goals as goal
 
-pub explore-requires : goal.explore-requires
-explore-requires c =
+pub explore_subsets-requires : goal.explore_subsets-requires
+explore_subsets-requires c =
     let t = c.in_ok-reachable.reachable in
     let n = c.in_ok-nfa.nfa in
     let turned = c.in_ok-nfa.ensures.reversal in
     let more : vec_len c.in_ok-first.first ≢ 0 = eqb-false (vec_len c.in_ok-first.first) 0 (sym c.is_empty.ensures ∙ c.if-is_empty.false) in
     let some : 0 < length c.deref.result.now = omega (arith, more, c.in_ok-first.first.ok, c.deref.ensures.len) in
     record {
-      graph = (c.in_ok-nfa.ensures.table, IsStateSet-accepting t n turned c.deref.result.now (subst (AreAccepting t) (sym c.deref.ensures.value) c.in_ok-first.ensures) some);
+      first = IsStateSet-accepting t n turned c.deref.result.now (subst (AreAccepting t) (sym c.deref.ensures.value) c.in_ok-first.ensures) some;
       letters = ap product (turned.sizes ∙ c.in_ok-reachable.ensures.sizes ∙ sym (c.in_ok-alphabet.ensures ∙ c.alphabet.ensures.sizes));
     }
 
@@ -36,11 +36,11 @@ returns-clause-language c =
     let turned = c.in_ok-nfa.ensures.reversal in
     let letters : letters_of d ≡ branching.letters_of n = ap product (sym (turned.sizes ∙ c.in_ok-reachable.ensures.sizes)) in
     let accepting : AreAccepting t c.deref.result.now = subst (AreAccepting t) (sym c.deref.ensures.value) c.in_ok-first.ensures in
-    IfOk-weaker c.explore.result _ _
+    IfOk-weaker c.explore_subsets.result _ _
     (λ stepped same word over. same word (subst (λ l. IsWord l word) letters over)
     ∙ key_accepts-reversed t c.in_ok-reachable.ensures.table n turned c.deref.result.now accepting c.in_ok-nfa.ensures.table word
     ∙ c.in_ok-reachable.ensures.language (reverse word) (IsWord-reverse (letters_of d) word over))
-    c.explore.ensures.language
+    c.explore_subsets.ensures.language
 
 pub returns-clause-width : goal.returns-clause-width
 returns-clause-width c =
@@ -54,13 +54,13 @@ returns-clause-width c =
     let numbered = c.in_ok-reachable.ensures.numbered in
     let more : vec_len c.in_ok-first.first ≢ 0 = eqb-false (vec_len c.in_ok-first.first) 0 (sym c.is_empty.ensures ∙ c.if-is_empty.false) in
     let some : 0 < length c.deref.result.now = omega (arith, more, c.in_ok-first.first.ok, c.deref.ensures.len) in
-    IfOk-weaker c.explore.result _ _
+    IfOk-weaker c.explore_subsets.result _ _
     (λ stepped width. HasWidth-same (LeadAlike (set_after n) first) (SameReversedResidual d) (letters_of d) stepped.width
     (SameReversedResidual-lead t c.in_ok-reachable.ensures.table n turned first accepting c.in_ok-nfa.ensures.table d c.in_ok-reachable.ensures.sizes c.in_ok-reachable.ensures.language)
     (LeadAlike-residual t c.in_ok-reachable.ensures.table n turned first accepting c.in_ok-nfa.ensures.table d c.in_ok-reachable.ensures.sizes c.in_ok-reachable.ensures.language numbered.0 numbered.1
     (IsStateSet-accepting t n turned first accepting some))
     (subst (λ l. HasWidth (LeadAlike (set_after n) first) l stepped.width) (sym letters) width))
-    c.explore.ensures.width
+    c.explore_subsets.ensures.width
 
 pub returns-clause-states : goal.returns-clause-states
 returns-clause-states c h =
@@ -77,7 +77,7 @@ returns-clause-states c h =
     HasApart-same (LeadAlike (set_after n) first) (SameReversedResidual d) (letters_of d) (c.args.limit + 1)
     (LeadAlike-residual t c.in_ok-reachable.ensures.table n turned first accepting c.in_ok-nfa.ensures.table d c.in_ok-reachable.ensures.sizes c.in_ok-reachable.ensures.language numbered.0 numbered.1
     (IsStateSet-accepting t n turned first accepting some))
-    (subst (λ l. HasApart (LeadAlike (set_after n) first) l (c.args.limit + 1)) (sym letters) (c.explore.ensures.states h))
+    (subst (λ l. HasApart (LeadAlike (set_after n) first) l (c.args.limit + 1)) (sym letters) (c.explore_subsets.ensures.states h))
 
 pub returns-then-is_empty-clause-language : goal.returns-then-is_empty-clause-language
 returns-then-is_empty-clause-language c =

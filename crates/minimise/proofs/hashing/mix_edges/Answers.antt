@@ -1,19 +1,60 @@
-use Rattle.std.proofs.Common.{◌+◌, ◌*◌, ◌^◌, ◌∙◌, get_or, ap, arith}
+use Rattle.std.proofs.Common.{◌≡◌, ◌+◌, ◌-◌, ◌*◌, ◌^◌, ◌≤◌, get_or, length, take, sym, ap, ◌∙◌, arith}
+use Rattle.std.proofs.lemmas.List.{get_or_default, take_all}
 use Rattle.digit_tuple.specs.declared.edges.Edge.{Edge}
-use Rattle.minimise.specs.Hashes.{mixed}
+use Rattle.digit_tuple.specs.Deterministic.{edges_of}
+use Rattle.digit_tuple.specs.KeyHashes.{mixed}
+use Rattle.minimise.specs.Classes.{class_of, dead_class}
+use Rattle.minimise.specs.Signatures.{class_edges}
+use Rattle.minimise.specs.Hashes.{hash_edges}
+use Rattle.minimise.proofs.FlatEdgeLemmas.{HasPlace-read, start_read}
 use Rattle.minimise.proofs.HashLemmas.{hash_edges-dead, hash_edges-live}
 use Rattle.minimise.proofs.hashing.mix_edges.Goals as goal
 use Rattle.minimise.proofs.hashing.mix_edges.Goals.{then-class-dead, else-class-dead}
 
-pub loop-edge-preserved : goal.loop-edge-preserved
-loop-edge-preserved c =
+pub bounds-classes-index : goal.bounds-classes-index
+bounds-classes-index c =
+    let flat = c.args.flat.now in
+    let place = c.loop-place.place in
+    let there = HasPlace-read c.args.dfa.now flat.starts.items flat.letters.items flat.targets.items c.requires.flat c.states.ensures.table c.args.state place c.index-place.result.now c.index-place-end.result.now c.requires.state
+    c.index-place.ensures c.index-place-end.ensures c.loop-place.auto.place c.loop-place-test.true in
+    omega (arith, c.index.ensures ∙ get_or_default flat.targets.items place c.index.result.now 0 there.within, there.target, c.requires.width)
+
+pub loop-place-preserved : goal.loop-place-preserved
+loop-place-preserved c =
+    let d = c.args.dfa.now in
+    let flat = c.args.flat.now in
     let classes = c.args.classes.now in
-    let es = c.args.edges.now in
-    let place = c.loop-edge.edge-index in
-    let before = c.loop-edge.hash in
+    let q = c.args.state in
+    let place = c.loop-place.place in
+    let first = start_read d flat.starts.items flat.letters.items flat.targets.items c.requires.flat c.states.ensures.table q c.index-place.result.now (omega (arith, c.requires.state)) c.index-place.ensures in
+    let there = HasPlace-read d flat.starts.items flat.letters.items flat.targets.items c.requires.flat c.states.ensures.table q place c.index-place.result.now c.index-place-end.result.now c.requires.state
+    c.index-place.ensures c.index-place-end.ensures c.loop-place.auto.place c.loop-place-test.true in
+    let es = edges_of d q in
+    let k = place - class_of flat.starts.items q in
     let z : Edge = record { letter = 0; target = 0 } in
+    let before = c.loop-place.hash in
+    let dead = dead_class d classes in
+    let read : c.index.result.now ≡ class_of flat.targets.items place = c.index.ensures ∙ get_or_default flat.targets.items place c.index.result.now 0 there.within in
+    let target : c.index.result.now ≡ (get_or es k z).target = read ∙ sym (ap (λ (e : Edge). e.target) (there.edge z)) in
+    let own : class_of classes c.index.result.now ≡ class_of classes (get_or es k z).target = ap (class_of classes) target in
+    let none : class_of classes c.states.result ≡ dead = ap (class_of classes) c.states.ensures.value in
+    let next : k + 1 ≡ place + 1 - class_of flat.starts.items q = omega (arith, c.loop-place.auto.place, first) in
     elim c.if-class-dead.branch [
-      | then-class-dead w ↦ w.hash-is ∙ w.mix-hash.ensures ∙ ap (λ n. mixed before (n * 2 ^ 32 + w.from-then-class-dead.result)) w.from.ensures ∙ ap (λ n. mixed before ((get_or es place z).letter * 2 ^ 32 + n)) w.from-then-class-dead.ensures
-          ∙ hash_edges-live classes c.args.dead c.args.start es place z (omega arith) before c.loop-edge.invariant w.if-class-dead.true
-      | else-class-dead w ↦ w.hash-is ∙ hash_edges-dead classes c.args.dead c.args.start es place z (omega arith) before c.loop-edge.invariant w.if-class-dead.false
+      | then-class-dead w ↦
+          let letter : w.index-then-class-dead.result.now ≡ (get_or es k z).letter =
+          w.index-then-class-dead.ensures ∙ get_or_default flat.letters.items place w.index-then-class-dead.result.now 0 (omega (arith, there.within, c.requires.flat.same)) ∙ sym (ap (λ (e : Edge). e.letter) (there.edge z)) in
+          w.hash-is ∙ w.mix-hash.ensures ∙ ap (λ n. mixed before (n * 2 ^ 32 + w.from.result)) (w.from-letter.ensures ∙ letter) ∙ ap (λ n. mixed before ((get_or es k z).letter * 2 ^ 32 + n)) (w.from.ensures ∙ own)
+          ∙ hash_edges-live classes dead c.args.start es k z there.inside before c.loop-place.invariant (λ is. w.if-class-dead.true (own ∙ is ∙ sym none))
+          ∙ ap (λ n. hash_edges c.args.start (class_edges classes dead (take n es))) next
+      | else-class-dead w ↦ w.hash-is ∙ hash_edges-dead classes dead c.args.start es k z there.inside before c.loop-place.invariant (sym own ∙ w.if-class-dead.false ∙ none)
+          ∙ ap (λ n. hash_edges c.args.start (class_edges classes dead (take n es))) next
     ]
+
+pub returns : goal.returns
+returns c =
+    let d = c.args.dfa.now in
+    let flat = c.args.flat.now in
+    let q = c.args.state in
+    let last = start_read d flat.starts.items flat.letters.items flat.targets.items c.requires.flat c.states.ensures.table (q + 1) c.index-place-end.result.now (omega (arith, c.requires.state)) c.index-place-end.ensures in
+    let all : length (edges_of d q) ≤ c.loop-place.place - class_of flat.starts.items q = omega (arith, c.loop-place-test.false, c.requires.flat.ends q c.requires.state, last) in
+    c.loop-place.invariant ∙ ap (λ es. hash_edges c.args.start (class_edges c.args.classes.now (dead_class d c.args.classes.now) es)) (take_all (c.loop-place.place - class_of flat.starts.items q) (edges_of d q) all)

@@ -1,8 +1,8 @@
 use Rattle.std.proofs.Common.{◌≡◌, ℕ, ◌+◌, List, [], ◌∷◌, map, sym, ap, ◌∙◌, subst, arith}
 use Rattle.std.proofs.lemmas.Bool.Decides.{Decides-eqb, Decides-like}
 use Rattle.std.proofs.lemmas.List.{length-map}
-use Rattle.digit_tuple.proofs.NumberingLemmas.{IsNumbered-inserted}
 use Rattle.minimise.specs.Classes.{class_of}
+use Rattle.minimise.proofs.InsertedLemmas.{IsNumbered-inserted}
 use Rattle.minimise.proofs.NumberedLemmas.{AreNumberedBy, AreNumberedBy-more}
 use Rattle.minimise.proofs.OutputLemmas.{AreOutputClasses-numbered}
 use Rattle.minimise.proofs.output_classes.output_classes.Goals as goal

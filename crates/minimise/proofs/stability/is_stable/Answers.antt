@@ -9,7 +9,7 @@ use Rattle.minimise.specs.Refinement.{AreAlike}
 use Rattle.minimise.proofs.StabilityLemmas.{AreAlike-refl, IsStable-led, TellOutputs-led}
 use Rattle.minimise.proofs.ResidualLemmas.{AreAlike-residuals, AreResidualClasses-stable}
 use Rattle.minimise.proofs.stability.is_stable.Goals as goal
-use Rattle.minimise.proofs.stability.is_stable.Goals.{else-leader-state-via-then-leader-state+in_ok-are_alike+else-not-branch, else-leader-state-via-else-leader-state}
+use Rattle.minimise.proofs.stability.is_stable.Goals.{else-leader-state-via-then-leader-state+then-not-lead_alike+in_ok-are_alike+else-not-branch, else-leader-state-via-then-leader-state+else-not-lead_alike, else-leader-state-via-else-leader-state}
 
 -- the leader that is read is that of the state's class
 leader_is : (d : Automaton) (outputs classes leaders : List ℕ) (place leader : ℕ) → AreCoarseClasses d outputs classes → AreLeaders classes leaders (states_of d + 1) → place < states_of d + 1 → leader ≡ get_or leaders (class_of classes place) leader → class_of leaders (class_of classes place) ≡ leader
@@ -26,7 +26,8 @@ loop-place-preserved c =
     let count : c.states.result + 1 ≡ states_of d + 1 = omega arith in
     let is = leader_is d outputs classes c.in_ok-leaders.leaders.items place c.index-leader.result.now c.requires.classes (subst (AreLeaders classes c.in_ok-leaders.leaders.items) count c.in_ok-leaders.ensures) (omega arith) c.index-leader.ensures in
     let here : AreAlike d classes place c.index-leader.result.now = elim c.else-leader-state.branch [
-      | else-leader-state-via-then-leader-state+in_ok-are_alike+else-not-branch w ↦ w.in_ok-are_alike.ensures.0 w.if-not-branch.false
+      | else-leader-state-via-then-leader-state+then-not-lead_alike+in_ok-are_alike+else-not-branch w ↦ w.in_ok-are_alike.ensures.0 w.if-not-branch.false
+      | else-leader-state-via-then-leader-state+else-not-lead_alike w ↦ w.lead_alike.ensures w.if-not-lead_alike.false
       | else-leader-state-via-else-leader-state w ↦ subst (AreAlike d classes place) (sym w.if-leader-state.false) (AreAlike-refl d classes place)
     ] in
     let told : class_of outputs place ≡ class_of outputs c.index-leader.result.now = sym c.output.ensures ∙ c.if-output.false ∙ c.output-in-loop-place.ensures in

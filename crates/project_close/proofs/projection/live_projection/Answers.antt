@@ -5,14 +5,14 @@ use Rattle.project_close.specs.Image.{ReadsProjection}
 use Rattle.project_close.proofs.ProjectionLemmas.{reads_apart, reads_language, reads_letters, reads_graph, reads_width}
 use Rattle.project_close.proofs.projection.live_projection.Goals as goal
 
-pub explore_canonical-requires-clause-graph : goal.explore_canonical-requires-clause-graph
-explore_canonical-requires-clause-graph c =
+pub canonical_sets-requires-clause-first : goal.canonical_sets-requires-clause-first
+canonical_sets-requires-clause-first c =
     let d = c.args.d.now in
     let n = c.in_ok-reading.reading.image in
-    reads_graph d c.args.places.now c.args.direction n c.deref.result.now (subst (ReadsProjection d c.args.places.now c.args.direction n) (sym c.deref.ensures.value) c.in_ok-reading.ensures)
+    (reads_graph d c.args.places.now c.args.direction n c.in_ok-reading.reading.first.items c.in_ok-reading.ensures).1
 
-pub explore_canonical-requires-clause-letters : goal.explore_canonical-requires-clause-letters
-explore_canonical-requires-clause-letters c =
+pub canonical_sets-requires-clause-letters : goal.canonical_sets-requires-clause-letters
+canonical_sets-requires-clause-letters c =
     let d = c.args.d.now in
     let n = c.in_ok-reading.reading.image in
     sym (reads_letters d c.args.places.now c.args.direction n c.in_ok-reading.reading.first.items c.in_ok-reading.ensures c.args.alphabet c.requires.alphabet)
@@ -23,13 +23,13 @@ returns-clause-language c =
     let places = c.args.places.now in
     let way = c.args.direction in
     let n = c.in_ok-reading.reading.image in
-    let first = c.deref.result.now in
-    let reads = subst (ReadsProjection d places way n) (sym c.deref.ensures.value) c.in_ok-reading.ensures in
-    IfOk-weaker c.explore_canonical.result _ _
+    let first = c.in_ok-reading.reading.first.items in
+    let reads = c.in_ok-reading.ensures in
+    IfOk-weaker c.canonical_sets.result _ _
     (λ stepped same w over.
     let one = reads_language d places way n first reads w in
     ((λ is. one.0 (sym (same w over) ∙ is)), (λ there. same w over ∙ one.1 there)))
-    c.explore_canonical.ensures.language
+    c.canonical_sets.ensures.language
 
 pub returns-clause-width : goal.returns-clause-width
 returns-clause-width c =
@@ -37,11 +37,11 @@ returns-clause-width c =
     let places = c.args.places.now in
     let way = c.args.direction in
     let n = c.in_ok-reading.reading.image in
-    let first = c.deref.result.now in
-    let reads = subst (ReadsProjection d places way n) (sym c.deref.ensures.value) c.in_ok-reading.ensures in
-    IfOk-weaker c.explore_canonical.result _ _
+    let first = c.in_ok-reading.reading.first.items in
+    let reads = c.in_ok-reading.ensures in
+    IfOk-weaker c.canonical_sets.result _ _
     (λ stepped width. reads_width d places way n first reads c.requires.canonical c.requires.live (product c.args.alphabet) (reads_letters d places way n first reads c.args.alphabet c.requires.alphabet) stepped.width width)
-    c.explore_canonical.ensures.width
+    c.canonical_sets.ensures.width
 
 pub returns-clause-states : goal.returns-clause-states
 returns-clause-states c refused =
@@ -49,6 +49,6 @@ returns-clause-states c refused =
     let places = c.args.places.now in
     let way = c.args.direction in
     let n = c.in_ok-reading.reading.image in
-    let first = c.deref.result.now in
-    let reads = subst (ReadsProjection d places way n) (sym c.deref.ensures.value) c.in_ok-reading.ensures in
-    reads_apart d places way n first reads c.requires.canonical c.requires.live (product c.args.alphabet) (reads_letters d places way n first reads c.args.alphabet c.requires.alphabet) (c.args.limit + 1) (c.explore_canonical.ensures.states refused)
+    let first = c.in_ok-reading.reading.first.items in
+    let reads = c.in_ok-reading.ensures in
+    reads_apart d places way n first reads c.requires.canonical c.requires.live (product c.args.alphabet) (reads_letters d places way n first reads c.args.alphabet c.requires.alphabet) (c.args.limit + 1) (c.canonical_sets.ensures.states refused)

@@ -11,9 +11,9 @@ smaller-requires c k z inside =
     let d = c.args.machine.now.dfa.now in
     let p = c.args.self.now in
     let within : c.args.class < length (lists_in p.members.items) = omega (arith, c.requires.class, length-map p.members.items (λ (v : Vec ℕ Global). v.items)) in
-    let is : list_at (lists_in p.members.items) c.args.class ≡ c.deref-2.result.now = list_at-item p.members.items c.args.class c.index-members.result.now c.requires.class c.index-members.ensures ∙ sym c.deref-2.ensures.value in
+    let is : list_at (lists_in p.members.items) c.args.class ≡ c.deref-3.result.now = list_at-item p.members.items c.args.class c.index-members.result.now c.requires.class c.index-members.ensures ∙ sym c.deref-3.ensures.value in
     let states = subst (All (λ q. q < states_of d)) is (c.requires.partition.inside c.args.class [] within) in
-    omega (arith, states k z inside, c.give.ensures.width, c.requires.partition.width, ap length c.deref.ensures.value)
+    omega (arith, states k z inside, c.give.ensures.width, c.requires.partition.width, ap length c.deref-2.ensures.value)
 
 pub returns-clause-partition : goal.returns-clause-partition
 returns-clause-partition c =
@@ -25,11 +25,11 @@ returns-clause-partition c =
     let pending = lists_in p.pending.items in
     let new = c.give.new.classes.items in
     let within : c.args.class < length members = omega (arith, c.requires.class, length-map p.members.items (λ (v : Vec ℕ Global). v.items)) in
-    let is : c.deref-2.result.now ≡ list_at members c.args.class = c.deref-2.ensures.value ∙ sym (list_at-item p.members.items c.args.class c.index-members.result.now c.requires.class c.index-members.ensures) in
+    let is : c.deref-3.result.now ≡ list_at members c.args.class = c.deref-3.ensures.value ∙ sym (list_at-item p.members.items c.args.class c.index-members.result.now c.requires.class c.index-members.ensures) in
     let count : c.len-count.result ≡ length members = omega (arith, c.len-count.ensures, p.members.ok, length-map p.members.items (λ (v : Vec ℕ Global). v.items)) in
     let one : IsOneOf c.in_ok-set.set.items states c.args.class (states_with new (list_at members c.args.class) c.args.class) =
     subst (λ (left : List ℕ). IsOneOf c.in_ok-set.set.items states c.args.class (states_with new left c.args.class)) is
-    (subst (λ (classes : List ℕ). IsOneOf c.in_ok-set.set.items states c.args.class (states_with classes c.deref-2.result.now c.args.class)) c.deref.ensures.value c.in_ok-set.ensures) in
+    (subst (λ (classes : List ℕ). IsOneOf c.in_ok-set.set.items states c.args.class (states_with classes c.deref-3.result.now c.args.class)) c.deref-2.ensures.value c.in_ok-set.ensures) in
     let sized : length c.push.new.self.items ≡ length p.sizes.items + 1 = omega (arith, simp (length_push, length-set) at (ap length c.in_ok-push.ensures.items)) in
     let next : IsUnion d outputs c.in_ok-set.set.items = IsUnion-one_of d outputs p.classes.items new states c.len-count.result c.requires.states c.give.ensures p.sizes.items members pending c.requires.partition count c.args.class c.in_ok-set.set.items within one in
     let done = AreParted-split d outputs p.classes.items new states c.len-count.result c.requires.states c.give.ensures p.sizes.items members pending c.requires.partition count c.push.new.self.items c.in_ok-set.set.items sized (omega arith) next in

@@ -1,7 +1,7 @@
 use Rattle.std.proofs.Common.{◌≡◌, ◌++◌, take}
 use Rattle.std.specs.List.{flat_map}
 use Rattle.digit_tuple.specs.declared.edges.Edge.{Edge}
-use Rattle.product_op.specs.PartIndex.{letters_with}
+use Rattle.digit_tuple.specs.PartIndex.{letters_with}
 use Rattle.product_op.proofs.reader.Reader.add_letters.Given as goal
 
 abbrev pub invariant-loop-edge : goal.invariant-loop-edge

@@ -1,0 +1,125 @@
+-- Lists that stand one behind another in one list of numbers.
+use Rattle.std.proofs.Common.{◌≡◌, ℕ, zero, suc, ◌+◌, ◌-◌, ◌<◌, ◌≤◌, List, [], ◌∷◌, ◌++◌, take, drop, length, get_or, refl, sym, ap, ◌∙◌, length-append, length-drop, length-take, arith, Some}
+use Rattle.std.specs.List.{slice_range, slice_get, sum_by}
+use Rattle.std.proofs.lemmas.List.{drop-append-le, take_all}
+use Rattle.std.proofs.lemmas.List.Sums.{sum_by-cons}
+use Rattle.digit_tuple.specs.NumberLists.{first_place, lists_at, AreAscendingPlaces, AreStarts, extended, last_of, last_number}
+use Rattle.digit_tuple.proofs.KeySpanLemmas.{slice_range-append}
+
+pub length-lists_at : (starts numbers : List ℕ) → length (lists_at starts numbers) ≡ length starts
+length-lists_at [] numbers = refl
+length-lists_at (s ∷ ss) numbers = ap suc (length-lists_at ss numbers)
+
+first_place-push : (starts : List ℕ) (end : ℕ) → first_place (starts ++ end ∷ []) end ≡ first_place starts end
+first_place-push [] end = refl
+first_place-push (s ∷ ss) end = refl
+
+-- the first place is at most the end
+first_place-le : (starts : List ℕ) (end : ℕ) → AreAscendingPlaces starts end → first_place starts end ≤ end
+first_place-le [] end are = omega arith
+first_place-le (s ∷ ss) end are = let more = first_place-le ss end are.1 in omega (arith, more, are.0)
+
+-- a list that begins at the end is empty
+pub lists_at-push : (starts numbers : List ℕ) (end : ℕ) → end ≡ length numbers → lists_at (starts ++ end ∷ []) numbers ≡ lists_at starts numbers ++ [] ∷ []
+lists_at-push [] numbers end is =
+    let none : length numbers - end ≡ 0 = omega arith in
+    ap (λ n. take n (drop end numbers) ∷ []) none
+lists_at-push (s ∷ ss) numbers end is =
+    let same : first_place (ss ++ end ∷ []) (length numbers) ≡ first_place ss (length numbers) = ap (first_place (ss ++ end ∷ [])) (sym is) ∙ first_place-push ss end ∙ ap (first_place ss) is in
+    ap (λ n. slice_range numbers s n ∷ lists_at (ss ++ end ∷ []) numbers) same ∙ ap (λ ls. slice_range numbers s (first_place ss (length numbers)) ∷ ls) (lists_at-push ss numbers end is)
+
+pub AreAscendingPlaces-push : (starts : List ℕ) (end : ℕ) → AreAscendingPlaces starts end → AreAscendingPlaces (starts ++ end ∷ []) end
+AreAscendingPlaces-push [] end are = (omega arith, tt)
+AreAscendingPlaces-push (s ∷ ss) end are = (omega (arith, are.0, first_place-push ss end), AreAscendingPlaces-push ss end are.1)
+
+pub AreStarts-push : (starts : List ℕ) (end place : ℕ) → place ≡ end → AreStarts starts end → AreStarts (starts ++ place ∷ []) end
+AreStarts-push starts end place is are = rw is (record { first = first_place-push starts end ∙ are.first; ascending = AreAscendingPlaces-push starts end are.ascending })
+
+-- a number at the end is one more of the last list
+slice_range-more : (numbers : List ℕ) (s n : ℕ) → s ≤ length numbers → slice_range (numbers ++ n ∷ []) s (length (numbers ++ n ∷ [])) ≡ slice_range numbers s (length numbers) ++ n ∷ []
+slice_range-more numbers s n within =
+    let few : length (drop s numbers ++ n ∷ []) ≤ length (numbers ++ n ∷ []) - s = omega (arith, length-append (drop s numbers) (n ∷ []), length-append numbers (n ∷ []), length-drop s numbers) in
+    let all : length (drop s numbers) ≤ length numbers - s = omega (arith, length-drop s numbers) in
+    ap (take (length (numbers ++ n ∷ []) - s)) (drop-append-le s numbers (n ∷ []) within)
+    ∙ take_all (length (numbers ++ n ∷ []) - s) (drop s numbers ++ n ∷ []) few
+    ∙ ap (λ ns. ns ++ n ∷ []) (sym (take_all (length numbers - s) (drop s numbers) all))
+
+pub lists_at-add : (starts numbers : List ℕ) (n : ℕ) → AreAscendingPlaces starts (length numbers) → lists_at starts (numbers ++ n ∷ []) ≡ extended (lists_at starts numbers) (n ∷ [])
+lists_at-add [] numbers n are = refl
+lists_at-add (s ∷ []) numbers n are = ap (λ ns. ns ∷ []) (slice_range-more numbers s n are.0)
+lists_at-add (s ∷ (t ∷ ts)) numbers n are =
+    let within = first_place-le (t ∷ ts) (length numbers) are.1 in
+    ap (λ ns. ns ∷ lists_at (t ∷ ts) (numbers ++ n ∷ [])) (slice_range-append numbers (n ∷ []) s t are.0 within)
+    ∙ ap (λ ls. slice_range numbers s t ∷ ls) (lists_at-add (t ∷ ts) numbers n are.1)
+
+first_place-more : (starts : List ℕ) (end more : ℕ) → 0 < length starts → first_place starts more ≡ first_place starts end
+first_place-more [] end more some = absurd (omega arith)
+first_place-more (s ∷ ss) end more some = refl
+
+AreAscendingPlaces-more : (starts : List ℕ) (end more : ℕ) → end ≤ more → AreAscendingPlaces starts end → AreAscendingPlaces starts more
+AreAscendingPlaces-more [] end more le are = tt
+AreAscendingPlaces-more (s ∷ []) end more le are = (omega (arith, le, are.0), tt)
+AreAscendingPlaces-more (s ∷ (t ∷ ts)) end more le are = (are.0, AreAscendingPlaces-more (t ∷ ts) end more le are.1)
+
+pub AreStarts-more : (starts : List ℕ) (end more : ℕ) → 0 < length starts → end ≤ more → AreStarts starts end → AreStarts starts more
+AreStarts-more starts end more some le are = record { first = first_place-more starts end more some ∙ are.first; ascending = AreAscendingPlaces-more starts end more le are.ascending }
+
+-- the list at a place
+pub lists_at-read : (starts numbers : List ℕ) (q d : ℕ) → q < length starts → get_or (lists_at starts numbers) q [] ≡ slice_range numbers (get_or starts q d) (first_place (drop (suc q) starts) (length numbers))
+lists_at-read [] numbers q d within = absurd (omega arith)
+lists_at-read (s ∷ ss) numbers zero d within = refl
+lists_at-read (s ∷ ss) numbers (suc q) d within = lists_at-read ss numbers q d (omega arith)
+
+length-slice_range : (numbers : List ℕ) (i j : ℕ) → i ≤ j → j ≤ length numbers → i + length (slice_range numbers i j) ≡ j
+length-slice_range numbers i j le within = omega (arith, length-take (j - i) (drop i numbers), length-drop i numbers)
+
+-- where a list begins: behind all numbers of those before it
+pub lists_at-start : (starts numbers : List ℕ) (q d : ℕ) → AreAscendingPlaces starts (length numbers) → q < length starts → first_place starts (length numbers) + sum_by length (take q (lists_at starts numbers)) ≡ get_or starts q d
+lists_at-start [] numbers q d are within = absurd (omega arith)
+lists_at-start (s ∷ ss) numbers zero d are within = omega arith
+lists_at-start (s ∷ ss) numbers (suc q) d are within =
+    let rest = lists_at-start ss numbers q d are.1 (omega arith) in
+    let here = length-slice_range numbers s (first_place ss (length numbers)) are.0 (first_place-le ss (length numbers) are.1) in
+    omega (arith, rest, here, sum_by-cons length (slice_range numbers s (first_place ss (length numbers))) (take q (lists_at ss numbers)))
+
+-- the lists have all numbers from the first place on
+pub lists_at-total : (starts numbers : List ℕ) → AreAscendingPlaces starts (length numbers) → first_place starts (length numbers) + sum_by length (lists_at starts numbers) ≡ length numbers
+lists_at-total [] numbers are = omega arith
+lists_at-total (s ∷ ss) numbers are =
+    let rest = lists_at-total ss numbers are.1 in
+    let here = length-slice_range numbers s (first_place ss (length numbers)) are.0 (first_place-le ss (length numbers) are.1) in
+    omega (arith, rest, here, sum_by-cons length (slice_range numbers s (first_place ss (length numbers))) (lists_at ss numbers))
+
+-- all places are at most the end
+pub AreAscendingPlaces-end : (starts : List ℕ) (end q : ℕ) → AreAscendingPlaces starts end → first_place (drop q starts) end ≤ end
+AreAscendingPlaces-end [] end zero are = omega arith
+AreAscendingPlaces-end [] end (suc q) are = omega arith
+AreAscendingPlaces-end (s ∷ ss) end zero are = first_place-le (s ∷ ss) end are
+AreAscendingPlaces-end (s ∷ ss) end (suc q) are = AreAscendingPlaces-end ss end q are.1
+
+pub AreAscendingPlaces-next : (starts : List ℕ) (end q d : ℕ) → AreAscendingPlaces starts end → q < length starts → get_or starts q d ≤ first_place (drop (suc q) starts) end
+AreAscendingPlaces-next [] end q d are within = absurd (omega arith)
+AreAscendingPlaces-next (s ∷ ss) end zero d are within = are.0
+AreAscendingPlaces-next (s ∷ ss) end (suc q) d are within = AreAscendingPlaces-next ss end q d are.1 (omega arith)
+
+-- the last list
+pub last-list : (xs : List (List ℕ)) (n : ℕ) (x : List ℕ) → n ≡ length xs → get_or (x ∷ xs) n [] ≡ last_of xs x
+last-list [] zero x same = refl
+last-list [] (suc n) x same = absurd (omega arith)
+last-list (y ∷ xs) zero x same = absurd (omega arith)
+last-list (y ∷ xs) (suc n) x same = last-list xs n y (omega arith)
+
+pub last-list-at : (xs : List (List ℕ)) (n : ℕ) → suc n ≡ length xs → get_or xs n [] ≡ last_of xs []
+last-list-at [] n same = absurd (omega arith)
+last-list-at (x ∷ xs) n same = last-list xs n x (omega arith)
+
+-- the last number
+last-number : (ns : List ℕ) (k n : ℕ) → k ≡ length ns → slice_get (n ∷ ns) k ≡ Some (last_of ns n)
+last-number [] zero n same = refl
+last-number [] (suc k) n same = absurd (omega arith)
+last-number (m ∷ ns) zero n same = absurd (omega arith)
+last-number (m ∷ ns) (suc k) n same = last-number ns k m (omega arith)
+
+pub last-number-at : (ns : List ℕ) → slice_get ns (length ns - 1) ≡ last_number ns
+last-number-at [] = refl
+last-number-at (n ∷ ns) = last-number ns (length (n ∷ ns) - 1) n (omega arith)

@@ -1,0 +1,83 @@
+-- Rows of edges kept as decisions by tracks: on each track the digits that go on, and behind each its row on the later tracks.
+use Rattle.std.specs.Prelude.{◌≡◌, ℕ, ◌+◌, ◌*◌, ◌/◌, ◌%◌, ◌<◌, ◌⊎◌, List, [], ◌∷◌, ◌++◌, length, map, take, drop, sum_by, Option, None, Some, ⊤}
+use Rattle.std.specs.List.{All, AllPairs, AllByRecursion}
+use Rattle.digit_tuple.specs.Letters.{product}
+use Rattle.digit_tuple.specs.Deterministic.{target_by}
+use Rattle.digit_tuple.specs.NumberLists.{last_of, last_number}
+use Rattle.digit_tuple.specs.Reversed.{edge_to}
+use Rattle.digit_tuple.specs.declared.edges.Edge.{Edge}
+use Rattle.digit_tuple.specs.declared.decisions.Track.{Track}
+use Rattle.digit_tuple.specs.declared.decisions.Decisions.{Decisions}
+use Rattle.digit_tuple.specs.declared.decisions.Decisions.TheVariants.{Targets, OnTrack'}
+
+-- the edge with so much added to its letter
+abbrev pub behind : ℕ → Edge → Edge
+behind base edge = edge_to (base + edge.letter) edge.target
+
+-- the edges behind the digits of a track, in turn: each digit counts as so many letters, and has its row on the later tracks
+abbrev pub joined : ℕ → List ℕ → List (List Edge) → List Edge
+joined weight [] rows = []
+joined weight (digit ∷ digits) [] = []
+joined weight (digit ∷ digits) (row ∷ rows) = map (behind (digit * weight)) row ++ joined weight digits rows
+
+-- the rows that have these digits on the track: the rows on the later tracks are given to their digits in turn
+abbrev pub joined_rows : ℕ → List (List ℕ) → List (List Edge) → List (List Edge)
+joined_rows weight [] rows = []
+joined_rows weight (digits ∷ lists) rows = joined weight digits (take (length digits) rows) ∷ joined_rows weight lists (drop (length digits) rows)
+
+-- the edge of a row on no track
+abbrev pub only_edge : ℕ → List Edge
+only_edge target = edge_to 0 target ∷ []
+
+-- the rows
+abbrev pub rows_in : Decisions → List (List Edge)
+rows_in (Targets targets) = map only_edge targets.items
+rows_in (OnTrack' track p below) = joined_rows track.weight track.digits (rows_in below)
+
+-- how many digits each track has
+abbrev pub sizes_in : Decisions → List ℕ
+sizes_in (Targets targets) = []
+sizes_in (OnTrack' track p below) = track.size ∷ sizes_in below
+
+-- how many digits are kept on all tracks
+abbrev pub cells_in : Decisions → ℕ
+cells_in (Targets targets) = 0
+cells_in (OnTrack' track p below) = sum_by length track.digits + cells_in below
+
+-- the digits are below the size of their track and ascend
+pub record AreDigitsBelow (size : ℕ) (digits : List ℕ) : Type 0 where
+  pub below : All (λ digit. digit < size) digits
+  pub ascending : AllPairs (λ d e. d < e) digits
+
+abbrev pub HasEdge : List Edge → Type 0
+HasEdge row = 0 < length row
+
+-- a digit of the track counts as the letters of the later tracks, and has one of their rows, which has an edge
+pub record IsTrack (track : Track) (letters : ℕ) (rows : List (List Edge)) : Type 0 where
+  pub weight : track.weight ≡ letters
+  pub count : sum_by length track.digits ≡ length rows
+  pub digits : AllByRecursion (AreDigitsBelow track.size) track.digits
+  pub filled : AllByRecursion HasEdge rows
+
+abbrev pub IsSound : Decisions → Type 0
+IsSound (Targets targets) = ⊤
+IsSound (OnTrack' track p below) = IsTrack track (product (sizes_in below)) (rows_in below) × IsSound below
+
+-- the last row ends in an edge by the letter
+abbrev pub EndsIn : Decisions → ℕ → Type 0
+EndsIn (Targets targets) letter = letter ≡ 0
+EndsIn (OnTrack' track p below) letter = (last_number (last_of track.digits []) ≡ Some (letter / track.weight)) × EndsIn below (letter % track.weight)
+
+-- the digit is above the last, or it is the last and the rest goes on
+abbrev pub GoesOn : Option ℕ → ℕ → Type 0 → Type 0
+GoesOn None digit Rest = ⊤
+GoesOn (Some last) digit Rest = (last < digit) ⊎ ((last ≡ digit) × Rest)
+
+-- an edge by the letter may follow at the end of the last row
+abbrev pub CanFollow : Decisions → ℕ → Type 0
+CanFollow (Targets targets) letter = ⊥
+CanFollow (OnTrack' track p below) letter = GoesOn (last_number (last_of track.digits [])) (letter / track.weight) (CanFollow below (letter % track.weight))
+
+-- the row leads by the letter of the edge to where this leads
+abbrev pub LeadsAs : List Edge → Edge → Type 0
+LeadsAs row edge = target_by row edge.letter ≡ Some edge.target

@@ -1,0 +1,287 @@
+//! Rows of edges as decisions by tracks.
+
+ghost use Rattle.std.specs.Prelude.{◌≡◌, ℕ, ◌+◌, ◌*◌, ◌<◌, ◌↔◌, ◌^◌, ◌++◌, ◌∷◌, [], List, length, map, Some, IfOk, OnOk, IsTrue, slice_index_or, sum_by};
+ghost use Rattle.digit_tuple.specs.Decisions.{rows_in, sizes_in, cells_in, IsSound, EndsIn, CanFollow, LeadsAs, behind};
+ghost use Rattle.std.specs.List.{AllByRecursion};
+ghost use Rattle.digit_tuple.specs.Deterministic.{target_by};
+ghost use Rattle.digit_tuple.specs.Letters.{product};
+ghost use Rattle.digit_tuple.specs.NumberLists.{extended};
+ghost use Rattle.digit_tuple.specs.Reversed.{edge_to};
+
+use crate::edges::Edge;
+use crate::faults::OutOfMemory;
+use crate::number_lists::NumberLists;
+use std::alloc::Global;
+
+/// Rows of edges over some tracks. A row on no track is one edge, of which the target is kept. A row
+/// on some tracks is a list of digits on the first, and behind each digit a row on the others.
+#[derive(Drop)]
+pub(crate) enum Decisions {
+    Targets(Vec<u32>),
+    OnTrack(Track, Box<Decisions>),
+}
+
+/// A track: how many digits it has, how many letters the later tracks have, and the digits of each row.
+/// The rows behind these digits stand in the order of the digits.
+#[derive(Drop)]
+pub(crate) struct Track {
+    pub(crate) size: u32,
+    pub(crate) weight: u32,
+    pub(crate) digits: NumberLists,
+}
+
+impl Decisions {
+    /// Adds a row of one edge. What a refused call leaves is of no use.
+    pub(crate) fn add_row(&mut self, letter: u32, target: u32) -> Result<(), OutOfMemory>
+        requires sound { IsSound self.old }
+        requires letter { letter < product (sizes_in self.old) }
+        ensures sound { OnOk result (IsSound self.new) }
+        ensures sizes { OnOk result (sizes_in self.new ≡ sizes_in self.old) }
+        ensures rows { OnOk result (rows_in self.new ≡ rows_in self.old ++ (edge_to letter target ∷ []) ∷ []) }
+        ensures ends { OnOk result (EndsIn self.new letter) }
+    {
+        match self {
+            Decisions::Targets(targets) => {
+                targets.push(target)?;
+                Ok(())
+            }
+            Decisions::OnTrack(track, below) => {
+                track.digits.begin()?;
+                track.digits.add(letter / track.weight)?;
+                below.add_row(letter % track.weight, target)
+            }
+        }
+    }
+
+    /// Adds an edge at the end of the last row. What a refused call leaves is of no use.
+    pub(crate) fn extend_row(&mut self, letter: u32, target: u32) -> Result<(), OutOfMemory>
+        requires sound { IsSound self.old }
+        requires letter { letter < product (sizes_in self.old) }
+        requires some { 0 < length (rows_in self.old) }
+        requires follows { CanFollow self.old letter }
+        ensures sound { OnOk result (IsSound self.new) }
+        ensures sizes { OnOk result (sizes_in self.new ≡ sizes_in self.old) }
+        ensures rows { OnOk result (rows_in self.new ≡ extended (rows_in self.old) (edge_to letter target ∷ [])) }
+        ensures ends { OnOk result (EndsIn self.new letter) }
+    {
+        match self {
+            Decisions::Targets(_) => Ok(()),
+            Decisions::OnTrack(track, below) => {
+                let digit = letter / track.weight;
+                let rest = letter % track.weight;
+                if track.digits.ends_in(digit) {
+                    below.extend_row(rest, target)
+                } else {
+                    track.digits.add(digit)?;
+                    below.add_row(rest, target)
+                }
+            }
+        }
+    }
+
+    /// No rows, on tracks of these sizes, which have so many letters.
+    pub(crate) fn bare(alloc: Global, sizes: &[u32], letters: u32) -> Result<Self, OutOfMemory>
+        requires letters { product sizes.now ≡ letters }
+        requires some { 0 < letters }
+        ensures sound { IfOk result IsSound }
+        ensures sizes { IfOk result (λ rows. sizes_in rows ≡ sizes.now) }
+        ensures rows { IfOk result (λ rows. rows_in rows ≡ []) }
+    {
+        match sizes.first() {
+            None => Ok(Decisions::Targets(Vec::new(alloc))),
+            Some(size) => {
+                let weight = letters / *size;
+                let below = Decisions::bare(alloc, &sizes[1..], weight)?;
+                let track = Track {
+                    size: *size,
+                    weight,
+                    digits: NumberLists::new(alloc),
+                };
+                Ok(Decisions::OnTrack(track, Box::new(alloc, below)?))
+            }
+        }
+    }
+
+    /// No rows, on one track of this size.
+    pub(crate) fn on_one_track(alloc: Global, size: u32) -> Result<Self, OutOfMemory>
+        ensures sound { IfOk result IsSound }
+        ensures sizes { IfOk result (λ rows. sizes_in rows ≡ size ∷ []) }
+        ensures rows { IfOk result (λ rows. rows_in rows ≡ []) }
+    {
+        let track = Track {
+            size,
+            weight: 1,
+            digits: NumberLists::new(alloc),
+        };
+        let targets = Decisions::Targets(Vec::new(alloc));
+        Ok(Decisions::OnTrack(track, Box::new(alloc, targets)?))
+    }
+
+    /// Adds an empty row. There is a track. What a refused call leaves is of no use.
+    pub(crate) fn begin_row(&mut self) -> Result<(), OutOfMemory>
+        requires sound { IsSound self.old }
+        requires track { 0 < length (sizes_in self.old) }
+        ensures sound { OnOk result (IsSound self.new) }
+        ensures sizes { OnOk result (sizes_in self.new ≡ sizes_in self.old) }
+        ensures rows { OnOk result (rows_in self.new ≡ rows_in self.old ++ [] ∷ []) }
+        ensures follows { OnOk result ((letter : ℕ) → CanFollow self.new letter) }
+    {
+        match self {
+            Decisions::Targets(_) => Ok(()),
+            Decisions::OnTrack(track, _) => track.digits.begin(),
+        }
+    }
+
+    /// Writes the edges of a row at the end of others, each letter with so much added.
+    pub(crate) fn row_into(
+        &self,
+        place: usize,
+        base: u32,
+        row: &mut Vec<Edge>,
+    ) -> Result<(), OutOfMemory>
+        requires sound { IsSound self.now }
+        requires place { place < length (rows_in self.now) }
+        requires base { base + product (sizes_in self.now) < 2 ^ 32 }
+        ensures { OnOk result (row.new.items ≡ row.old.items ++ map (behind base) (slice_index_or (rows_in self.now) place [])) }
+    {
+        match self {
+            Decisions::Targets(targets) => {
+                row.push(Edge {
+                    letter: base,
+                    target: targets[place],
+                })?;
+                Ok(())
+            }
+            Decisions::OnTrack(track, below) => {
+                let start = track.digits.start(place);
+                for (count, digit) in track.digits.list(place).iter().enumerate() {
+                    below.row_into(start + count, base + *digit * track.weight, row)?;
+                }
+                Ok(())
+            }
+        }
+    }
+
+    /// Where the letter leads from a row, unless it leads nowhere.
+    pub(crate) fn step(&self, place: usize, letter: u32) -> Option<u32>
+        requires sound { IsSound self.now }
+        requires place { place < length (rows_in self.now) }
+        ensures { result ≡ target_by (slice_index_or (rows_in self.now) place []) letter }
+    {
+        match self {
+            Decisions::Targets(targets) => {
+                if letter == 0 {
+                    Some(targets[place])
+                } else {
+                    None
+                }
+            }
+            Decisions::OnTrack(track, below) => {
+                let digits = track.digits.list(place);
+                if digits.is_empty() {
+                    return None;
+                }
+                match digits.binary_search(&(letter / track.weight)) {
+                    Ok(count) => {
+                        below.step(track.digits.start(place) + count, letter % track.weight)
+                    }
+                    Err(_) => None,
+                }
+            }
+        }
+    }
+
+    /// Whether a row of the other decisions leads as each edge of a row does, the letter of the edge with so much
+    /// added.
+    pub(crate) fn is_within(&self, place: usize, base: u32, other: &Decisions, at: usize) -> bool
+        requires sound { IsSound self.now }
+        requires place { place < length (rows_in self.now) }
+        requires base { base + product (sizes_in self.now) < 2 ^ 32 }
+        requires other_sound { IsSound other.now }
+        requires at { at < length (rows_in other.now) }
+        ensures { IsTrue result ↔ AllByRecursion (LeadsAs (slice_index_or (rows_in other.now) at [])) (map (behind base) (slice_index_or (rows_in self.now) place [])) }
+    {
+        match self {
+            Decisions::Targets(targets) => leads(other, at, base, targets[place]),
+            Decisions::OnTrack(track, below) => {
+                let start = track.digits.start(place);
+                for (count, digit) in track.digits.list(place).iter().enumerate() {
+                    let more = base + *digit * track.weight;
+                    if !below.is_within(start + count, more, other, at) {
+                        return false;
+                    }
+                }
+                true
+            }
+        }
+    }
+
+    /// Whether a row has no edge.
+    pub(crate) fn is_bare(&self, place: usize) -> bool
+        requires sound { IsSound self.now }
+        requires place { place < length (rows_in self.now) }
+        ensures { IsTrue result ↔ (slice_index_or (rows_in self.now) place [] ≡ []) }
+    {
+        match self {
+            Decisions::Targets(_) => false,
+            Decisions::OnTrack(track, _) => track.digits.list(place).is_empty(),
+        }
+    }
+
+    /// How many edges there are in all rows.
+    pub(crate) fn edges(&self) -> u64
+        requires { IsSound self.now }
+        ensures { result ≡ sum_by length (rows_in self.now) }
+    {
+        match self {
+            Decisions::Targets(targets) => targets.len() as u64,
+            Decisions::OnTrack(_, below) => below.edges(),
+        }
+    }
+
+    /// How many digits are kept on all tracks.
+    pub(crate) fn cells(&self) -> u64
+        requires { cells_in self.now < 2 ^ 64 }
+        ensures { result ≡ cells_in self.now }
+    {
+        match self {
+            Decisions::Targets(_) => 0,
+            Decisions::OnTrack(track, below) => track.digits.count() as u64 + below.cells(),
+        }
+    }
+
+    /// The same rows, in memory of their own.
+    pub(crate) fn copy(&self, alloc: Global) -> Result<Self, OutOfMemory>
+        requires { IsSound self.now }
+        ensures sound { IfOk result IsSound }
+        ensures sizes { IfOk result (λ rows. sizes_in rows ≡ sizes_in self.now) }
+        ensures rows { IfOk result (λ rows. rows_in rows ≡ rows_in self.now) }
+    {
+        match self {
+            Decisions::Targets(targets) => {
+                Ok(Decisions::Targets(Vec::from_slice(alloc, targets)?))
+            }
+            Decisions::OnTrack(track, below) => {
+                let below = below.copy(alloc)?;
+                let track = Track {
+                    size: track.size,
+                    weight: track.weight,
+                    digits: track.digits.copy(alloc)?,
+                };
+                Ok(Decisions::OnTrack(track, Box::new(alloc, below)?))
+            }
+        }
+    }
+}
+
+// Whether a row leads by the letter to the target.
+fn leads(decisions: &Decisions, place: usize, letter: u32, target: u32) -> bool
+    requires sound { IsSound decisions.now }
+    requires place { place < length (rows_in decisions.now) }
+    ensures { IsTrue result ↔ (target_by (slice_index_or (rows_in decisions.now) place []) letter ≡ Some target) }
+{
+    match decisions.step(place, letter) {
+        Some(next) => next == target,
+        None => false,
+    }
+}

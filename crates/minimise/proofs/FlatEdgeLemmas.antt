@@ -1,0 +1,144 @@
+-- The edges of an automaton in one flat table.
+use Rattle.std.proofs.Common.{◌≡◌, ℕ, ◌+◌, ◌-◌, ◌<◌, ◌≤◌, List, [], ◌∷◌, ◌++◌, map, length, get_or, ◌⊎◌, inl, inr, refl, sym, ap, ◌∙◌, arith}
+use Rattle.std.proofs.lemmas.Bool.{cases_lt}
+use Rattle.std.proofs.lemmas.List.{length-map, length-append, length_push, get_or_push, get_or-map, get_or_default, get_or_append_left, get_or-append_right}
+use Rattle.digit_tuple.specs.declared.edges.Edge.{Edge}
+use Rattle.digit_tuple.specs.Deterministic.{Automaton, IsTable, edges_of, letters_of, states_of}
+use Rattle.digit_tuple.proofs.DfaLemmas.{row_at}
+use Rattle.minimise.specs.Classes.{class_of, dead_class}
+use Rattle.minimise.specs.FlatEdges.{AreLaidOut, flat_edge}
+use Rattle.minimise.specs.Refinement.{AreAlike}
+use Rattle.minimise.proofs.SignatureLemmas.{class_edges-same}
+use Rattle.minimise.proofs.StabilityLemmas.{alike_from_rows}
+
+-- no edges yet
+pub AreLaidOut-none : (d : Automaton) (starts letters targets : List ℕ) → starts ≡ 0 ∷ [] → letters ≡ [] → targets ≡ [] → AreLaidOut d starts letters targets 0
+AreLaidOut-none d starts letters targets first none empty = record {
+  width = ap length first;
+  end = ap (λ (xs : List ℕ). class_of xs 0) first ∙ sym (ap length empty);
+  same = ap length none ∙ sym (ap length empty);
+  ends = λ q less. absurd (omega arith);
+  within = λ q low. let is : q ≡ 0 = omega arith in omega (arith, ap (λ (n : ℕ). class_of starts n) is, ap (λ (xs : List ℕ). class_of xs 0) first);
+  edges = λ q k z less inside. absurd (omega arith);
+}
+
+module _ (d : Automaton) (starts letters targets : List ℕ) (count : ℕ) (flat : AreLaidOut d starts letters targets count) where
+  -- the edges of one more state
+  pub AreLaidOut-more : (es : List Edge) → es ≡ edges_of d count
+      → AreLaidOut d (starts ++ length (targets ++ map (λ (e : Edge). e.target) es) ∷ []) (letters ++ map (λ (e : Edge). e.letter) es) (targets ++ map (λ (e : Edge). e.target) es) (count + 1)
+  AreLaidOut-more es is = record {
+    width = length_push starts end ∙ ap (λ n. n + 1) flat.width;
+    end = last;
+    same = omega (arith, flat.same, long_letters, long_targets);
+    ends = λ q less. ends q (cases_lt q count) less;
+    within = λ q low. within q (cases_lt q (count + 1)) low;
+    edges = λ q k z less inside. edges q k z less inside (cases_lt q count);
+  }
+    where
+      end : ℕ
+      end = length (targets ++ map (λ (e : Edge). e.target) es)
+
+      long_letters : length (letters ++ map (λ (e : Edge). e.letter) es) ≡ length letters + length es
+      long_letters = length-append letters (map (λ (e : Edge). e.letter) es) ∙ ap (λ n. length letters + n) (length-map es (λ (e : Edge). e.letter))
+
+      long_targets : length (targets ++ map (λ (e : Edge). e.target) es) ≡ length targets + length es
+      long_targets = length-append targets (map (λ (e : Edge). e.target) es) ∙ ap (λ n. length targets + n) (length-map es (λ (e : Edge). e.target))
+
+      new : List ℕ
+      new = starts ++ length (targets ++ map (λ (e : Edge). e.target) es) ∷ []
+
+      old : (q : ℕ) → q ≤ count → class_of (starts ++ length (targets ++ map (λ (e : Edge). e.target) es) ∷ []) q ≡ class_of starts q
+      old q low = get_or_append_left starts (length (targets ++ map (λ (e : Edge). e.target) es) ∷ []) 0 q (omega (arith, low, flat.width))
+
+      last : class_of (starts ++ length (targets ++ map (λ (e : Edge). e.target) es) ∷ []) (count + 1) ≡ length (targets ++ map (λ (e : Edge). e.target) es)
+      last = get_or_push starts (length (targets ++ map (λ (e : Edge). e.target) es)) 0 (count + 1) flat.width
+
+      ends : (q : ℕ) → (q < count) ⊎ (count ≤ q) → q < count + 1
+          → class_of (starts ++ length (targets ++ map (λ (e : Edge). e.target) es) ∷ []) (q + 1) ≡ class_of (starts ++ length (targets ++ map (λ (e : Edge). e.target) es) ∷ []) q + length (edges_of d q)
+      ends q (inl before) less = omega (arith, old (q + 1) (omega (arith, before)), old q (omega (arith, before)), flat.ends q before)
+      ends q (inr past) less =
+          let same : q ≡ count = omega arith in
+          ap (λ n. class_of (starts ++ length (targets ++ map (λ (e : Edge). e.target) es) ∷ []) (n + 1)) same ∙ last ∙ long_targets
+          ∙ ap (λ n. n + length es) (sym flat.end ∙ sym (old count (omega arith)) ∙ ap (class_of (starts ++ length (targets ++ map (λ (e : Edge). e.target) es) ∷ [])) (sym same))
+          ∙ ap (λ n. class_of (starts ++ length (targets ++ map (λ (e : Edge). e.target) es) ∷ []) q + n) (ap length is ∙ ap (λ n. length (edges_of d n)) (sym same))
+
+      within : (q : ℕ) → (q < count + 1) ⊎ (count + 1 ≤ q) → q ≤ count + 1 → class_of (starts ++ length (targets ++ map (λ (e : Edge). e.target) es) ∷ []) q ≤ length (targets ++ map (λ (e : Edge). e.target) es)
+      within q (inl before) low = omega (arith, old q (omega (arith, before)), flat.within q (omega (arith, before)), long_targets)
+      within q (inr past) low = let same : q ≡ count + 1 = omega arith in omega (arith, ap (class_of (starts ++ length (targets ++ map (λ (e : Edge). e.target) es) ∷ [])) same ∙ last)
+
+      edges : (q k : ℕ) (z : Edge) → q < count + 1 → k < length (edges_of d q) → (q < count) ⊎ (count ≤ q)
+          → get_or (edges_of d q) k z ≡ flat_edge (letters ++ map (λ (e : Edge). e.letter) es) (targets ++ map (λ (e : Edge). e.target) es) (class_of (starts ++ length (targets ++ map (λ (e : Edge). e.target) es) ∷ []) q + k)
+      edges q k z less inside (inl before) =
+          let at : class_of starts q + k < length targets = omega (arith, flat.ends q before, flat.within (q + 1) (omega (arith, before)), inside) in
+          let one : class_of letters (class_of starts q + k) ≡ class_of (letters ++ map (λ (e : Edge). e.letter) es) (class_of starts q + k) = sym (get_or_append_left letters (map (λ (e : Edge). e.letter) es) 0 (class_of starts q + k) (omega (arith, at, flat.same))) in
+          let two : class_of targets (class_of starts q + k) ≡ class_of (targets ++ map (λ (e : Edge). e.target) es) (class_of starts q + k) = sym (get_or_append_left targets (map (λ (e : Edge). e.target) es) 0 (class_of starts q + k) at) in
+          flat.edges q k z before inside
+          ∙ ap (λ (x : ℕ). let e : Edge = record { letter = x; target = class_of targets (class_of starts q + k) } in e) one
+          ∙ ap (λ (x : ℕ). let e : Edge = record { letter = class_of (letters ++ map (λ (e : Edge). e.letter) es) (class_of starts q + k); target = x } in e) two
+          ∙ ap (λ n. flat_edge (letters ++ map (λ (e : Edge). e.letter) es) (targets ++ map (λ (e : Edge). e.target) es) (n + k)) (sym (old q (omega (arith, before))))
+      edges q k z less inside (inr past) =
+          let same : q ≡ count = omega arith in
+          let own : edges_of d q ≡ es = ap (edges_of d) same ∙ sym is in
+          let low : k < length es = omega (arith, inside, ap length own) in
+          let place : class_of (starts ++ length (targets ++ map (λ (e : Edge). e.target) es) ∷ []) q ≡ length targets = ap (class_of (starts ++ length (targets ++ map (λ (e : Edge). e.target) es) ∷ [])) same ∙ old count (omega arith) ∙ flat.end in
+          let one : (get_or es k z).letter ≡ class_of (letters ++ map (λ (e : Edge). e.letter) es) (length targets + k) =
+          sym (get_or-append_right letters (map (λ (e : Edge). e.letter) es) (length letters) (length targets + k) 0 refl (omega (arith, flat.same))
+          ∙ ap (class_of (map (λ (e : Edge). e.letter) es)) (omega (arith, flat.same)) ∙ get_or-map (λ (e : Edge). e.letter) es k z 0 low) in
+          let two : (get_or es k z).target ≡ class_of (targets ++ map (λ (e : Edge). e.target) es) (length targets + k) =
+          sym (get_or-append_right targets (map (λ (e : Edge). e.target) es) (length targets) (length targets + k) 0 refl (omega arith)
+          ∙ ap (class_of (map (λ (e : Edge). e.target) es)) (omega arith) ∙ get_or-map (λ (e : Edge). e.target) es k z 0 low) in
+          ap (λ (xs : List Edge). get_or xs k z) own
+          ∙ ap (λ (x : ℕ). let e : Edge = record { letter = x; target = (get_or es k z).target } in e) one
+          ∙ ap (λ (x : ℕ). let e : Edge = record { letter = class_of (letters ++ map (λ (e : Edge). e.letter) es) (length targets + k); target = x } in e) two
+          ∙ ap (λ n. flat_edge (letters ++ map (λ (e : Edge). e.letter) es) (targets ++ map (λ (e : Edge). e.target) es) (n + k)) (sym place)
+
+-- at a place of the table is an edge of a state
+pub record HasPlace (d : Automaton) (starts letters targets : List ℕ) (q place : ℕ) : Type 0 where
+  pub inside : place - class_of starts q < length (edges_of d q)
+  pub within : place < length targets
+  pub target : class_of targets place < states_of d
+  pub edge : (z : Edge) → get_or (edges_of d q) (place - class_of starts q) z ≡ flat_edge letters targets place
+
+module _ (d : Automaton) (starts letters targets : List ℕ) (flat : AreLaidOut d starts letters targets (states_of d)) (table : IsTable (letters_of d) d.states) where
+  -- the places between two starts are those of a state's edges
+  HasPlace-between : (q place : ℕ) → q < states_of d → class_of starts q ≤ place → place < class_of starts (q + 1) → HasPlace d starts letters targets q place
+  HasPlace-between q place less after before = record {
+    inside = inside;
+    within = omega (arith, before, flat.within (q + 1) (omega (arith, less)));
+    target = omega (arith, ((row_at d q table less).in_range (place - class_of starts q) (record { letter = 0; target = 0 }) inside).1, ap (λ (e : Edge). e.target) (edge (record { letter = 0; target = 0 })));
+    edge = edge;
+  }
+    where
+      inside : place - class_of starts q < length (edges_of d q)
+      inside = omega (arith, flat.ends q less, before, after)
+
+      back : class_of starts q + (place - class_of starts q) ≡ place
+      back = omega (arith, after)
+
+      edge : (z : Edge) → get_or (edges_of d q) (place - class_of starts q) z ≡ flat_edge letters targets place
+      edge z = flat.edges q (place - class_of starts q) z less inside ∙ ap (flat_edge letters targets) back
+
+  -- the start that is read
+  pub start_read : (q start : ℕ) → q ≤ states_of d → start ≡ get_or starts q start → start ≡ class_of starts q
+  start_read q start low is = is ∙ get_or_default starts q start 0 (omega (arith, low, flat.width))
+
+  pub HasPlace-read : (q place start end : ℕ) → q < states_of d → start ≡ get_or starts q start → end ≡ get_or starts (q + 1) end → start ≤ place → place < end → HasPlace d starts letters targets q place
+  HasPlace-read q place start end less first last after before =
+      HasPlace-between q place less (omega (arith, after, start_read q start (omega (arith, less)) first)) (omega (arith, before, start_read (q + 1) end (omega (arith, less)) last))
+
+  module _ (classes : List ℕ) (p q count : ℕ) (less : p < states_of d) (low : q < states_of d) (own : class_of classes p ≡ class_of classes q)
+      (one : class_of starts (p + 1) ≡ class_of starts p + count) (other : class_of starts (q + 1) ≡ class_of starts q + count) where
+    -- states are alike that have one class and edges by the same letters to the same classes
+    pub AreAlike-flat : ((k : ℕ) → k < count → class_of letters (class_of starts p + k) ≡ class_of letters (class_of starts q + k)) → ((k : ℕ) → k < count → class_of classes (class_of targets (class_of starts p + k)) ≡ class_of classes (class_of targets (class_of starts q + k))) → AreAlike d classes p q
+    AreAlike-flat by_letters to_classes =
+        alike_from_rows d classes table p q own
+        (class_edges-same classes (dead_class d classes) (edges_of d p) (edges_of d q) (omega (arith, long, flat.ends q low, other)) (λ k inside. (
+          ap (λ (e : Edge). e.letter) (flat.edges p k z less inside) ∙ by_letters k (omega (arith, inside, long)) ∙ sym (ap (λ (e : Edge). e.letter) (flat.edges q k z low (omega (arith, inside, long, flat.ends q low, other)))),
+          ap (λ (e : Edge). class_of classes e.target) (flat.edges p k z less inside) ∙ to_classes k (omega (arith, inside, long)) ∙ sym (ap (λ (e : Edge). class_of classes e.target) (flat.edges q k z low (omega (arith, inside, long, flat.ends q low, other)))),
+        )))
+      where
+        z : Edge
+        z = record { letter = 0; target = 0 }
+
+        long : length (edges_of d p) ≡ count
+        long = omega (arith, flat.ends p less, one)

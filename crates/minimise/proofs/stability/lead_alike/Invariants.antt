@@ -1,0 +1,9 @@
+use Rattle.std.proofs.Common.{◌≡◌, ℕ, ◌+◌, ◌<◌}
+use Rattle.minimise.specs.Classes.{class_of}
+use Rattle.minimise.proofs.stability.lead_alike.Given as goal
+
+abbrev pub invariant-loop-place : goal.invariant-loop-place
+invariant-loop-place l = record {
+  letters : (k : ℕ) → k < l.place → class_of l.flat.letters.items (class_of l.flat.starts.items l.p + k) ≡ class_of l.flat.letters.items (class_of l.flat.starts.items l.q + k);
+  targets : (k : ℕ) → k < l.place → class_of l.classes (class_of l.flat.targets.items (class_of l.flat.starts.items l.p + k)) ≡ class_of l.classes (class_of l.flat.targets.items (class_of l.flat.starts.items l.q + k));
+}

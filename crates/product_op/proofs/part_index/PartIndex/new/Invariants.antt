@@ -1,5 +1,0 @@
-use Rattle.product_op.proofs.PartIndexLemmas.{AreBlocksTo}
-use Rattle.product_op.proofs.part_index.PartIndex.new.Given as goal
-
-abbrev pub invariant-loop-first : goal.invariant-loop-first
-invariant-loop-first l = AreBlocksTo l.parts.items l.letters.items l.starts.items l.first-index

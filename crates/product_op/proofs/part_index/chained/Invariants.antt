@@ -1,5 +1,0 @@
-use Rattle.product_op.specs.PartChains.{AreChains}
-use Rattle.product_op.proofs.part_index.chained.Given as goal
-
-abbrev pub invariant-loop-letter : goal.invariant-loop-letter
-invariant-loop-letter l = AreChains l.parts l.count l.first.items l.next.items l.letter
