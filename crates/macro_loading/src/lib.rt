@@ -1,7 +1,8 @@
 //! The expansion of a text by the macros that stand in a store.
 //!
-//! `expanded` expands a text as `macro_expand` does, by the texts in the store's folder of macros. Each macro is read once,
-//! where it is first met, and no other (`specs/MacroFiles.antt`).
+//! `expanded` expands a text as `macro_expand` does, by the texts in the store's folder of macros, one for each name
+//! (`specs/MacroFiles.antt`). What it reads is a macro of which a call is met. No macro is read twice: that is the code's way,
+//! which no clause says.
 #![tactic(auto)]
 
 /// Why a text is not expanded.

@@ -1,10 +1,9 @@
 -- One file has one morphism, or one refusal.
-use Rattle.std.proofs.Common.{◌≡◌, ◌≢◌, ◌⊎◌, inl, inr, ℕ, ◌<◌, ◌≤◌, List, length, Option, None, Some, Result, Ok, Err, refl, sym, ap, ◌∙◌, subst, arith}
+use Rattle.std.proofs.Common.{◌≡◌, inl, inr, ℕ, ◌≤◌, List, length, Option, None, Some, Ok, Err, refl, sym, ap, ◌∙◌, subst, arith}
 use Rattle.wal_outside.specs.Files.{Files}
 use Rattle.wal_outside.specs.declared.folder.Folder.{Folder}
 use Rattle.wal_outside.specs.declared.folder.Folder.TheVariants.{Morphisms}
 use Rattle.wal_outside.specs.declared.store.TheConstants.{TEXT_LIMIT}
-use Rattle.morph_words.specs.declared.fault.RulesFault.{RulesFault}
 use Rattle.morph_words.specs.declared.fault.RulesFault.TheVariants.{Syntax, Number, Memory}
 use Rattle.morph_words.specs.Faults.{Parses}
 use Rattle.morph_words.specs.Laws.{OneAnswer}

@@ -1,7 +1,7 @@
 -- Words over one base: their names, and the text of a fixed point.
-use Rattle.std.proofs.Common.{◌≡◌, ℕ, ◌≤◌, List, [], ◌∷◌, length, get_or, refl, sym, ap, ◌∙◌, subst, arith}
+use Rattle.std.proofs.Common.{◌≡◌, ℕ, List, [], ◌∷◌, length, get_or, refl, sym, ap, ◌∙◌, subst, arith}
 use Rattle.std.specs.Int.{w32}
-use Rattle.std.specs.List.{All, AllByRecursion}
+use Rattle.std.specs.List.{All}
 use Rattle.std.specs.Prelude.{FitsSigned}
 use Rattle.digit_tuple.specs.Systems.{IsDigitCount}
 use Rattle.digit_tuple.specs.declared.direction.Direction.TheVariants.{Msd}

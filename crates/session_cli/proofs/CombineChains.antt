@@ -1,5 +1,5 @@
 -- From what each part of the code makes of listed automata to what all checks of their command make.
-use Rattle.std.proofs.Common.{◌≡◌, ◌⊎◌, ℕ, Bool, false, List, [], None, Some, Result, Ok, Err, inl, inr, refl, sym, ap, ◌∙◌}
+use Rattle.std.proofs.Common.{◌≡◌, ℕ, Bool, false, List, [], None, Result, Ok, Err, inl, inr, refl, sym, ap, ◌∙◌}
 use Rattle.wal_outside.specs.Files.{Files}
 use Rattle.wal_outside.specs.Places.{Place}
 use Rattle.wal_outside.specs.declared.folder.Folder.TheVariants.{Words}
@@ -25,7 +25,7 @@ use Rattle.session_cli.specs.declared.plan.Made.{Made}
 use Rattle.session_cli.specs.declared.plan.Plan.{Plan}
 use Rattle.session_cli.specs.Accepting.{Success, stored}
 use Rattle.session_cli.specs.Checks.{Pure, Fails}
-use Rattle.session_cli.specs.CombineMakes.{AreTablesOf, IsReadList, MakesAfterListedSystems, automata_of, head_of}
+use Rattle.session_cli.specs.CombineMakes.{IsReadList, MakesAfterListedSystems, automata_of, head_of}
 use Rattle.session_cli.specs.CombineOutcomes.{WordTracks, PlainAnswers, ShapeAnswers, WordTracksAnswers, CombinedAnswers, HaveSystemsOfFirst, combine_success, first_plain, listed_files, listed_names, listed_systems, after_combined, after_shape, after_plain, after_listed_systems, after_listed_tables, after_combine_head, combine_checks}
 use Rattle.session_cli.specs.FileChecks.{FilesAnswers, files_loaded}
 use Rattle.session_cli.specs.HeadAnswers.{HeadAnswers, fault_of_head}

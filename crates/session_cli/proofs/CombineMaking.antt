@@ -1,8 +1,5 @@
 -- What a combine stores and prints, from its word and the word's text.
-use Rattle.std.proofs.Common.{◌≡◌, ◌++◌, ℕ, List, [], None, Result, Ok, Err, refl, sym, ap, ◌∙◌, subst, Bool, append-nil}
-use Rattle.std.specs.Int.{w32}
-use Rattle.std.specs.List.{All}
-use Rattle.std.specs.Prelude.{FitsSigned, MatchResult}
+use Rattle.std.proofs.Common.{◌≡◌, ℕ, List, Ok, refl, sym, ◌∙◌, subst, Bool, append-nil}
 use Rattle.command_head.specs.Heads.{CombineHead}
 use Rattle.digit_tuple.specs.declared.steps.StepLine.{StepLine}
 use Rattle.word_output.specs.Words.{WordValue}

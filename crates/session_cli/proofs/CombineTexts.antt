@@ -1,15 +1,12 @@
 -- The word that listed automata make has the letters of their definitions, so its text is that of the definition that is stored.
-use Rattle.std.proofs.Common.{◌≡◌, ◌≢◌, ◌↔◌, ◌⊎◌, ℕ, suc, ◌<◌, ℤ, Bool, List, [], ◌∷◌, length, Option, None, Some, Ok, inl, inr, refl, sym, ap, ◌∙◌, subst, arith}
+use Rattle.std.proofs.Common.{◌≡◌, ◌↔◌, ℕ, suc, ℤ, List, [], ◌∷◌, length, Option, None, Some, Ok, inl, inr, refl, sym, ap, ◌∙◌, subst, arith}
 use Rattle.std.specs.Int.{w32}
 use Rattle.std.specs.List.{All, AllByRecursion}
 use Rattle.std.specs.Prelude.{FitsSigned}
-use Rattle.std.proofs.lemmas.List.{length-map}
 use Rattle.wal_outside.specs.Files.{Files}
-use Rattle.wal_outside.specs.declared.folder.Folder.TheVariants.{Automata}
 use Rattle.combinations.specs.Combined.{IsCombined, AreSystemsFor, IsCombination}
-use Rattle.combinations.specs.CombineSteps.{IsCombineStep}
 use Rattle.combinations.specs.Parts.{PartValue}
-use Rattle.command_head.specs.Heads.{ValuedName, CombineHead}
+use Rattle.command_head.specs.Heads.{ValuedName}
 use Rattle.command_head.specs.Values.{value_at}
 use Rattle.digit_tuple.specs.Steps.{StepLog}
 use Rattle.digit_tuple.specs.Systems.{IsDigitCount}
@@ -22,16 +19,15 @@ use Rattle.dfa_loading.specs.declared.loaded.Loaded.{Loaded}
 use Rattle.dfa_text.specs.RelationText.{word_text}
 use Rattle.formula_build.specs.Libraries.{NamedRelation, NamedSystem, relation_named}
 use Rattle.formula_resolve.specs.Headers.{Headers, automaton_tracks}
-use Rattle.formula_resolve.proofs.FirstLemmas.{first_once}
 use Rattle.num_system.specs.Sealed.{SystemValue, system_of}
 use Rattle.num_system.specs.Tracks.{way_of}
-use Rattle.number_relations.specs.Relations.{RelationValue, RelationHolds}
+use Rattle.number_relations.specs.Relations.{RelationValue}
 use Rattle.word_output.specs.Words.{WordValue}
 use Rattle.definitions.specs.Texts.{HasTreeText, Stores}
 use Rattle.definitions.specs.Tracks as tracks
-use Rattle.definitions.specs.Tracks.{header_tracks, track_of}
-use Rattle.definitions.specs.TreeMeanings.{tree_holds, first_letter}
-use Rattle.definitions.specs.Trees.{Entry, Ledger, Parts, Combine, Defined, with_part, tree_of, custom_of}
+use Rattle.definitions.specs.Tracks.{header_tracks}
+use Rattle.definitions.specs.TreeMeanings.{first_letter}
+use Rattle.definitions.specs.Trees.{Entry, Ledger, Parts, Combine, with_part, custom_of}
 use Rattle.word_output.specs.LetterFunctions.{outputs_of}
 use Rattle.definitions.proofs.TextMeanings.{text_means}
 use Rattle.definitions.proofs.TableRelations.{table_holds}
@@ -39,11 +35,11 @@ use Rattle.definitions.proofs.WordTexts.{word_text_means}
 use Rattle.definitions.proofs.WordValueTexts.{IsWordNamed, HasLettersOf, combined_word_text}
 use Rattle.system_files.specs.SystemFiles.{Custom}
 use Rattle.session_cli.specs.CombineMakes.{first_names}
-use Rattle.session_cli.specs.CombineOutcomes.{WordTracks, HaveSystemsOfFirst, WordTracksAnswers, first_plain, listed_files, listed_mentions, listed_names, listed_systems, parts_from}
+use Rattle.session_cli.specs.CombineOutcomes.{WordTracks, HaveSystemsOfFirst, WordTracksAnswers, first_plain, listed_files, listed_names, listed_systems, parts_from}
 use Rattle.session_cli.specs.CombineSteps.{ArePartsFrom, AreCombineSteps}
 use Rattle.session_cli.specs.FormulaPlans.{HasSystems}
 use Rattle.session_cli.specs.FormulaSteps.{AreMeant}
-use Rattle.session_cli.specs.TableReads.{TableRead, relations_in}
+use Rattle.session_cli.specs.TableReads.{relations_in}
 use Rattle.session_cli.specs.WordPrinting.{HaveNames, tracks_named, named_text}
 use Rattle.session_cli.proofs.ListedTables.{listed_readable, listed_under}
 use Rattle.session_cli.proofs.MeantNames.{found_meant, named_digits}

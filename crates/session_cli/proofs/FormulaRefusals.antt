@@ -12,8 +12,6 @@ use Rattle.formula_resolve.specs.Headers.{Headers}
 use Rattle.formula_resolve.specs.Resolving.{fault_of}
 use Rattle.formula_resolve.specs.declared.fault.ResolveFault.{ResolveFault}
 use Rattle.formula_resolve.specs.declared.fault.ResolveFault.TheVariants as resolves
-use Rattle.session_cli.specs.declared.fault.Fault.{Fault}
-use Rattle.session_cli.specs.declared.fault.Fault.TheVariants as faults
 use Rattle.session_cli.specs.Checks.{Pure, Fails}
 use Rattle.system_files.specs.SystemFiles.{Custom}
 use Rattle.dfa_loading.specs.Headers.{headers_of}

@@ -12,7 +12,6 @@ use Rattle.numeration.specs.Systems.{System}
 use Rattle.num_system.specs.Sealed as sealed
 use Rattle.num_system.specs.Sealed.{SystemValue}
 use Rattle.num_system.specs.Tracks as relations
-use Rattle.num_system.specs.Tracks.{HaveOneWay}
 use Rattle.number_relations.specs.Relations.{RelationValue, RelationHolds}
 use Rattle.num_system.proofs.HoldLemmas.{holds_same}
 use Rattle.formula_parse.specs.Trees as trees

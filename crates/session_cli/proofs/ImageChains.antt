@@ -1,5 +1,5 @@
 -- From what each part of the code makes of an image to what all checks of its command make.
-use Rattle.std.proofs.Common.{◌≡◌, ◌⊎◌, ℕ, Bool, false, List, [], length, None, Some, Result, Ok, Err, inl, inr, refl, sym, ap, ◌∙◌}
+use Rattle.std.proofs.Common.{◌≡◌, ℕ, Bool, false, List, [], length, Result, Ok, Err, inl, inr, refl, sym, ap, ◌∙◌}
 use Rattle.wal_outside.specs.Files.{Files}
 use Rattle.wal_outside.specs.Places.{Place}
 use Rattle.wal_outside.specs.declared.folder.Folder.TheVariants.{Words}

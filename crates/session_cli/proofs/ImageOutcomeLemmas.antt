@@ -38,7 +38,7 @@ use Rattle.word_images.specs.ImageFormula.{word_name}
 use Rattle.session_cli.specs.ImageSteps.{AreBuilt, IsCombined, IsCombiningStopped, IsImageDone, IsImageRefused, IsImageStopped, IsLetterStopped, letter_plan}
 use Rattle.word_images.specs.ImageWords.{AreOutputs, IsMapped, IsMissing}
 use Rattle.session_cli.specs.OneImage.{ImagesHaveOneOutcome}
-use Rattle.session_cli.specs.OneImage.{HasOneImage, ImagesHaveOneOutcome}
+use Rattle.session_cli.specs.OneImage.{ImagesHaveOneOutcome}
 use Rattle.word_images.specs.Recoded.{IsRecoded}
 use Rattle.session_cli.specs.RecodedWords.{AreRecoded, IsImageLibrary}
 use Rattle.session_cli.specs.declared.image_fault.ImageFault.{ImageFault}

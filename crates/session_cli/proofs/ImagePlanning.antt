@@ -1,5 +1,5 @@
 -- From the image of a word whose table is loaded to what the checks after its systems make.
-use Rattle.std.proofs.Common.{◌≡◌, ℕ, Bool, true, List, [], ◌∷◌, ◌++◌, length, get_or, None, Some, Result, Ok, Err, refl, sym, ap, ◌∙◌, subst, arith}
+use Rattle.std.proofs.Common.{◌≡◌, ℕ, Bool, true, List, [], ◌∷◌, length, get_or, Result, Ok, Err, refl, ◌∙◌, subst, arith}
 use Rattle.std.specs.Int.{w32}
 use Rattle.std.specs.List.{All, AllByRecursion, flat_map}
 use Rattle.std.specs.Prelude.{FitsSigned}
@@ -14,7 +14,7 @@ use Rattle.formula_build.specs.Libraries.{NamedSystem}
 use Rattle.formula_resolve.specs.FirstMentions.{first_files, first_systems, mentioned_systems}
 use Rattle.formula_resolve.specs.Headers.{Headers, word_tracks}
 use Rattle.morph_words.specs.Uniform.{HasLength, IsImageLength}
-use Rattle.num_system.specs.Sealed.{SystemValue, system_of}
+use Rattle.num_system.specs.Sealed.{SystemValue}
 use Rattle.word_output.specs.Words.{WordValue}
 use Rattle.definitions.proofs.CustomTexts.{stored_custom}
 use Rattle.definitions.specs.Texts.{HasTreeText, Stores}

@@ -1,5 +1,5 @@
 -- The image of a word has the letters of the image of its definition, so its text is that of the definition that is stored.
-use Rattle.std.proofs.Common.{◌≡◌, ◌↔◌, ◌++◌, ℕ, ℤ, Bool, List, [], ◌∷◌, length, map, get_or, None, Some, Result, Ok, Err, refl, sym, ap, ◌∙◌, subst, arith, append-nil}
+use Rattle.std.proofs.Common.{◌≡◌, ℕ, Bool, List, [], ◌∷◌, length, map, get_or, Ok, refl, sym, ap, ◌∙◌, subst, arith, append-nil}
 use Rattle.std.specs.Int.{w32}
 use Rattle.std.specs.List.{All}
 use Rattle.std.specs.Prelude.{FitsSigned}
@@ -7,25 +7,15 @@ use Rattle.wal_outside.specs.Files.{Files}
 use Rattle.command_head.specs.Heads.{ImageHead}
 use Rattle.digit_tuple.specs.Steps.{StepLog}
 use Rattle.digit_tuple.specs.declared.direction.Direction.{Direction}
-use Rattle.digit_tuple.specs.declared.header.Header.TheVariants as headers
 use Rattle.digit_tuple.specs.declared.steps.StepLine.{StepLine}
 use Rattle.dfa_loading.specs.Headers.{headers_of}
-use Rattle.dfa_loading.specs.Loading.{AreListedBy}
-use Rattle.dfa_text.specs.RelationText.{word_text}
-use Rattle.formula_build.specs.Libraries.{system_named}
 use Rattle.formula_build.specs.TrackSystems.{IsWordOverSystems}
-use Rattle.formula_resolve.specs.FirstMentions.{first_files}
-use Rattle.formula_resolve.specs.Headers.{word_tracks}
-use Rattle.morph_words.specs.ImageLetters.{IsImageLetter}
 use Rattle.morph_words.specs.Rules.{Rules}
 use Rattle.num_system.specs.Sealed.{SystemValue, system_of}
 use Rattle.num_system.specs.Tracks.{absent_system, way_of}
-use Rattle.word_images.specs.ImageWords.{IsImageWord}
-use Rattle.word_output.specs.LetterFunctions.{outputs_of}
 use Rattle.word_output.specs.Words.{HasLetter, WordValue}
 use Rattle.definitions.specs.Named.{IsSystemNamed}
 use Rattle.definitions.specs.Texts.{HasTreeText, Stores}
-use Rattle.definitions.specs.Tracks as named_tracks
 use Rattle.definitions.specs.TreeMeanings.{tree_letter}
 use Rattle.definitions.specs.Trees.{Entry, Image, Ledger, custom_of, tree_of}
 use Rattle.definitions.proofs.WordValueTexts.{IsWordNamed, image_word_text, same_image, text_of_word}

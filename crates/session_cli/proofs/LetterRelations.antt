@@ -2,8 +2,6 @@
 use Rattle.std.proofs.Common.{◌≡◌, ℕ, ℤ, List, [], ◌∷◌, map, None, Result, Ok, Err, refl, sym, ap, ◌∙◌, subst}
 use Rattle.std.specs.Prelude.{◌↔◌, ⊤, IfOk}
 use Rattle.std.proofs.lemmas.Option.{none-some}
-use Rattle.digit_tuple.specs.Steps.{StepLog}
-use Rattle.digit_tuple.specs.declared.step_fault.StepFault.{StepFault}
 use Rattle.formula_parse.specs.Tokens.{Name}
 use Rattle.formula_parse.specs.Trees.{Formula}
 use Rattle.formula_parse.specs.Views.{formula_view}
@@ -20,7 +18,7 @@ use Rattle.formula_build.specs.KnownNames.{AreKnownIn}
 use Rattle.formula_build.specs.Libraries.{IsSystemIn, LibraryValue, meanings_of}
 use Rattle.formula_build.specs.Resolved.{plan_headers}
 use Rattle.formula_build.specs.ResolvedViews.{IsPlanned, formula_of, headers_in, library_of}
-use Rattle.formula_build.specs.Solutions.{BuildsFormula, IsSolution, formula_plan, way_named}
+use Rattle.formula_build.specs.Solutions.{IsSolution, way_named}
 use Rattle.formula_build.specs.TrackSystems.{Fits}
 use Rattle.formula_build.specs.VariableTracks.{AreSystemsOf, IsOverVariables}
 use Rattle.formula_build.specs.declared.names.Names.{Names}
@@ -28,7 +26,6 @@ use Rattle.formula_build.specs.declared.resolving.Resolved.{Resolved}
 use Rattle.num_system.specs.Sealed.{SystemValue}
 use Rattle.number_relations.specs.Relations.{RelationHolds, RelationValue}
 use Rattle.word_images.specs.ImageFormula.{image_formula, place_variable}
-use Rattle.session_cli.specs.ImageSteps.{letter_plan}
 use Rattle.session_cli.specs.LetterParts.{IsLetterRelation, IsUsable}
 use Rattle.session_cli.specs.RecodedWords.{image_headers}
 use Rattle.session_cli.specs.LetterSettings.{library_in}
@@ -83,12 +80,6 @@ module _ (t : Setting) (s : Name) (k : ℕ) (b : ℤ) (usable : IsUsable t s k) 
     known_here =
         subst (λ (f : Formula). AreKnownIn (library_of r t.words) f) (sym is)
         (subst (λ (l : LibraryValue). AreKnownIn l (image_formula s k b)) (sym library_same) (known_in usable.rules usable.word s k (library_in t) usable.setting.library usable.few usable.system usable.systems b usable.some))
-
-    pub steps_here : (old new : StepLog) (result : Result RelationValue StepFault) → BuildsFormula old (library_of r t.words) (formula_plan (headers_in r) (formula_of r)) result new → BuildsFormula old (library_in t) (letter_plan s k b) result new
-    steps_here old new result builds =
-        let one = subst (λ (l : LibraryValue). BuildsFormula old l (formula_plan (headers_in r) (formula_of r)) result new) library_same builds in
-        let two = subst (λ (h : Headers). BuildsFormula old (library_in t) (formula_plan h (formula_of r)) result new) headers_same one in
-        subst (λ (f : Formula). BuildsFormula old (library_in t) (formula_plan (image_headers s k) f) result new) is two
 
     one_system : (l : LibraryValue) (ss : List SystemValue) → AreSystemsOf l (record { name = place_variable; system = s } ∷ []) ss → (v : SystemValue) × (ss ≡ v ∷ []) × IsSystemIn l s v
     one_system l [] over = absurd over

@@ -83,6 +83,7 @@ pub mod OneTableReadings
 pub mod OneLoadings
 pub mod OneMacros
 pub mod OneSystems
+pub mod OneMeantReadings
 pub mod OneBuildings
 pub mod OneFormulas
 pub mod OneTextCommands

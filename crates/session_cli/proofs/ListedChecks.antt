@@ -3,7 +3,6 @@ use Rattle.std.proofs.Common.{◌≡◌, ◌≢◌, ℕ, zero, suc, ◌+◌, ◌
 use Rattle.std.specs.List.{AllByRecursion}
 use Rattle.combinations.specs.Parts.{PartValue}
 use Rattle.command_head.specs.Heads.{ValuedName}
-use Rattle.command_head.specs.HeadViews.{valued_view}
 use Rattle.command_head.specs.Values.{value_at}
 use Rattle.command_head.specs.declared.head.ValuedName as valued
 use Rattle.formula_build.specs.Libraries.{NamedRelation, relation_named}

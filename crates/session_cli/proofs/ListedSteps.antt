@@ -1,5 +1,5 @@
 -- The steps by which listed automata are combined, and why they are refused, from what the code of each part answers.
-use Rattle.std.proofs.Common.{◌≡◌, ◌≢◌, ℕ, List, [], ◌∷◌, Err, inl, inr, refl, sym, subst}
+use Rattle.std.proofs.Common.{◌≢◌, ℕ, List, [], ◌∷◌, inl, inr, refl, sym, subst}
 use Rattle.combinations.specs.Combined.{AreSystemsFor}
 use Rattle.combinations.specs.CombineSteps.{IsCombineDone, IsCombineRefused}
 use Rattle.combinations.specs.Parts.{PartValue, systems_at}

@@ -1,15 +1,13 @@
 -- What calls of macros read: texts among macros, beside whatever is read of other folders after them.
-use Rattle.std.proofs.Common.{◌≡◌, ◌≢◌, ℕ, ◌≤◌, List, [], ◌∷◌, Option, None, Some, IfSome, Result, Ok, Err, inl, inr, refl, sym, ap, ◌∙◌, subst, arith}
+use Rattle.std.proofs.Common.{◌≡◌, ℕ, ◌≤◌, List, Option, None, Some, IfSome, Result, Ok, Err, refl, sym, ap, ◌∙◌, subst, arith}
 use Rattle.std.specs.declared.alloc.Global.{Global}
 use Rattle.std.specs.declared.vec.Vec.{Vec}
 use Rattle.wal_outside.specs.Causes.{CountsFault}
 use Rattle.wal_outside.specs.Files.{Files}
 use Rattle.wal_outside.specs.Views.{StoreView}
-use Rattle.wal_outside.specs.declared.folder.Folder.{Folder}
 use Rattle.wal_outside.specs.declared.folder.Folder.TheVariants.{Automata, Words, Bases, Macros, Morphisms, Results, Commands}
 use Rattle.dfa_loading.specs.declared.fault.LoadFault.TheVariants as loads
 use Rattle.macro_expand.specs.Expansion.{expansion}
-use Rattle.macro_expand.specs.declared.fault.MacroFault.{MacroFault}
 use Rattle.macro_expand.specs.Texts.{TextOf}
 use Rattle.macro_loading.specs.MacroFiles as macros
 use Rattle.macro_loading.specs.MacroFiles.{IsExpanded, macros_of, short_text}

@@ -9,17 +9,16 @@ use Rattle.morph_words.specs.Rules.{Rules}
 use Rattle.word_output.specs.Words.{IsWordValue, WordValue}
 use Rattle.formula_parse.specs.Tokens.{Name}
 use Rattle.formula_build.specs.Solutions.{way_named}
-use Rattle.combinations.specs.Combined.{AreSystemsFor}
 use Rattle.combinations.specs.CombineSteps.{IsCombineDone, IsCombineRefused, IsCombineStepRefused}
 use Rattle.combinations.specs.Parts.{PartValue}
 use Rattle.combinations.specs.declared.combine_fault.CombineFault.{CombineFault}
 use Rattle.combinations.specs.declared.combine_fault.CombineFault.TheVariants.{Shape, Step}
-use Rattle.session_cli.specs.ImageSteps.{AreBuilt, IsImageDone, IsImageStopped}
+use Rattle.session_cli.specs.ImageSteps.{AreBuilt, IsImageStopped}
 use Rattle.word_images.specs.ImageWords.{AreOutputs, IsImageWord, IsMapped}
 use Rattle.session_cli.specs.LetterParts.{AreLetterParts, IsUsable}
 use Rattle.session_cli.specs.LetterSettings.{IsSetting, library_in}
 use Rattle.session_cli.specs.declared.setting.Setting.{Setting}
-use Rattle.session_cli.proofs.LetterPlaces.{image_word, no_shape_fault, systems_for}
+use Rattle.session_cli.proofs.LetterPlaces.{image_word, no_shape_fault}
 use Rattle.session_cli.proofs.PartLemmas.{built_values}
 
 one_track : (ss : List SystemValue) → length ss ≡ 1 → ss ≡ slice_index_or ss 0 absent_system ∷ []
@@ -52,10 +51,6 @@ module _ (rules : Rules) (word : WordValue) (s : Name) (k : ℕ) (t : Setting) (
     are_here : AreLetterParts t s k read
     are_here = subst (AreLetterParts t s k) (sym read_are) are
 
-    -- the systems are those of the relations, which have one shape
-    pub systems_here : AreSystemsFor read ss
-    systems_here = subst (AreSystemsFor read) (sym (ss_are ∙ one_track word.systems track)) (systems_for t s k system read setting.library.systems are_here)
-
     pub one_shape : (f : CombineFault) (i j : ℕ) (new : StepLog) → f ≡ Shape i j → IsCombineRefused middle read ss f new → ⊥
     one_shape f i j new is_shape refused =
         no_shape_fault t s k system read i j setting.library.systems are_here (subst (λ e. IsCombineRefused middle read ss e new) is_shape refused).0
@@ -65,17 +60,6 @@ module _ (rules : Rules) (word : WordValue) (s : Name) (k : ℕ) (t : Setting) (
     image_made v new done =
         let moved = subst (λ (ts : List SystemValue). IsCombineDone middle read ts v new) ss_are done in
         image_word rules word s k t is track mapped setting.library letters outputs read are_here (built_values (library_in t) s k letters read old middle built_here) v moved.done.step.combination
-
-    pub image_done : (v : WordValue) (new : StepLog) → IsCombineDone middle read ss v new → IsImageDone old rules word s v new
-    image_done v new done = record {
-      k = k;
-      mapped = mapped;
-      l = library_in t;
-      library = setting.library;
-      letters = letters;
-      outputs = outputs;
-      combined = record { parts = read; middle = middle; built = built_here; done = subst (λ (ts : List SystemValue). IsCombineDone middle read ts v new) ss_are done };
-    }
 
     pub combining_stopped : (f : CombineFault) (fault : StepFault) (new : StepLog) → f ≡ Step fault → IsCombineRefused middle read ss f new → IsImageStopped old rules word s fault new
     combining_stopped f fault new is_step refused = record {

@@ -1,6 +1,6 @@
 -- What is known of a word whose image is taken and whose table is loaded: the table can be read, a word stands under the name, over the systems
 -- of its header, and it has the letters of what the ledger has under that name.
-use Rattle.std.proofs.Common.{◌≡◌, ◌↔◌, ℕ, Bool, List, [], ◌∷◌, length, get_or, if◌then◌else◌, Some, bytes_eq, refl, sym, ap, ◌∙◌, subst, arith}
+use Rattle.std.proofs.Common.{◌≡◌, ℕ, Bool, List, [], ◌∷◌, length, get_or, if◌then◌else◌, Some, refl, sym, ap, ◌∙◌, subst, arith}
 use Rattle.std.proofs.lemmas.Slice.Eq.{bytes_eq-Decides}
 use Rattle.wal_outside.specs.Files.{Files}
 use Rattle.digit_tuple.specs.Steps.{StepLog}
@@ -9,11 +9,10 @@ use Rattle.dfa_loading.specs.Loading.{AreListedBy}
 use Rattle.dfa_loading.specs.declared.loaded.Loaded.{Loaded}
 use Rattle.formula_resolve.specs.FirstMentions.{first_files, first_systems}
 use Rattle.formula_resolve.specs.Headers.{word_tracks}
-use Rattle.formula_resolve.specs.declared.file.File.{File}
 use Rattle.formula_resolve.specs.declared.file.File.TheVariants.{Automaton, Word}
 use Rattle.formula_resolve.proofs.FirstLemmas.{first_once}
 use Rattle.formula_build.specs.KnownNames.{IsFileIn}
-use Rattle.formula_build.specs.Libraries.{NamedSystem, AreSealed, system_named, word_named}
+use Rattle.formula_build.specs.Libraries.{NamedSystem, AreSealed, word_named}
 use Rattle.formula_build.specs.Resolved.{plan_headers}
 use Rattle.formula_build.specs.Solutions.{way_named}
 use Rattle.formula_build.specs.TrackSystems.{Fits, IsWordOverSystems}

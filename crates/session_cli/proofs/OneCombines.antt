@@ -1,5 +1,5 @@
 -- A `combine` has one outcome.
-use Rattle.std.proofs.Common.{◌≡◌, ◌≢◌, ◌⊎◌, ℕ, suc, ◌<◌, List, [], ◌∷◌, length, None, Some, Result, Ok, Err, inl, inr, refl, sym, ap, ◌∙◌, subst, arith}
+use Rattle.std.proofs.Common.{◌≡◌, ◌≢◌, ◌⊎◌, ℕ, suc, List, [], ◌∷◌, length, None, Some, Result, Ok, Err, inl, inr, refl, sym, ap, ◌∙◌, subst, arith}
 use Rattle.std.specs.List.{AllByRecursion}
 use Rattle.wal_outside.specs.Files.{Files}
 use Rattle.combinations.specs.Combined.{AreSystemsFor}
@@ -9,8 +9,7 @@ use Rattle.combinations.specs.Parts.{PartValue}
 use Rattle.combinations.specs.declared.combine_fault.CombineFault.TheVariants as combines
 use Rattle.combinations.proofs.OutcomeLemmas.{one_outcome}
 use Rattle.command_head.specs.Grammar.{SpellsCombine}
-use Rattle.command_head.specs.Heads.{CombineHead, ValuedName}
-use Rattle.command_head.specs.Values.{value_at}
+use Rattle.command_head.specs.Heads.{ValuedName}
 use Rattle.command_head.proofs.CombineHeads.{one_combine}
 use Rattle.command_head.proofs.OneFault.{one_head}
 use Rattle.digit_tuple.specs.Steps.{StepLog}
@@ -21,45 +20,34 @@ use Rattle.digit_tuple.specs.declared.steps.StepLine.{StepLine}
 use Rattle.dfa_loading.specs.Headers.{headers_of}
 use Rattle.dfa_loading.specs.Loading.{AreListedBy}
 use Rattle.dfa_loading.specs.declared.loaded.Loaded.{Loaded}
-use Rattle.formula_build.specs.Libraries.{NamedRelation, NamedSystem, AreSealed, relation_named}
+use Rattle.formula_build.specs.Libraries.{NamedRelation}
 use Rattle.formula_resolve.specs.Headers.{Headers, automaton_tracks}
 use Rattle.formula_resolve.specs.declared.file.File.{File}
 use Rattle.num_system.specs.Sealed.{SystemValue}
-use Rattle.number_relations.specs.Relations.{RelationValue}
 use Rattle.system_files.specs.SystemFiles.{Custom}
 use Rattle.word_output.specs.Words.{WordValue}
 use Rattle.definitions.proofs.NameLemmas.{one_meaning}
-use Rattle.definitions.proofs.OneTable.{one_table}
 use Rattle.definitions.specs.Named.{AreNamed, IsSystemNamed}
 use Rattle.definitions.specs.Tracks as tracks
 use Rattle.definitions.specs.Tracks.{names_of}
 use Rattle.definitions.specs.Trees.{Ledger, custom_of}
 use Rattle.session_cli.specs.declared.fault.Fault.{Fault}
 use Rattle.session_cli.specs.declared.fault.Fault.TheVariants as faults
-use Rattle.session_cli.specs.declared.read_fault.ReadFault.TheVariants.{Step}
 use Rattle.session_cli.specs.Accepting.{stored}
 use Rattle.session_cli.specs.Checks.{Pure}
 use Rattle.session_cli.specs.CombineOutcomes.{WordTracks, PlainAnswers, ShapeAnswers, WordTracksAnswers, CombinedAnswers, AreTracksOfFirst, HaveSystemsOfFirst, HaveShapeFault, IsFirstOver, combine_success, first_plain, listed_files, listed_names, listed_systems, after_combined, after_shape, after_plain, after_listed_systems, after_listed_tables, after_combine_head, combine_checks}
 use Rattle.session_cli.specs.CombineSteps.{ArePartsFrom, AreListedParts, AreCombineSteps, IsCombiningStopped}
 use Rattle.session_cli.specs.FileChecks.{files_loaded}
-use Rattle.session_cli.specs.FormulaFaults.{fault_of_reading}
-use Rattle.session_cli.specs.FormulaSteps.{AreMeant}
 use Rattle.session_cli.specs.HeadAnswers.{HeadAnswers}
 use Rattle.session_cli.specs.SystemChecks.{systems_known}
 use Rattle.session_cli.specs.TableReads.{TableRead, relations_in}
 use Rattle.session_cli.specs.TrackSystems.{fault_of}
 use Rattle.session_cli.proofs.CheckSteps.{IsSingle, then_single}
-use Rattle.session_cli.proofs.OneBuildings.{IsStopped, stopped_by, table_ways}
 use Rattle.session_cli.proofs.OneHeads.{head_single}
 use Rattle.session_cli.proofs.OneLoadings.{files_single}
-use Rattle.session_cli.proofs.OneSealed.{meant_agree}
+use Rattle.session_cli.proofs.OneMeantReadings.{IsStopped, stopped_by, same_reading, read_stopped, both_stopped}
 use Rattle.session_cli.proofs.OneSystems.{systems_single}
-use Rattle.session_cli.proofs.OneTableReadings as readings
-use Rattle.session_cli.proofs.OneTableReadings.{StopsReading, one_reading, reading_apart, one_stopping}
 use Rattle.session_cli.proofs.OneTexts.{stored_single}
-use Rattle.session_cli.proofs.TableHeaders.{tables_one_way}
-use Rattle.session_cli.proofs.TableReads.{AreAlike}
-use Rattle.session_cli.proofs.WordLaws.{one_word_outcome}
 
 -- none is over sets, or one is the first
 abbrev IsPlainAnswer : Headers → List (List ℕ) → Result (Unit {0}) Fault → Type 0
@@ -282,12 +270,6 @@ combined_is admitted custom tables automata (Err (faults.LetterMissing letter)) 
 combined_is admitted custom tables automata (Err (faults.CombineShape one two)) a = absurd a
 
 module _ (admitted : StepLog) (custom : Custom) (tables : List Loaded) (automata : List ValuedName) (files : Files) (named : List File) (listed : AreListedBy files named tables) (some : automata ≢ []) where
-  ways : (systems : List NamedSystem) → AreMeant custom systems → AllByRecursion (readings.IsOneWay systems) tables
-  ways systems are = table_ways custom systems tables are (tables_one_way files named tables listed)
-
-  alike : (systems others : List NamedSystem) → AreSealed systems → AreMeant custom systems → AreSealed others → AreMeant custom others → AreAlike systems others
-  alike systems others sealed are sealed' are' = (meant_agree custom systems others sealed are sealed' are').systems
-
   -- the relations and what is before the last step are the same
   record AreSame (a b : AreListedParts admitted custom tables automata) : Type 0 where
     reading : a.reading ≡ b.reading
@@ -297,7 +279,7 @@ module _ (admitted : StepLog) (custom : Custom) (tables : List Loaded) (automata
   same_before : (a b : AreListedParts admitted custom tables automata) → AreSame a b
   same_before a b =
       let read : (a.reads ≡ b.reads) × (a.reading ≡ b.reading) =
-      one_reading one_table one_word_outcome a.systems b.systems a.sealed (alike a.systems b.systems a.sealed a.meant b.sealed b.meant) admitted a.reading b.reading tables a.reads b.reads (ways a.systems a.meant) a.read b.read in
+      same_reading admitted custom tables files named listed a.systems b.systems a.reading b.reading a.reads b.reads a.sealed a.meant b.sealed b.meant a.read b.read in
       let there : ArePartsFrom (relations_in a.reads) 0 automata b.parts = subst (λ (rs : List TableRead). ArePartsFrom (relations_in rs) 0 automata b.parts) (sym read.0) b.parts_are in
       let parts : a.parts ≡ b.parts = one_parts (relations_in a.reads) 0 automata a.parts b.parts a.parts_are there in
       let tracks_of : AreSystemsFor a.parts b.tracks = subst (λ (ps : List PartValue). AreSystemsFor ps b.tracks) (sym parts) b.tracks_are in
@@ -339,14 +321,8 @@ module _ (admitted : StepLog) (custom : Custom) (tables : List Loaded) (automata
       (one_outcome a.reading a.parts a.tracks).faults (combines.Step p.fault) (combines.Step q.fault) p.stops.log q.stops.log p.stops.refused there (λ is. p.told (step_fault_same p.fault steps.Memory is)) (λ is. q.told (step_fault_same q.fault steps.Memory is)) in
       p.is ∙ (ap (λ (f : StepFault). let x : Result (List StepLine) Fault = Err (fault_of f) in x) (step_fault_same p.fault q.fault e) ∙ sym q.is)
 
-  read_stopped : (a : AreListedParts admitted custom tables automata) (s : Result (List StepLine) Fault) → IsStopped admitted custom tables s → ⊥
-  read_stopped a s q =
-      reading_apart one_table one_word_outcome a.systems q.systems a.sealed (alike a.systems q.systems a.sealed a.meant q.sealed q.meant) admitted a.reading tables a.reads q.fault (ways a.systems a.meant) a.read q.stops
-
-  both_stopped : (r s : Result (List StepLine) Fault) → IsStopped admitted custom tables r → IsStopped admitted custom tables s → r ≡ s
-  both_stopped r s p q =
-      let same : p.fault ≡ q.fault = one_stopping one_table one_word_outcome p.systems q.systems p.sealed (alike p.systems q.systems p.sealed p.meant q.sealed q.meant) admitted tables p.fault q.fault (ways p.systems p.meant) p.stops q.stops in
-      p.is ∙ (ap (λ f. let x : Result (List StepLine) Fault = Err (fault_of_reading f) in x) same ∙ sym q.is)
+  not_both : (a : AreListedParts admitted custom tables automata) (s : Result (List StepLine) Fault) → IsStopped admitted custom tables s → ⊥
+  not_both a s q = read_stopped admitted custom tables files named listed a.systems a.reading a.reads s a.sealed a.meant a.read q
 
   combined_single : IsSingle (Pure (CombinedAnswers admitted custom tables automata))
   combined_single r s a b = by (combined_is admitted custom tables automata r a) (combined_is admitted custom tables automata s b)
@@ -354,13 +330,13 @@ module _ (admitted : StepLog) (custom : Custom) (tables : List Loaded) (automata
       by : IsOutcome admitted custom tables automata r → IsOutcome admitted custom tables automata s → r ≡ s
       by (inl p) (inl q) = both_made r s p q
       by (inl p) (inr (inl q)) = absurd (made_refused r s p q)
-      by (inl p) (inr (inr q)) = absurd (read_stopped p.done.before s q)
+      by (inl p) (inr (inr q)) = absurd (not_both p.done.before s q)
       by (inr (inl p)) (inl q) = absurd (made_refused s r q p)
       by (inr (inl p)) (inr (inl q)) = both_refused r s p q
-      by (inr (inl p)) (inr (inr q)) = absurd (read_stopped p.stops.before s q)
-      by (inr (inr p)) (inl q) = absurd (read_stopped q.done.before r p)
-      by (inr (inr p)) (inr (inl q)) = absurd (read_stopped q.stops.before r p)
-      by (inr (inr p)) (inr (inr q)) = both_stopped r s p q
+      by (inr (inl p)) (inr (inr q)) = absurd (not_both p.stops.before s q)
+      by (inr (inr p)) (inl q) = absurd (not_both q.done.before r p)
+      by (inr (inr p)) (inr (inl q)) = absurd (not_both q.stops.before r p)
+      by (inr (inr p)) (inr (inr q)) = both_stopped admitted custom tables files named listed r s p q
 
 some_listed : (h : Headers) (automata : List ValuedName) → HaveSystemsOfFirst h (listed_names automata) → automata ≢ []
 some_listed h [] one = absurd one

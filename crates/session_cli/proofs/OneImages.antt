@@ -1,16 +1,13 @@
 -- An `image` has one outcome.
-use Rattle.std.proofs.Common.{◌≡◌, ◌≢◌, ◌⊎◌, ℕ, Bool, true, false, List, [], ◌∷◌, length, if◌then◌else◌, None, Some, Result, Ok, Err, bytes_eq, inl, inr, refl, sym, ap, ◌∙◌, subst}
-use Rattle.std.specs.List.{AllByRecursion}
+use Rattle.std.proofs.Common.{◌≡◌, ◌≢◌, ◌⊎◌, ℕ, Bool, true, false, List, [], ◌∷◌, length, if◌then◌else◌, Some, Result, Ok, Err, bytes_eq, inl, inr, refl, sym, ap, ◌∙◌, subst}
 use Rattle.std.proofs.lemmas.Option.{none-some}
 use Rattle.wal_outside.specs.Files.{Files}
 use Rattle.wal_outside.specs.declared.folder.Folder.TheVariants.{Morphisms, Words}
 use Rattle.command_head.specs.Grammar.{SpellsImage}
-use Rattle.command_head.specs.Heads.{ImageHead}
 use Rattle.command_head.proofs.OneFault.{one_head}
 use Rattle.command_head.proofs.WordHeads.{one_image}
 use Rattle.digit_tuple.specs.Steps.{StepLog}
 use Rattle.digit_tuple.specs.declared.direction.Direction.{Direction}
-use Rattle.digit_tuple.specs.declared.step_fault.StepFault.{StepFault}
 use Rattle.digit_tuple.specs.declared.step_fault.StepFault.TheVariants as steps
 use Rattle.digit_tuple.specs.declared.steps.StepLine.{StepLine}
 use Rattle.dfa_loading.specs.Headers.{headers_of}
@@ -18,7 +15,7 @@ use Rattle.dfa_loading.specs.Loading.{AreListedBy}
 use Rattle.dfa_loading.specs.declared.fault.LoadFault.{LoadFault}
 use Rattle.dfa_loading.specs.declared.fault.LoadFault.TheVariants as loads
 use Rattle.dfa_loading.specs.declared.loaded.Loaded.{Loaded}
-use Rattle.formula_build.specs.Libraries.{NamedWord, NamedSystem, AreSealed, AreWords, word_named}
+use Rattle.formula_build.specs.Libraries.{NamedWord, AreWords, word_named}
 use Rattle.formula_resolve.specs.Arity.{kept_count}
 use Rattle.formula_resolve.specs.FirstMentions.{first_files, first_systems}
 use Rattle.formula_resolve.specs.Headers.{Headers, word_tracks}
@@ -29,7 +26,7 @@ use Rattle.morph_words.specs.declared.morphism_kind.MorphismKind.{MorphismKind}
 use Rattle.morph_words.proofs.MorphismShape.{spells_morphisms}
 use Rattle.morph_words.proofs.OneParse as parsing
 use Rattle.morph_words.proofs.UniformLemmas.{one_lengths}
-use Rattle.morphism_loading.specs.MorphismFiles.{AnswersMorphism, IsMorphismIn, RefusesMorphism}
+use Rattle.morphism_loading.specs.MorphismFiles.{AnswersMorphism}
 use Rattle.morphism_loading.proofs.OneAnswer.{files_have_one_answer}
 use Rattle.session_cli.specs.ImageSteps.{IsImageDone, IsImageRefused}
 use Rattle.session_cli.specs.OneImage.{HasOneImage, ImagesHaveOneOutcome}
@@ -37,23 +34,17 @@ use Rattle.session_cli.specs.declared.image_fault.ImageFault.{ImageFault}
 use Rattle.session_cli.specs.declared.image_fault.ImageFault.TheVariants as images
 use Rattle.word_output.specs.Words.{IsWordValue, WordValue}
 use Rattle.system_files.specs.SystemFiles.{Custom}
-use Rattle.definitions.proofs.FileTables.{file_is_table}
 use Rattle.definitions.proofs.NameLemmas.{one_meaning}
-use Rattle.definitions.proofs.OneTable.{one_table}
 use Rattle.definitions.proofs.TableRelations.{table_holds}
 use Rattle.definitions.specs.Named.{IsSystemNamed}
 use Rattle.definitions.specs.Texts.{Stores}
-use Rattle.definitions.specs.Tracks as tracks
 use Rattle.definitions.specs.Trees.{Entry, Ledger, custom_of}
 use Rattle.session_cli.specs.declared.fault.Fault.{Fault}
 use Rattle.session_cli.specs.declared.fault.Fault.TheVariants as faults
-use Rattle.session_cli.specs.declared.read_fault.ReadFault.{ReadFault}
-use Rattle.session_cli.specs.declared.read_fault.ReadFault.TheVariants.{Gap}
 use Rattle.session_cli.specs.Accepting.{stored}
 use Rattle.session_cli.specs.Checks.{Pure}
 use Rattle.session_cli.specs.FileChecks.{files_loaded}
-use Rattle.session_cli.specs.FormulaFaults.{fault_of_loading, fault_of_reading}
-use Rattle.session_cli.specs.FormulaSteps.{AreMeant}
+use Rattle.session_cli.specs.FormulaFaults.{fault_of_loading}
 use Rattle.session_cli.specs.HeadAnswers.{HeadAnswers}
 use Rattle.session_cli.specs.ImageFaults.{fault_of_imaging}
 use Rattle.session_cli.specs.ImageOutcomes.{WordTrack, IsOldWordRead, AreImageSteps, IsImagingStopped, OneTrackAnswers, LengthsAnswers, TrackAnswers, ImagedAnswers, OldAnswers, old_mentions, image_success, after_image_steps, after_track, after_lengths, after_one_track, after_old_systems, after_old_table, after_image_morphism, after_image_head, image_checks}
@@ -62,19 +53,12 @@ use Rattle.session_cli.specs.SystemChecks.{systems_known}
 use Rattle.session_cli.specs.TableReads.{TableRead, words_in}
 use Rattle.session_cli.proofs.CheckSteps.{IsSingle, then_single}
 use Rattle.session_cli.proofs.ImagedSteps.{of_one_kind}
-use Rattle.session_cli.proofs.OneBuildings.{IsStopped, stopped_by, table_ways, read_readable}
 use Rattle.session_cli.proofs.OneHeads.{head_single}
 use Rattle.session_cli.proofs.OneLoadings.{files_single, same_there}
-use Rattle.session_cli.proofs.OneSealed.{meant_agree}
+use Rattle.session_cli.proofs.OneMeantReadings.{IsStopped, stopped_by, missing_by, same_reading, were_readable, read_stopped, both_stopped}
 use Rattle.session_cli.proofs.OneSystems.{systems_single}
-use Rattle.session_cli.proofs.OneTableReadings as readings
-use Rattle.session_cli.proofs.OneTableReadings.{StopsReading, gap_stops, one_reading, reading_apart, one_stopping}
 use Rattle.session_cli.proofs.OneTexts.{stored_single}
-use Rattle.session_cli.proofs.TableFiles.{tables_listed}
 use Rattle.session_cli.proofs.TableFits.{are_words}
-use Rattle.session_cli.proofs.TableHeaders.{tables_one_way}
-use Rattle.session_cli.proofs.TableReads.{AreAlike}
-use Rattle.session_cli.proofs.WordLaws.{one_word_outcome}
 
 -- the morphism, or the fault, by some files of the ledger
 abbrev of_morphism : Result Rules LoadFault → Result Rules Fault
@@ -283,8 +267,7 @@ imaged_is admitted custom tables old name rules (Err (faults.Letters step)) (inl
 imaged_is admitted custom tables old name rules (Err (faults.Letters step)) (inr a) = inr (inl (record { fault = images.Step (steps.Letters step); told = λ is. cc; stops = a; is = refl }))
 imaged_is admitted custom tables old name rules (Err (faults.States step)) (inl a) = inr (inr (stopped_by admitted custom tables (steps.States step) (λ is. cc) a))
 imaged_is admitted custom tables old name rules (Err (faults.States step)) (inr a) = inr (inl (record { fault = images.Step (steps.States step); told = λ is. cc; stops = a; is = refl }))
-imaged_is admitted custom tables old name rules (Err (faults.WordGap of spelling)) a =
-    inr (inr (record { systems = a.systems; sealed = a.sealed; meant = a.meant; fault = Gap of spelling; stops = gap_stops a.systems admitted tables of spelling a.gap; is = refl }))
+imaged_is admitted custom tables old name rules (Err (faults.WordGap of spelling)) a = inr (inr (missing_by admitted custom tables of spelling a))
 imaged_is admitted custom tables old name rules (Err (faults.LetterMissing letter)) a = inr (inl (record { fault = images.Missing letter; told = λ is. cc; stops = a; is = refl }))
 imaged_is admitted custom tables old name rules (Err faults.Command) a = absurd a
 imaged_is admitted custom tables old name rules (Err (faults.Syntax grammar at)) a = absurd a
@@ -320,16 +303,10 @@ found_word (w ∷ words) name v are found = by (bytes_eq w.name name) (λ (there
     by false rest is = rest is
 
 module _ (law : ImagesHaveOneOutcome) (admitted : StepLog) (custom : Custom) (tables : List Loaded) (old name : List ℕ) (rules : Rules) (morphism : IsMorphism rules) (files : Files) (named : List File) (listed : AreListedBy files named tables) where
-  ways : (systems : List NamedSystem) → AreMeant custom systems → AllByRecursion (readings.IsOneWay systems) tables
-  ways systems are = table_ways custom systems tables are (tables_one_way files named tables listed)
-
-  alike : (systems others : List NamedSystem) → AreSealed systems → AreMeant custom systems → AreSealed others → AreMeant custom others → AreAlike systems others
-  alike systems others sealed are sealed' are' = (meant_agree custom systems others sealed are sealed' are').systems
-
   -- one word is read, and so one image is made
   one_at : (a : IsOldWordRead admitted custom tables old) → HasOneImage a.reading rules a.word name
   one_at a =
-      let readable = read_readable a.systems admitted a.reading tables a.reads (tables_listed file_is_table files named tables listed) (ways a.systems a.meant) a.read in
+      let readable = were_readable admitted custom tables files named listed a.systems a.reading a.reads a.meant a.read in
       law a.reading rules a.word name morphism (found_word (words_in a.reads) old a.word (are_words table_holds a.systems a.sealed tables a.reads admitted a.reading readable a.read) a.word_is)
 
   word_same : (u v : WordValue) → Some u ≡ Some v → u ≡ v
@@ -338,7 +315,7 @@ module _ (law : ImagesHaveOneOutcome) (admitted : StepLog) (custom : Custom) (ta
   same_before : (a b : IsOldWordRead admitted custom tables old) → (a.reading ≡ b.reading) × (a.word ≡ b.word)
   same_before a b =
       let read : (a.reads ≡ b.reads) × (a.reading ≡ b.reading) =
-      one_reading one_table one_word_outcome a.systems b.systems a.sealed (alike a.systems b.systems a.sealed a.meant b.sealed b.meant) admitted a.reading b.reading tables a.reads b.reads (ways a.systems a.meant) a.read b.read in
+      same_reading admitted custom tables files named listed a.systems b.systems a.reading b.reading a.reads b.reads a.sealed a.meant b.sealed b.meant a.read b.read in
       (read.1, word_same a.word b.word (sym a.word_is ∙ (ap (λ (rs : List TableRead). word_named (words_in rs) old) read.0 ∙ b.word_is)))
 
   -- what is said of the one word that is read holds of the other
@@ -368,14 +345,8 @@ module _ (law : ImagesHaveOneOutcome) (admitted : StepLog) (custom : Custom) (ta
       let same : p.fault ≡ q.fault = ((one_at a).faults p.fault q.fault p.stops.log q.stops.log p.stops.refused there p.told q.told).0 in
       p.is ∙ (ap (λ (f : ImageFault). let x : Result (List StepLine) Fault = Err (fault_of_imaging f) in x) same ∙ sym q.is)
 
-  read_stopped : (a : IsOldWordRead admitted custom tables old) (s : Result (List StepLine) Fault) → IsStopped admitted custom tables s → ⊥
-  read_stopped a s q =
-      reading_apart one_table one_word_outcome a.systems q.systems a.sealed (alike a.systems q.systems a.sealed a.meant q.sealed q.meant) admitted a.reading tables a.reads q.fault (ways a.systems a.meant) a.read q.stops
-
-  both_stopped : (r s : Result (List StepLine) Fault) → IsStopped admitted custom tables r → IsStopped admitted custom tables s → r ≡ s
-  both_stopped r s p q =
-      let same : p.fault ≡ q.fault = one_stopping one_table one_word_outcome p.systems q.systems p.sealed (alike p.systems q.systems p.sealed p.meant q.sealed q.meant) admitted tables p.fault q.fault (ways p.systems p.meant) p.stops q.stops in
-      p.is ∙ (ap (λ (f : ReadFault). let x : Result (List StepLine) Fault = Err (fault_of_reading f) in x) same ∙ sym q.is)
+  not_both : (a : IsOldWordRead admitted custom tables old) (s : Result (List StepLine) Fault) → IsStopped admitted custom tables s → ⊥
+  not_both a s q = read_stopped admitted custom tables files named listed a.systems a.reading a.reads s a.sealed a.meant a.read q
 
   imaged_single : IsSingle (Pure (ImagedAnswers admitted custom tables old name rules))
   imaged_single r s a b = by (imaged_is admitted custom tables old name rules r a) (imaged_is admitted custom tables old name rules s b)
@@ -383,13 +354,13 @@ module _ (law : ImagesHaveOneOutcome) (admitted : StepLog) (custom : Custom) (ta
       by : IsOutcome admitted custom tables old name rules r → IsOutcome admitted custom tables old name rules s → r ≡ s
       by (inl p) (inl q) = both_made r s p q
       by (inl p) (inr (inl q)) = absurd (made_refused r s p q)
-      by (inl p) (inr (inr q)) = absurd (read_stopped p.done.before s q)
+      by (inl p) (inr (inr q)) = absurd (not_both p.done.before s q)
       by (inr (inl p)) (inl q) = absurd (made_refused s r q p)
       by (inr (inl p)) (inr (inl q)) = both_refused r s p q
-      by (inr (inl p)) (inr (inr q)) = absurd (read_stopped p.stops.before s q)
-      by (inr (inr p)) (inl q) = absurd (read_stopped q.done.before r p)
-      by (inr (inr p)) (inr (inl q)) = absurd (read_stopped q.stops.before r p)
-      by (inr (inr p)) (inr (inr q)) = both_stopped r s p q
+      by (inr (inl p)) (inr (inr q)) = absurd (not_both p.stops.before s q)
+      by (inr (inr p)) (inl q) = absurd (not_both q.done.before r p)
+      by (inr (inr p)) (inr (inl q)) = absurd (not_both q.stops.before r p)
+      by (inr (inr p)) (inr (inr q)) = both_stopped admitted custom tables files named listed r s p q
 
 pub image_single : ImagesHaveOneOutcome → (limit : ℕ) (ledger : Ledger) (text : List ℕ) → IsSingle (image_checks limit ledger text)
 image_single law limit ledger text =

@@ -1,5 +1,5 @@
 -- A text with calls of macros has one expansion, or one fault.
-use Rattle.std.proofs.Common.{◌≡◌, ◌≢◌, ℕ, List, Result, Ok, Err, refl, sym, ap, ◌∙◌, subst}
+use Rattle.std.proofs.Common.{◌≡◌, ℕ, List, Result, Ok, Err, refl, sym, ap, ◌∙◌, subst}
 use Rattle.wal_outside.specs.Files.{Files}
 use Rattle.dfa_loading.specs.declared.fault.LoadFault.TheVariants as loads
 use Rattle.macro_loading.specs.MacroFiles.{Expands, IsAnswer}

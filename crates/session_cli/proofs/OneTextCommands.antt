@@ -7,7 +7,7 @@ use Rattle.digit_tuple.specs.Steps.{StepLog, with_line}
 use Rattle.digit_tuple.specs.declared.step_fault.StepFault.TheVariants as steps
 use Rattle.digit_tuple.specs.declared.steps.StepLine.{StepLine}
 use Rattle.command_head.specs.Grammar.{SpellsNamed, SpellsPromote}
-use Rattle.command_head.specs.Heads.{NamedHead, PromoteHead}
+use Rattle.command_head.specs.Heads.{NamedHead}
 use Rattle.command_head.proofs.NamedHeads.{one_named}
 use Rattle.command_head.proofs.OneFault.{one_head}
 use Rattle.command_head.proofs.WordHeads.{one_promote}

@@ -1,10 +1,8 @@
 -- From the head of a `promote` to what it stores.
-use Rattle.std.proofs.Common.{◌≡◌, ℕ, Bool, true, false, List, [], ◌∷◌, ◌++◌, Result, Ok, Err, inl, inr, refl, sym, ap, ◌∙◌, subst}
+use Rattle.std.proofs.Common.{◌≡◌, ℕ, Bool, List, [], ◌∷◌, Ok, inl, inr, refl, sym, ap, ◌∙◌, subst}
 use Rattle.std.specs.Int.{w32}
 use Rattle.std.specs.List.{All}
 use Rattle.std.specs.Prelude.{FitsSigned}
-use Rattle.std.specs.declared.alloc.Global.{Global}
-use Rattle.std.specs.declared.vec.Vec.{Vec}
 use Rattle.std.proofs.lemmas.List.{append-nil}
 use Rattle.wal_outside.specs.Places.{Place}
 use Rattle.wal_outside.specs.declared.folder.Folder.TheVariants.{Words}
@@ -25,7 +23,7 @@ use Rattle.session_cli.specs.declared.fault.Fault.{Fault}
 use Rattle.session_cli.specs.declared.plan.Made.{Made}
 use Rattle.session_cli.specs.declared.plan.Plan.{Plan}
 use Rattle.session_cli.specs.Accepting.{Success, stored}
-use Rattle.session_cli.specs.BaseWords.{IsOverBase, PrintsOverBase, base_name}
+use Rattle.session_cli.specs.BaseWords.{base_name}
 use Rattle.session_cli.specs.Checks.{Pure, Fails}
 use Rattle.session_cli.specs.HeadAnswers.{HeadAnswers}
 use Rattle.session_cli.specs.Lines.{shown_steps}

@@ -10,9 +10,9 @@ use Rattle.session_cli.specs.declared.plan.Made.{Made}
 use Rattle.session_cli.specs.Accepting.{Success, stored}
 use Rattle.session_cli.specs.Checks.{Fails}
 use Rattle.session_cli.specs.Lines.{shown_steps}
-use Rattle.session_cli.specs.Plans.{IsMade, Makes}
+use Rattle.session_cli.specs.Plans.{Makes}
 use Rattle.session_cli.specs.TextOutcomes.{text_success}
-use Rattle.session_cli.specs.TextPlans.{IsTextMade, IsTextRefused, StoresText}
+use Rattle.session_cli.specs.TextPlans.{IsTextRefused, StoresText}
 use Rattle.session_cli.specs.WordPrinting.{HasNoWordText, named_text}
 
 nothing_shown : (shown : Bool) → [] ≡ shown_steps shown [] ++ []

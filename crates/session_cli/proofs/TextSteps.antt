@@ -21,7 +21,7 @@ use Rattle.session_cli.specs.HeadAnswers.{HeadAnswers}
 use Rattle.session_cli.specs.MorphismFaults.{fault_of_rules}
 use Rattle.session_cli.specs.Plans.{IsMade, Makes, Plans}
 use Rattle.session_cli.specs.TextOutcomes.{RulesAnswers, text_success, after_rules_head, macro_checks, morphism_checks}
-use Rattle.session_cli.specs.TextPlans.{IsTextMade, IsTextRefused, StoresText}
+use Rattle.session_cli.specs.TextPlans.{IsTextRefused, StoresText}
 use Rattle.session_cli.proofs.CheckSteps.{fails_first, fails_after, makes_after, plans_after}
 use Rattle.session_cli.proofs.StoringTexts.{text_stored, unstored}
 

@@ -1,5 +1,5 @@
 -- The files that a command names, loaded one after another.
-use Rattle.std.specs.Prelude.{ℕ, List, Result, Ok, Err}
+use Rattle.std.specs.Prelude.{List, Result, Ok, Err}
 use Rattle.wal_outside.specs.Files.{Files}
 use Rattle.wal_outside.specs.Places.{Place}
 use Rattle.dfa_loading.specs.Loading.{AreListedBy, FirstRefuses, ReadsAt}

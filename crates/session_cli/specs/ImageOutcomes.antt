@@ -1,6 +1,6 @@
 -- What an `image` does, by its checks in their order: the shape of its head, the file of the morphism, that of the word, the word's systems, that
 -- it has one track, that all images have one length, its steps with the letters that have no rule, and the length of the text to store.
-use Rattle.std.specs.Prelude.{◌≡◌, ◌≢◌, ◌⊎◌, ℕ, ℤ, List, [], ◌∷◌, length, None, Some, slice_index_or, Result, Ok, Err}
+use Rattle.std.specs.Prelude.{◌≡◌, ◌≢◌, ◌⊎◌, ℕ, List, [], ◌∷◌, length, None, Some, Result, Ok, Err}
 use Rattle.digit_tuple.specs.Steps.{StepLog}
 use Rattle.digit_tuple.specs.declared.direction.Direction.{Direction}
 use Rattle.digit_tuple.specs.declared.step_fault.StepFault.{StepFault}

@@ -1,11 +1,7 @@
--- The text of a formula, with its calls of macros expanded by the texts that stand among macros. Each of these is read once, where a call of it is
--- met first.
-use Rattle.std.specs.Prelude.{◌≡◌, ◌≢◌, ℕ, List, Vec, Result, Ok, Err, MatchResult, ⊤}
-use Rattle.std.specs.declared.alloc.Global.{Global}
+-- The text of a formula, with its calls of macros expanded by the texts that stand among macros. What is read is a macro of which a call is met.
+use Rattle.std.specs.Prelude.{◌≡◌, ℕ, List, Result, Ok, Err}
 use Rattle.wal_outside.specs.Files.{Files}
 use Rattle.wal_outside.specs.Places.{Place}
-use Rattle.wal_outside.specs.declared.folder.Folder.{Folder}
-use Rattle.wal_outside.specs.declared.folder.Folder.TheVariants.{Macros}
 use Rattle.dfa_loading.specs.declared.fault.LoadFault.TheVariants as loads
 use Rattle.macro_expand.specs.Expansion.{expansion}
 use Rattle.macro_loading.specs.MacroFiles as macros

@@ -1,7 +1,6 @@
 -- What a `promote` does, by its checks in their order: the shape of its head, the file of the morphism, that the morphism has a fixed point,
 -- the step, and the length of the text to store.
 use Rattle.std.specs.Prelude.{◌≡◌, ℕ, List, [], ◌∷◌, None, Result, Ok, Err}
-use Rattle.digit_tuple.specs.Steps.{StepLog}
 use Rattle.digit_tuple.specs.declared.step_fault.StepFault.TheVariants as steps
 use Rattle.digit_tuple.specs.declared.steps.StepLine.{StepLine}
 use Rattle.wal_outside.specs.declared.folder.Folder.TheVariants.{Words}

@@ -1,13 +1,12 @@
 //! The command `combine`: the word that listed automata make together.
 
-ghost use Rattle.std.specs.Prelude.{◌≡◌, ◌≢◌, ◌↔◌, ◌<◌, ◌≤◌, ◌^◌, ℕ, List, [], length, None, Some, IsTrue, IfOk, MatchOption, MatchResult};
+ghost use Rattle.std.specs.Prelude.{◌≡◌, ◌≢◌, ◌↔◌, ◌<◌, ◌≤◌, ◌^◌, ℕ, List, [], length, None, IsTrue, IfOk, MatchOption, MatchResult};
 ghost use Rattle.std.specs.List.{AllByRecursion};
 ghost use Rattle.combinations.specs.CombineSteps.{IsCombineDone, IsCombineRefused};
 ghost use Rattle.combinations.specs.Parts.{systems_at};
 ghost use Rattle.combinations.specs.Shapes.{HaveOneShape as HaveOneTracks};
 ghost use Rattle.combinations.specs.declared.combine_fault.CombineFault.TheVariants.{Step};
 ghost use Rattle.dfa_loading.specs.Headers.{headers_of as headers_in};
-ghost use Rattle.formula_resolve.specs.FirstMentions.{first_files as first_files_of};
 ghost use Rattle.formula_resolve.specs.Headers.{automaton_tracks as tracks_in};
 ghost use Rattle.definitions.specs.Texts.{Stores};
 ghost use Rattle.definitions.specs.Trees.{Ledger, custom_of};
@@ -16,7 +15,7 @@ ghost use Rattle.session_cli.specs.Checks.{Fails, Pure};
 ghost use Rattle.session_cli.specs.CombineMakes.{IsReadList, IsPossible, HasRelations, MakesAfterListed, MakesAfterListedSystems, MakesWord, automata_in, first_names, listed_systems_of};
 ghost use Rattle.session_cli.specs.CombineOutcomes.{listed_names, listed_mentions, first_plain, PlainAnswers, HaveSystemsOfFirst, ShapeAnswers, IsFirstOver, after_combine_head, combine_checks};
 ghost use Rattle.session_cli.specs.CombineSteps.{ArePartsFrom};
-ghost use Rattle.session_cli.specs.FormulaPlans.{LoadsTables, HasSystems};
+ghost use Rattle.session_cli.specs.FormulaPlans.{HasSystems};
 ghost use Rattle.session_cli.specs.FormulaSteps.{AreMeant};
 ghost use Rattle.session_cli.specs.Plans.{Makes, Plans};
 ghost use Rattle.session_cli.specs.StoreReads.{FromFiles, FromTexts};
@@ -26,6 +25,7 @@ use crate::plan::{Made, Plan};
 use crate::printed::Printed;
 use crate::sealed_systems::SealedSystems;
 use crate::step_options::StepOptions;
+use crate::table_loading::load_mentioned;
 use crate::table_reading::read_tables;
 use crate::user_systems::UserSystems;
 use crate::word_text::{letters_fit, word_text};
@@ -33,13 +33,13 @@ use combinations::combine::combine;
 use combinations::combine_fault::CombineFault;
 use combinations::part::Part;
 use command_head::{CombineParts, ValuedName, combine_parts};
-use dfa_loading::{Loaded, headers_of, load};
+use dfa_loading::{Loaded, headers_of};
 use digit_tuple::faults::OutOfMemory;
 use digit_tuple::name::Name;
 use digit_tuple::step_fault::StepFault;
 use digit_tuple::steps::Steps;
 use formula_build::{Library, Names};
-use formula_resolve::{Headers, Mention, first_files, first_systems};
+use formula_resolve::{Headers, Mention, first_systems};
 use std::alloc::Global;
 use wal_outside::{Folder, Store};
 use word_output::word::Word;
@@ -83,7 +83,7 @@ fn combine_made<T: Store>(
     ensures { FromFiles (λ found made. (ledger : Ledger) (word : List ℕ) → Stores ledger found → Makes (custom_of ledger) (after_combine_head options.limit ledger (record { word = word; automata = automata_in automata.items })) options.shown made) (T.view store.old) result (T.view store.new) }
 {
     let mentioned = mentions_of(alloc, &automata)?;
-    let tables = load_tables(alloc, &mentioned, store)?;
+    let tables = load_mentioned(alloc, &mentioned, store)?;
     made_of(
         alloc,
         options,
@@ -102,18 +102,6 @@ fn mentions_of(alloc: Global, automata: &[ValuedName]) -> Result<Vec<Mention>, O
         mentioned.push(Mention::Called(valued.name.copy(alloc)?, 0))?;
     }
     Ok(mentioned)
-}
-
-/// The tables of the files that are mentioned, each read once.
-fn load_tables<T: Store>(
-    alloc: Global,
-    mentioned: &[Mention],
-    store: &mut T,
-) -> Result<Vec<Loaded>, Fault>
-    ensures { FromFiles (LoadsTables (first_files_of mentioned.now)) (T.view store.old) result (T.view store.new) }
-{
-    let files = first_files(alloc, mentioned)?;
-    Ok(load(alloc, &files, store)?)
 }
 
 /// Listed automata, and the tables of their files.

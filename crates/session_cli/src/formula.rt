@@ -24,15 +24,16 @@ use crate::plan::{Made, Plan};
 use crate::printed::Printed;
 use crate::sealed_systems::SealedSystems;
 use crate::step_options::StepOptions;
+use crate::table_loading::load_mentioned;
 use crate::table_reading::read_tables;
 use crate::user_systems::UserSystems;
 use command_head::{HeadFault, NamedParts, named_parts};
-use dfa_loading::{Loaded, headers_of, load};
+use dfa_loading::{Loaded, headers_of};
 use digit_tuple::steps::Steps;
 use formula_build::{Names, build, resolve};
 use formula_parse::parse;
 use formula_parse::tree::Formula;
-use formula_resolve::{first_files, first_systems, mentions};
+use formula_resolve::{first_systems, mentions};
 use macro_loading::expanded;
 use std::alloc::Global;
 use wal_outside::{Folder, Store};
@@ -92,7 +93,7 @@ fn formula_made<T: Store>(
     text_made(alloc, options, &text, systems, store)
 }
 
-/// The text with its calls of macros expanded, each macro read once, where it is met first.
+/// The text with its calls of macros expanded: all calls of a macro by one text, which is read where the first is met.
 fn expand_macros<T: Store>(alloc: Global, body: &[u8], store: &mut T) -> Result<Vec<u8>, Fault>
     ensures { FromFiles (ExpandsTo body.now) (T.view store.old) result (T.view store.new) }
 {
@@ -129,8 +130,7 @@ fn load_tables<T: Store>(
     ensures { FromFiles (LoadsTables (first_files_of (mentions_of (formula_view formula.now)))) (T.view store.old) result (T.view store.new) }
 {
     let mentioned = mentions(alloc, formula)?;
-    let files = first_files(alloc, &mentioned)?;
-    Ok(load(alloc, &files, store)?)
+    load_mentioned(alloc, &mentioned, store)
 }
 
 /// A formula, and the tables of the files that it names.

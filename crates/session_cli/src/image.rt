@@ -15,7 +15,7 @@ ghost use Rattle.system_files.specs.SystemFiles.{Custom};
 ghost use Rattle.session_cli.specs.Checks.{Fails, Pure};
 ghost use Rattle.session_cli.specs.FormulaPlans.{HasSystems};
 ghost use Rattle.session_cli.specs.FormulaSteps.{AreMeant};
-ghost use Rattle.session_cli.specs.ImageMakes.{ReadsImage, IsReadImage, IsMappable, HasOldWord, MakesImage, MakesAfterOld, MakesAfterOldSystems, old_systems_of, old_tracks_of};
+ghost use Rattle.session_cli.specs.ImageMakes.{ReadsImage, IsReadImage, IsMappable, HasOldWord, MakesImage, MakesAfterOld, MakesAfterOldSystems, old_systems_of};
 ghost use Rattle.session_cli.specs.ImageOutcomes.{OneTrackAnswers, LengthsAnswers, after_image_head, image_checks, old_mentions};
 ghost use Rattle.session_cli.specs.Plans.{Makes, Plans};
 ghost use Rattle.session_cli.specs.StoreReads.{FromFiles, FromTexts};

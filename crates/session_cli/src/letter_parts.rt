@@ -2,10 +2,7 @@
 
 ghost use Rattle.std.specs.Prelude.{◌≡◌, ◌⊎◌, IfErr, IfOk};
 ghost use Rattle.digit_tuple.specs.declared.step_fault.StepFault.TheVariants.{Memory};
-ghost use Rattle.morph_words.specs.Rules.{Rules};
-ghost use Rattle.formula_build.specs.Solutions.{BuildsFormula, way_named};
-ghost use Rattle.num_system.specs.Tracks.{way_of};
-ghost use Rattle.word_output.specs.Words.{WordValue};
+ghost use Rattle.formula_build.specs.Solutions.{BuildsFormula};
 ghost use Rattle.session_cli.specs.ImageSteps.{AreBuilt, IsLetterStopped, letter_plan};
 ghost use Rattle.session_cli.specs.LetterParts.{AreLetterParts, IsLetterRelation, IsUsable};
 ghost use Rattle.session_cli.specs.LetterSettings.{library_in};

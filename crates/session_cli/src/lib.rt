@@ -29,6 +29,8 @@ mod step_options;
 mod reg;
 // why the tables of a formula are not read
 mod read_fault;
+// the tables of files that a command mentions
+mod table_loading;
 // the relations and the words of loaded tables
 mod table_reading;
 // the text of what a formula makes
@@ -43,8 +45,6 @@ mod word_text;
 mod promote;
 // the command `combine`
 mod combine;
-// the tables of files that a command mentions
-mod table_loading;
 // why a word has no image
 mod image_fault;
 // what the names of the formulas of letters stand for

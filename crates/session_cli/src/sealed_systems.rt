@@ -1,7 +1,6 @@
 //! The built-in systems that the formulas of a session name.
 
-ghost use Rattle.std.specs.Prelude.{◌≡◌, IfOk, MatchOption};
-ghost use Rattle.formula_parse.specs.FormulaTrees.{default_system};
+ghost use Rattle.std.specs.Prelude.{IfOk, MatchOption};
 ghost use Rattle.num_system.specs.Sealed.{system_of};
 ghost use Rattle.system_names.specs.Names.{IsBuiltInName};
 ghost use Rattle.definitions.specs.Named.{IsBuiltInSystem};

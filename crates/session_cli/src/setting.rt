@@ -1,8 +1,8 @@
 //! What the names of the formulas stand for.
 
-ghost use Rattle.std.specs.Prelude.{◌≡◌, ◌∷◌, [], ℕ, length, IfOk};
+ghost use Rattle.std.specs.Prelude.{◌≡◌, length, IfOk};
 ghost use Rattle.word_images.specs.ImageWords.{IsMapped};
-ghost use Rattle.session_cli.specs.LetterSettings.{IsSetting, library_in};
+ghost use Rattle.session_cli.specs.LetterSettings.{IsSetting};
 
 use digit_tuple::faults::OutOfMemory;
 use digit_tuple::name::Name;

@@ -1,5 +1,5 @@
 -- The trees that are made of their parts are the formulas that are meant.
-use Rattle.std.proofs.Common.{◌≡◌, ℕ, suc, ◌+◌, ◌-◌, ℤ, List, [], ◌∷◌, ◌++◌, map, refl, ap, ◌∙◌, arith}
+use Rattle.std.proofs.Common.{◌≡◌, ℕ, ◌+◌, ◌-◌, ℤ, List, [], ◌∷◌, ◌++◌, map, refl, ap, ◌∙◌}
 use Rattle.std.specs.List.{fold}
 use Rattle.std.specs.Prelude.{Vec, Box}
 use Rattle.std.specs.declared.alloc.Global.{Global}
@@ -73,11 +73,6 @@ quantified_made ns os body last first q s k r b names named body_is operands is_
     view_quantified quantifiers.Exists ns body
     ∙ (λ i. trees.quantified tokens.some (names_view (names i)) (formula_view (body_is i)))
     ∙ (λ i. trees.quantified tokens.some (trees.names trees.no_names (named i)) ((view_chain os last ∙ (λ j. trees.chain (operands_view (operands j)) (formula_view last.value)) ∙ (λ j. trees.chain (trees.operands trees.no_operands (is_first j) trees.and) (is_last j))) i))
-
--- one operand more
-pub operand_more : (s : tokens.Name) (k r : ℕ) (b : ℤ) (old new : List Operand) (f : Formula) → new ≡ old ++ record { formula = f; connective = connectives.Or } ∷ [] → operands_view old ≡ places_before s k b r → formula_view f ≡ at_place s k b r → operands_view new ≡ places_before s k b (r + 1)
-operand_more s k r b old new f pushed before is =
-    ap operands_view pushed ∙ operands_snoc old (record { formula = f; connective = connectives.Or }) ∙ (λ i. trees.operands (before i) (is i) trees.or) ∙ ap (places_before s k b) (let more : suc r ≡ r + 1 = omega arith in more)
 
 -- the whole chain
 pub chain_made : (s : tokens.Name) (k n : ℕ) (b : ℤ) (os : Vec Operand Global) (last : Box Formula Global) (f : Formula) → operands_view os.items ≡ places_before s k b n → n ≡ k - 1 → last.value ≡ f → formula_view f ≡ at_place s k b (k - 1) → formula_view (formula.Chain os last) ≡ image_formula s k b

@@ -1,10 +1,8 @@
 //! The formula of one letter.
 
-ghost use Rattle.std.specs.Prelude.{◌≡◌, ◌<◌, ◌≤◌, IfOk};
-ghost use Rattle.formula_parse.specs.Views.{formula_view, operands_view, term_view, fact_view};
-ghost use Rattle.formula_parse.specs.Trees as trees;
-ghost use Rattle.formula_parse.specs.Tokens.{equal};
-ghost use Rattle.word_images.specs.ImageFormula.{at_place, has_letter, image_formula, is_place, place_term, place_variable, places_before, whole_variable, word_name};
+ghost use Rattle.std.specs.Prelude.{◌≡◌, ◌<◌, IfOk};
+ghost use Rattle.formula_parse.specs.Views.{formula_view, term_view};
+ghost use Rattle.word_images.specs.ImageFormula.{at_place, has_letter, image_formula, is_place, place_term, word_name};
 
 use digit_tuple::faults::OutOfMemory;
 use digit_tuple::name::Name;

@@ -1,4 +1,4 @@
-use Rattle.std.proofs.Common.{map, take}
+use Rattle.std.proofs.Common.{take}
 use Rattle.session_cli.specs.CombineMakes.{automata_in}
 use Rattle.session_cli.specs.CombineSteps.{ArePartsFrom}
 use Rattle.session_cli.proofs.combine.parts_of.Given as goal

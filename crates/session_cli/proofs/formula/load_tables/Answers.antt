@@ -1,7 +1,5 @@
-use Rattle.std.proofs.Common.{refl, sym, ◌∙◌, subst}
+use Rattle.std.proofs.Common.{refl}
 use Rattle.std.proofs.lemmas.Result.{err_from_is_err_and}
-use Rattle.formula_resolve.specs.FirstMentions.{IsOnce}
-use Rattle.formula_resolve.proofs.FirstLemmas.{first_once}
 use Rattle.session_cli.proofs.StoreReads.{from_none}
 use Rattle.session_cli.proofs.formula.load_tables.Goals as goal
 
@@ -9,11 +7,3 @@ pub returns-in_err-mentioned : goal.returns-in_err-mentioned
 returns-in_err-mentioned g c =
     let p = err_from_is_err_and c.from_residual.result c.from_residual.ensures.1 in
     rw (p.1, p.2) (from_none _ _ _ refl (λ found. tt))
-
-pub returns-in_err-files : goal.returns-in_err-files
-returns-in_err-files g c =
-    let p = err_from_is_err_and c.from_residual-in_err-files.result c.from_residual-in_err-files.ensures.1 in
-    rw (p.1, p.2) (from_none _ _ _ refl (λ found. tt))
-
-pub load-requires : goal.load-requires
-load-requires g c = subst IsOnce (sym (c.deref-2.ensures.value ∙ c.in_ok-files.ensures)) (first_once c.deref.result.now)

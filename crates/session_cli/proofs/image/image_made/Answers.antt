@@ -1,4 +1,3 @@
-use Rattle.std.proofs.Common.{List}
 use Rattle.std.proofs.lemmas.Result.{err_from_is_err_and}
 use Rattle.command_head.specs.HeadViews.{image_view}
 use Rattle.formula_resolve.specs.FirstMentions.{first_files}
