@@ -33,6 +33,10 @@ mod alphabets;
 #[cfg(test)]
 mod tables;
 
+// dense tables, and what tables accept
+#[cfg(test)]
+mod dense_tables;
+
 // the subset construction, the reversal and the least automaton
 #[cfg(test)]
 mod least;

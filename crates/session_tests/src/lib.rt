@@ -26,6 +26,10 @@ mod command_rows;
 #[cfg(test)]
 mod set_rows;
 
+// expressions with large automata
+#[cfg(test)]
+mod large_expressions;
+
 // the rows of expressions over base systems, and their limits
 #[cfg(test)]
 mod system_rows;
