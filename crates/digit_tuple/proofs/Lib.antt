@@ -14,6 +14,7 @@ pub mod MemberLemmas
 pub mod TableLemmas
 pub mod PathLemmas
 pub mod DfaLemmas
+pub mod FlaggedLemmas
 pub mod AcceptedLemmas
 pub mod ShortlexLemmas
 pub mod WordLemmas
@@ -27,8 +28,8 @@ pub mod NoWordLemmas
 pub mod NumberingLemmas
 pub mod KeySpanLemmas
 pub mod KeyPartLemmas
-pub mod LinkLemmas
-pub mod FindLemmas
+pub mod KeyEndLemmas
+pub mod SlotLemmas
 pub mod KeyHashLemmas
 pub mod KeyEdgeLemmas
 pub mod GroupLemmas
@@ -38,10 +39,12 @@ pub mod StateLemmas
 pub mod ReversedLemmas
 pub mod AcceptingStateLemmas
 pub mod RowLemmas
+pub mod KeptLemmas
 pub mod FrontierLemmas
 pub mod ExploredLemmas
 pub mod LetterEdges
 pub mod ReflaggedLemmas
+pub mod StartLemmas
 pub mod NumberListLemmas
 pub mod JoinedRows
 pub mod DecisionLemmas

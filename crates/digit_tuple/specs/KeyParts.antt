@@ -1,5 +1,6 @@
 -- Keys that stand one after another in a list of numbers.
-use Rattle.std.specs.Prelude.{ℕ, ◌≤◌, List, [], ◌∷◌, slice_range, slice_index}
+use Rattle.std.specs.Prelude.{ℕ, ◌+◌, ◌*◌, ◌≤◌, List, [], ◌∷◌, map, slice_range, slice_index}
+use Rattle.std.specs.List.{range_with_len}
 
 -- where the part with a number starts: the first at 0, each other where the one before ends
 abbrev pub start_of : List ℕ → ℕ → ℕ
@@ -14,3 +15,7 @@ parts_from numbers start (end ∷ ends) = slice_range numbers start end ∷ part
 abbrev pub AreEnds : ℕ → ℕ → List ℕ → Type 0
 AreEnds count start [] = start ≤ count
 AreEnds count start (end ∷ ends) = (start ≤ end) × AreEnds count end ends
+
+-- where keys of one width end
+abbrev pub even_ends : ℕ → ℕ → List ℕ
+even_ends width count = map (λ n. (n + 1) * width) (range_with_len 0 count)

@@ -26,13 +26,15 @@ pub mod Keys
 pub mod KeySpans
 pub mod KeyParts
 pub mod KeyHashes
-pub mod Buckets
+pub mod Slots
 pub mod Groups
 pub mod ExploredWidth
 pub mod Explored
 pub mod NoWords
 pub mod Tables
+pub mod Starts
 pub mod NumberLists
 pub mod Decisions
 pub mod CellCounts
+pub mod EdgeCounts
 pub mod SparseRows

@@ -1,8 +1,8 @@
 //! Rows of edges as decisions by tracks.
 
-ghost use Rattle.std.specs.Prelude.{◌≡◌, ℕ, ◌+◌, ◌*◌, ◌<◌, ◌↔◌, ◌^◌, ◌++◌, ◌∷◌, [], List, length, map, Some, IfOk, OnOk, IsTrue, slice_index_or, sum_by};
+ghost use Rattle.std.specs.Prelude.{◌≡◌, ◌≢◌, ℕ, ◌+◌, ◌*◌, ◌<◌, ◌↔◌, ◌^◌, ◌++◌, ◌∷◌, [], List, length, map, Some, IfOk, OnOk, IfSome, IfNone, IsTrue, slice_index, slice_index_or, sum_by};
 ghost use Rattle.digit_tuple.specs.Decisions.{rows_in, sizes_in, cells_in, IsSound, EndsIn, CanFollow, LeadsAs, behind};
-ghost use Rattle.std.specs.List.{AllByRecursion};
+ghost use Rattle.std.specs.List.{All, AllPairs, AllByRecursion};
 ghost use Rattle.digit_tuple.specs.Deterministic.{target_by};
 ghost use Rattle.digit_tuple.specs.Letters.{product};
 ghost use Rattle.digit_tuple.specs.NumberLists.{extended};
@@ -35,6 +35,7 @@ impl Decisions {
     pub(crate) fn add_row(&mut self, letter: u32, target: u32) -> Result<(), OutOfMemory>
         requires sound { IsSound self.old }
         requires letter { letter < product (sizes_in self.old) }
+        requires narrow { letter < 2 ^ 16 }
         ensures sound { OnOk result (IsSound self.new) }
         ensures sizes { OnOk result (sizes_in self.new ≡ sizes_in self.old) }
         ensures rows { OnOk result (rows_in self.new ≡ rows_in self.old ++ (edge_to letter target ∷ []) ∷ []) }
@@ -57,6 +58,7 @@ impl Decisions {
     pub(crate) fn extend_row(&mut self, letter: u32, target: u32) -> Result<(), OutOfMemory>
         requires sound { IsSound self.old }
         requires letter { letter < product (sizes_in self.old) }
+        requires narrow { letter < 2 ^ 16 }
         requires some { 0 < length (rows_in self.old) }
         requires follows { CanFollow self.old letter }
         ensures sound { OnOk result (IsSound self.new) }
@@ -155,7 +157,8 @@ impl Decisions {
             Decisions::OnTrack(track, below) => {
                 let start = track.digits.start(place);
                 for (count, digit) in track.digits.list(place).iter().enumerate() {
-                    below.row_into(start + count, base + *digit * track.weight, row)?;
+                    let more = base + u32::from(*digit) * track.weight;
+                    below.row_into(start + count, more, row)?;
                 }
                 Ok(())
             }
@@ -181,11 +184,11 @@ impl Decisions {
                 if digits.is_empty() {
                     return None;
                 }
-                match digits.binary_search(&(letter / track.weight)) {
-                    Ok(count) => {
+                match index_of(digits, letter / track.weight) {
+                    Some(count) => {
                         below.step(track.digits.start(place) + count, letter % track.weight)
                     }
-                    Err(_) => None,
+                    None => None,
                 }
             }
         }
@@ -206,7 +209,7 @@ impl Decisions {
             Decisions::OnTrack(track, below) => {
                 let start = track.digits.start(place);
                 for (count, digit) in track.digits.list(place).iter().enumerate() {
-                    let more = base + *digit * track.weight;
+                    let more = base + u32::from(*digit) * track.weight;
                     if !below.is_within(start + count, more, other, at) {
                         return false;
                     }
@@ -271,6 +274,21 @@ impl Decisions {
                 Ok(Decisions::OnTrack(track, Box::new(alloc, below)?))
             }
         }
+    }
+}
+
+// The index of a digit among ascending ones, if it is one of them.
+fn index_of(digits: &[u16], digit: u32) -> Option<usize>
+    requires { AllPairs (λ d e. d < e) digits.now }
+    ensures found { IfSome result (λ index. (index < length digits.now) × (slice_index digits.now index ≡ digit)) }
+    ensures none { IfNone result (All (λ d. d ≢ digit) digits.now) }
+{
+    if digit > u32::from(u16::MAX) {
+        return None;
+    }
+    match digits.binary_search(&(digit as u16)) {
+        Ok(index) => Some(index),
+        Err(_) => None,
     }
 }
 

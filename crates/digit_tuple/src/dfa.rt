@@ -1,16 +1,18 @@
 //! Deterministic automata.
 
-ghost use Rattle.std.specs.Prelude.{◌≡◌, ℕ, ◌<◌, ◌≤◌, ◌↔◌, [], length, IfOk, IfSome, IsTrue, OnOk};
-ghost use Rattle.std.specs.List.{AllPairs, AllWithin};
-ghost use Rattle.digit_tuple.specs.Deterministic.{Automaton, State, IsTable, IsRow, IsByEarlier, target_by, step_of, accepting_of, accepts_of, edges_of, state_of, states_of, letters_of};
+ghost use Rattle.std.specs.Prelude.{◌≡◌, ℕ, ◌*◌, ◌<◌, ◌≤◌, ◌↔◌, [], length, IfOk, IfSome, IsTrue, OnOk};
+ghost use Rattle.digit_tuple.specs.Deterministic.{Automaton, State, IsTable, IsRow, step_of, accepting_of, accepts_of, edges_of, state_of, states_of, letters_of};
 ghost use Rattle.digit_tuple.specs.Letters.{product};
-ghost use Rattle.digit_tuple.specs.DfaRows.{states_in};
-ghost use Rattle.digit_tuple.specs.Reflagged.{AreReflagged, IsReflagged};
+ghost use Rattle.digit_tuple.specs.DfaRows.{states_in, flagged};
+ghost use Rattle.digit_tuple.specs.EdgeCounts.{edge_count, cell_count};
+ghost use Rattle.digit_tuple.specs.Reflagged.{IsReflagged};
 
 use crate::alphabet::Alphabet;
-use crate::dense::target_in;
+use crate::dense::Dense;
 use crate::edges::Edge;
 use crate::faults::OutOfMemory;
+use crate::growing_dfa::GrowingDfa;
+use crate::sparse_rows::SparseRows;
 use crate::table::{Table, accepts_by};
 use std::alloc::Global;
 use std::marker::Model;
@@ -25,38 +27,65 @@ pub struct DfaState {
 /// A deterministic automaton, whose initial state is 0. There is a state, there are fewer than
 /// 2^32, and the edges of each are by letters of the alphabet, lead to states, and stand by letter,
 /// at most one by each. Where there is no edge by a letter, no word that goes on with it is accepted.
-#[derive(Drop)]
+/// The edges of a state are kept by their digits, track by track, so a missing letter takes no place.
 pub struct Dfa {
-    tracks: Alphabet,
-    rows: Vec<DfaState>,
+    flags: Vec<bool>,
+    table: SparseRows,
 }
 
 impl Model for Dfa {
+    ghost use Rattle.std.specs.Prelude.{◌≡◌, length};
     ghost use Rattle.digit_tuple.specs.Deterministic.{Automaton, IsTable};
     ghost use Rattle.digit_tuple.specs.Letters.{product};
-    ghost use Rattle.digit_tuple.specs.DfaRows.{states_in};
+    ghost use Rattle.digit_tuple.specs.DfaRows.{flagged};
 
     ghost Value = { Automaton };
 
-    ghost view = { λ d. record { sizes = d.tracks; states = states_in d.rows.items } };
+    ghost view = { λ d. record { sizes = d.table.sizes; states = flagged d.flags.items d.table.rows } };
 
-    ghost invariant = { λ d. IsTable (product d.tracks) (states_in d.rows.items) };
+    ghost invariant = { λ d. (length d.flags.items ≡ length d.table.rows) × IsTable (product d.table.sizes) (flagged d.flags.items d.table.rows) };
+}
+
+impl Drop for Dfa {
+    fn drop(self) {
+        let Dfa {
+            flags: _flags,
+            table: _table,
+        } = self;
+    }
 }
 
 impl Dfa {
     /// The automaton with these states.
     pub fn from_states(
-        _alloc: Global,
+        alloc: Global,
         alphabet: Alphabet,
         states: Vec<DfaState>,
     ) -> Result<Self, OutOfMemory>
         requires { IsTable (product alphabet) (states_in states.items) }
         ensures { IfOk result (λ dfa. dfa ≡ record { sizes = alphabet; states = states_in states.items }) }
     {
-        Ok(Dfa {
-            tracks: alphabet,
-            rows: states,
-        })
+        Dfa::of_dense(alloc, &Dense::from_states(alphabet, states))
+    }
+
+    /// The automaton of a dense table: its states are the same, so are the runs and the words.
+    pub fn of_dense(alloc: Global, dense: &Dense) -> Result<Self, OutOfMemory>
+        ensures { IfOk result (λ dfa. dfa ≡ dense.now) }
+    {
+        let mut states = GrowingDfa::new(alloc, dense.alphabet().copy(alloc)?)?;
+        for state in 0..dense.states() {
+            states = states.with_state(dense.accepting(state), dense.edges(state))?;
+        }
+        Ok(states.finish())
+    }
+
+    // The automaton whose states accept as the flags say and have these rows.
+    pub(crate) fn of_rows(flags: Vec<bool>, table: SparseRows) -> Self
+        requires count { length flags.items ≡ length table.rows }
+        requires table { IsTable (product table.sizes) (flagged flags.items table.rows) }
+        ensures { result ≡ record { sizes = table.sizes; states = flagged flags.items table.rows } }
+    {
+        Dfa { flags, table }
     }
 
     /// How many states there are.
@@ -64,7 +93,26 @@ impl Dfa {
         ensures value { result ≡ states_of self.now }
         ensures table { IsTable (letters_of self.now) self.now.states }
     {
-        self.rows.len() as u32
+        self.flags.len() as u32
+    }
+
+    /// How many edges there are.
+    pub fn edges(&self) -> u64
+        ensures { result ≡ edge_count self.now }
+    {
+        self.table.edges()
+    }
+
+    /// How many digits of edges are kept, each with what it leads to: on each track one for each digit by
+    /// which an edge of a state goes on, behind the same digits on the tracks before. Where there is no
+    /// track there is none.
+    pub fn cells(&self) -> u64
+        ensures count { result ≡ cell_count self.now }
+        ensures few { cell_count self.now ≤ length self.now.sizes * edge_count self.now }
+    {
+        // That there are no more than 65,536 letters.
+        let _letters = self.alphabet().letters();
+        self.table.cells()
     }
 
     /// The alphabet of its letters.
@@ -72,7 +120,7 @@ impl Dfa {
         ensures sizes { result.now ≡ self.now.sizes }
         ensures table { IsTable (letters_of self.now) self.now.states }
     {
-        &self.tracks
+        self.table.alphabet()
     }
 
     /// Whether a state accepts.
@@ -81,17 +129,7 @@ impl Dfa {
         ensures accepting { result ≡ accepting_of self.now state }
         ensures table { IsTable (letters_of self.now) self.now.states }
     {
-        self.rows[state as usize].accepting
-    }
-
-    // The edges of a state, by letter.
-    pub(crate) fn row_of(&self, state: u32) -> &[Edge]
-        requires { state < states_of self.now }
-        ensures edges { result.now ≡ edges_of self.now state }
-        ensures row { IsRow (letters_of self.now) (states_of self.now) result.now }
-        ensures table { IsTable (letters_of self.now) self.now.states }
-    {
-        &self.rows[state as usize].edges
+        self.flags[state as usize]
     }
 
     /// Writes the edges of a state, by letter, in place of what the row held.
@@ -101,10 +139,7 @@ impl Dfa {
         ensures row { OnOk result (IsRow (letters_of self.now) (states_of self.now) row.new.items) }
         ensures table { IsTable (letters_of self.now) self.now.states }
     {
-        let edges = self.row_of(state);
-        row.clear();
-        row.extend_from_slice(edges)?;
-        Ok(())
+        self.table.row_into(state, row)
     }
 
     /// Whether no letter leads on from a state.
@@ -112,7 +147,7 @@ impl Dfa {
         requires { state < states_of self.now }
         ensures { IsTrue result ↔ (edges_of self.now state ≡ []) }
     {
-        self.row_of(state).is_empty()
+        self.table.is_bare(state)
     }
 
     /// Whether the state is the same in both automata.
@@ -121,7 +156,8 @@ impl Dfa {
         requires second { state < states_of other.now }
         ensures { IsTrue result ↔ (state_of self.now state ≡ state_of other.now state) }
     {
-        self.accepting(state) == other.accepting(state) && self.row_of(state) == other.row_of(state)
+        self.accepting(state) == other.accepting(state)
+            && self.table.is_same_row(state, &other.table, state)
     }
 
     /// Where a letter leads from a state, unless it leads nowhere.
@@ -130,7 +166,7 @@ impl Dfa {
         ensures target { result ≡ step_of self.now state letter }
         ensures in_range { IfSome result (λ next. next < states_of self.now) }
     {
-        target_in(self.row_of(state), letter)
+        self.table.step(state, letter)
     }
 
     /// Whether the automaton accepts the word.
@@ -142,21 +178,20 @@ impl Dfa {
 
     /// The automaton with the same edges in which the states that the flags say accept, and no others. There is a flag
     /// for each state. It takes no memory.
-    pub fn with_accepting(self, flags: &[bool]) -> Self
+    pub fn with_accepting(mut self, flags: &[bool]) -> Self
         requires { length flags.now ≡ states_of self }
         ensures { IsReflagged flags.now self result }
     {
-        let Dfa { tracks, mut rows } = self;
-        set_accepting(&mut rows, flags);
-        Dfa { tracks, rows }
+        self.flags.copy_from_slice(flags);
+        self
     }
 
     /// The same automaton, in memory of its own.
     pub fn copy(&self, alloc: Global) -> Result<Self, OutOfMemory>
         ensures { IfOk result (λ dfa. dfa ≡ self.now) }
     {
-        let rows = copied_states(alloc, &self.rows)?;
-        Dfa::from_states(alloc, self.tracks.copy(alloc)?, rows)
+        let flags = Vec::from_slice(alloc, &self.flags)?;
+        Ok(Dfa::of_rows(flags, self.table.copy(alloc)?))
     }
 }
 
@@ -170,7 +205,7 @@ impl Table for Dfa {
     ghost accepts = { λ d q. accepting_of d q };
 
     fn letters(&self) -> u32 {
-        self.tracks.letters()
+        self.table.alphabet().letters()
     }
 
     fn states(&self) -> u32 {
@@ -184,28 +219,4 @@ impl Table for Dfa {
     fn accepting(&self, q: u32) -> bool {
         Dfa::accepting(self, q)
     }
-}
-
-// Gives each state its flag.
-fn set_accepting(rows: &mut Vec<DfaState>, flags: &[bool])
-    requires { length flags.now ≡ length rows.old.items }
-    ensures { AreReflagged flags.now (states_in rows.old.items) (states_in rows.new.items) }
-{
-    for place in 0..flags.len() {
-        rows[place].accepting = flags[place];
-    }
-}
-
-// The same states, in memory of their own.
-fn copied_states(alloc: Global, states: &[DfaState]) -> Result<Vec<DfaState>, OutOfMemory>
-    ensures { IfOk result (λ rows. states_in rows.items ≡ states_in states.now) }
-{
-    let mut rows = Vec::with_capacity(alloc, states.len())?;
-    for state in states {
-        rows.push(DfaState {
-            accepting: state.accepting,
-            edges: Vec::from_slice(alloc, &state.edges)?,
-        })?;
-    }
-    Ok(rows)
 }

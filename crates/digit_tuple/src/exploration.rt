@@ -11,9 +11,10 @@ ghost use Rattle.digit_tuple.specs.Keys.{LeadAlike, key_accepts};
 ghost use Rattle.digit_tuple.specs.Explored.{AreNumbered, NumbersSome, IsExplored};
 
 use crate::alphabet::Alphabet;
-use crate::dfa::{Dfa, DfaState};
+use crate::dfa::Dfa;
 use crate::edges::Edge;
 use crate::faults::OpFault;
+use crate::growing_dfa::GrowingDfa;
 use crate::key_edges::KeyEdges;
 use crate::key_graph::KeyGraph;
 use crate::numbering::Numbering;
@@ -94,46 +95,47 @@ pub fn explore_keys<G: KeyGraph>(
         return Err(OpFault::States);
     }
     let letters = alphabet.letters() as usize;
-    let mut rows: Vec<DfaState> = Vec::new(alloc);
+    let mut states = GrowingDfa::new(alloc, alphabet)?;
     let mut key_edges = KeyEdges::new(alloc);
+    let mut edges = Vec::new(alloc);
     let mut gap = false;
-    'explore: while rows.len() < keys.len() {
-        let key = keys.key(rows.len());
+    'explore: while states.len() < keys.len() {
+        let key = keys.key(states.len());
         let accepting = graph.is_accepting(key);
         key_edges.clear();
         graph.edges(alloc, key, &mut key_edges)?;
-        let edges = number_edges(alloc, &mut keys, &key_edges, limit)?;
+        number_edges(&mut keys, &key_edges, limit, &mut edges)?;
         if edges.len() < letters {
             gap = true;
         }
-        rows.push(DfaState { accepting, edges })?;
+        states = states.with_state(accepting, &edges)?;
         if gap && keys.len() == limit as usize {
             return Err(OpFault::States);
         }
     }
     let width = keys.len() as u32 + u32::from(gap);
-    let dfa = Dfa::from_states(alloc, alphabet, rows)?;
+    let dfa = states.finish();
     Ok(Stepped {
         result: Explored { dfa, keys },
         width,
     })
 }
 
-// The edges that the key edges become, as the keys that they lead to are numbered in turn. `States`
-// comes where the keys are too many.
+// Writes the edges that the key edges become in place of what the buffer held, as the keys that they lead
+// to are numbered in turn. `States` comes where the keys are too many.
 fn number_edges(
-    alloc: Global,
     keys: &mut Numbering,
     key_edges: &KeyEdges,
     limit: u32,
-) -> Result<Vec<Edge>, OpFault>
+    edges: &mut Vec<Edge>,
+) -> Result<(), OpFault>
     requires { length keys.old ≤ limit }
-    ensures edges { IfOk result (λ edges. AreNumbered key_edges.now edges.items keys.old keys.new) }
+    ensures edges { OnOk result (AreNumbered key_edges.now edges.new.items keys.old keys.new) }
     ensures few { OnOk result (length keys.new ≤ limit) }
     ensures states { IsErrOf result OpFault.States → NumbersSome key_edges.now keys.old keys.new (limit + 1) }
     ensures letters { ¬ IsErrOf result OpFault.Letters }
 {
-    let mut edges = Vec::with_capacity(alloc, key_edges.len())?;
+    edges.clear();
     for place in 0..key_edges.len() {
         let target = keys.number_of(key_edges.key(place))?;
         if keys.len() > limit as usize {
@@ -144,5 +146,5 @@ fn number_edges(
             target: target as u32,
         })?;
     }
-    Ok(edges)
+    Ok(())
 }

@@ -1,10 +1,10 @@
 //! Keys, one after another in one buffer.
 
-ghost use Rattle.std.specs.Prelude.{◌≡◌, ◌-◌, ◌<◌, ◌≤◌, ◌^◌, ◌++◌, ◌∷◌, [], length, take, OnOk, OnErr};
+ghost use Rattle.std.specs.Prelude.{◌≡◌, ◌-◌, ◌<◌, ◌^◌, ◌++◌, ◌∷◌, [], length, take, OnOk, OnErr};
 ghost use Rattle.digit_tuple.specs.Explored.{key_at};
-ghost use Rattle.digit_tuple.specs.KeyParts.{start_of};
 
 use crate::faults::OutOfMemory;
+use crate::key_ends::KeyEnds;
 use std::alloc::Global;
 use std::marker::Model;
 
@@ -12,7 +12,7 @@ use std::marker::Model;
 #[derive(Drop)]
 pub struct KeyArena {
     numbers: Vec<u32>,
-    ends: Vec<usize>,
+    ends: KeyEnds,
 }
 
 impl Model for KeyArena {
@@ -21,9 +21,9 @@ impl Model for KeyArena {
 
     ghost Value = { List (List ℕ) };
 
-    ghost view = { λ a. parts_from a.numbers.items 0 a.ends.items };
+    ghost view = { λ a. parts_from a.numbers.items 0 a.ends };
 
-    ghost invariant = { λ a. AreEnds (length a.numbers.items) 0 a.ends.items };
+    ghost invariant = { λ a. AreEnds (length a.numbers.items) 0 a.ends };
 }
 
 impl KeyArena {
@@ -33,7 +33,7 @@ impl KeyArena {
     {
         KeyArena {
             numbers: Vec::new(alloc),
-            ends: Vec::new(alloc),
+            ends: KeyEnds::new(alloc),
         }
     }
 
@@ -50,17 +50,18 @@ impl KeyArena {
         requires { number < length self.now }
         ensures { result.now ≡ key_at self.now number }
     {
-        let start = part_start(&self.ends, number);
-        &self.numbers[start..self.ends[number]]
+        let start = self.ends.start(number);
+        let end = self.ends.end(number);
+        &self.numbers[start..end]
     }
 
-    /// Adds a key. A refused call leaves the keys.
+    /// Adds a key. A refused call leaves the keys. OutOfMemory comes too where there are 2^32 - 1 keys.
     pub fn push(&mut self, key: &[u32]) -> Result<(), OutOfMemory>
         ensures ok { OnOk result (self.new ≡ self.old ++ key.now ∷ []) }
         ensures err { OnErr result (self.new ≡ self.old) }
     {
-        let start = part_start(&self.ends, self.ends.len());
-        self.numbers.truncate(start);
+        let used = self.ends.start(self.ends.len());
+        self.numbers.truncate(used);
         self.numbers.extend_from_slice(key)?;
         self.ends.push(self.numbers.len())?;
         Ok(())
@@ -73,12 +74,4 @@ impl KeyArena {
     {
         self.ends.pop();
     }
-}
-
-// Where the key with the number starts: where the one before it ends.
-fn part_start(ends: &[usize], number: usize) -> usize
-    requires { number ≤ length ends.now }
-    ensures { result ≡ start_of ends.now number }
-{
-    if number == 0 { 0 } else { ends[number - 1] }
 }

@@ -46,6 +46,9 @@ pub mod table;
 /// Dense tables: the edges of each state in a list of its own.
 pub mod dense;
 
+/// Places in a buffer at which lists begin.
+mod starts;
+
 /// Lists of numbers in one buffer.
 mod number_lists;
 
@@ -57,6 +60,9 @@ mod sparse_rows;
 
 /// Deterministic automata.
 pub mod dfa;
+
+/// Deterministic automata that grow by whole states.
+mod growing_dfa;
 
 /// Deterministic automata built state by state.
 pub mod dfa_builder;
@@ -85,11 +91,14 @@ pub mod key_graph;
 /// Hashes of keys.
 pub mod key_hashes;
 
+/// Where keys end that stand one after another.
+pub mod key_ends;
+
 /// Keys, one after another in one buffer.
 pub mod key_arena;
 
-/// Numbers in buckets, by their hashes.
-pub mod buckets;
+/// Numbers in slots, by their hashes.
+pub mod slots;
 
 /// Keys, numbered in the order in which they were first seen.
 pub mod numbering;

@@ -4,14 +4,15 @@ ghost use Rattle.std.specs.Prelude.{◌≡◌, ℕ, ◌+◌, ◌^◌, ◌<◌, �
 ghost use Rattle.digit_tuple.specs.NumberLists.{extended, first_place, last_of, last_number};
 
 use crate::faults::OutOfMemory;
+use crate::starts::Starts;
 use std::alloc::Global;
 use std::marker::Model;
 
-/// Lists of numbers, which stand one behind another in one buffer.
+/// Lists of numbers below 65,536, which stand one behind another in one buffer of 2 bytes a number.
 #[derive(Drop)]
 pub(crate) struct NumberLists {
-    starts: Vec<usize>,
-    numbers: Vec<u32>,
+    starts: Starts,
+    numbers: Vec<u16>,
 }
 
 impl Model for NumberLists {
@@ -20,9 +21,9 @@ impl Model for NumberLists {
 
     ghost Value = { List (List ℕ) };
 
-    ghost view = { λ l. lists_at l.starts.items l.numbers.items };
+    ghost view = { λ l. lists_at l.starts l.numbers.items };
 
-    ghost invariant = { λ l. AreStarts l.starts.items (length l.numbers.items) };
+    ghost invariant = { λ l. AreStarts l.starts (length l.numbers.items) };
 }
 
 impl NumberLists {
@@ -31,7 +32,7 @@ impl NumberLists {
         ensures { result ≡ [] }
     {
         NumberLists {
-            starts: Vec::new(alloc),
+            starts: Starts::new(alloc),
             numbers: Vec::new(alloc),
         }
     }
@@ -56,15 +57,15 @@ impl NumberLists {
         ensures value { result ≡ sum_by length (take place self.now) }
         ensures fits { result + length (slice_index_or self.now place []) < 2 ^ 64 }
     {
-        self.starts[place]
+        self.starts.get(place)
     }
 
     /// The list at a place.
-    pub(crate) fn list(&self, place: usize) -> &[u32]
+    pub(crate) fn list(&self, place: usize) -> &[u16]
         requires { place < length self.now }
         ensures { result.now ≡ slice_index_or self.now place [] }
     {
-        let start = self.starts[place];
+        let start = self.starts.get(place);
         let end = end_of(&self.starts, place, self.numbers.len());
         part(&self.numbers, start, end)
     }
@@ -73,11 +74,11 @@ impl NumberLists {
     pub(crate) fn ends_in(&self, number: u32) -> bool
         ensures { IsTrue result ↔ (last_number (last_of self.now []) ≡ Some number) }
     {
-        if self.starts.is_empty() {
+        if self.starts.len() == 0 {
             return false;
         }
         match self.list(self.starts.len() - 1).last() {
-            Some(last) => *last == number,
+            Some(last) => u32::from(*last) == number,
             None => false,
         }
     }
@@ -92,10 +93,11 @@ impl NumberLists {
 
     /// Adds a number at the end of the last list.
     pub(crate) fn add(&mut self, number: u32) -> Result<(), OutOfMemory>
-        requires { 0 < length self.old }
+        requires some { 0 < length self.old }
+        requires narrow { number < 2 ^ 16 }
         ensures { OnOk result (self.new ≡ extended self.old (number ∷ [])) }
     {
-        self.numbers.push(number)?;
+        self.numbers.push(number as u16)?;
         Ok(())
     }
 
@@ -104,26 +106,27 @@ impl NumberLists {
         ensures { IfOk result (λ lists. lists ≡ self.now) }
     {
         Ok(NumberLists {
-            starts: Vec::from_slice(alloc, &self.starts)?,
+            starts: self.starts.copy(alloc)?,
             numbers: Vec::from_slice(alloc, &self.numbers)?,
         })
     }
 }
 
 // Where the list that begins at a place of the starts ends.
-fn end_of(starts: &[usize], place: usize, end: usize) -> usize
+fn end_of(starts: &Starts, place: usize, end: usize) -> usize
     requires { place < length starts.now }
     ensures { result ≡ first_place (drop (place + 1) starts.now) end }
 {
-    if place + 1 < starts.len() {
-        starts[place + 1]
+    let count = starts.len();
+    if place + 1 < count {
+        starts.get(place + 1)
     } else {
         end
     }
 }
 
 // The numbers from one place up to another.
-fn part(numbers: &[u32], start: usize, end: usize) -> &[u32]
+fn part(numbers: &[u16], start: usize, end: usize) -> &[u16]
     requires order { start ≤ end }
     requires within { end ≤ length numbers.now }
     ensures { result.now ≡ slice_range numbers.now start end }

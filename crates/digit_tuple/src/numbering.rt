@@ -4,32 +4,35 @@ ghost use Rattle.std.specs.Prelude.{◌≡◌, ◌<◌, ◌^◌, [], length, map
 ghost use Rattle.std.specs.List.{Contains};
 ghost use Rattle.digit_tuple.specs.Explored.{AreApart, IsNumbered, key_at};
 ghost use Rattle.digit_tuple.specs.KeyHashes.{hash_of};
+ghost use Rattle.digit_tuple.specs.Slots.{AreSlotted};
 
-use crate::buckets::Buckets;
 use crate::faults::OutOfMemory;
 use crate::key_arena::KeyArena;
 use crate::key_hashes::key_hash;
+use crate::slots::SlotTable;
 use std::alloc::Global;
 use std::marker::Model;
 
 /// Lists of numbers, no two the same, numbered in the order in which they were first seen. They stand in
-/// one buffer, and are found by their hashes.
+/// one buffer, and are found by their hashes. Numbers are below 2^32 - 1.
 #[derive(Drop)]
 pub struct Numbering {
+    alloc: Global,
     keys: KeyArena,
-    buckets: Buckets,
+    slots: SlotTable,
 }
 
 impl Model for Numbering {
     ghost use Rattle.std.specs.Prelude.{◌≡◌, ℕ, List, map};
     ghost use Rattle.digit_tuple.specs.Explored.{AreApart};
     ghost use Rattle.digit_tuple.specs.KeyHashes.{hash_of};
+    ghost use Rattle.digit_tuple.specs.Slots.{AreSlotted};
 
     ghost Value = { List (List ℕ) };
 
     ghost view = { λ a. a.keys };
 
-    ghost invariant = { λ a. AreApart a.keys × (a.buckets ≡ map hash_of a.keys) };
+    ghost invariant = { λ a. AreApart a.keys × AreSlotted a.slots (map hash_of a.keys) };
 }
 
 impl Numbering {
@@ -38,8 +41,9 @@ impl Numbering {
         ensures { result ≡ [] }
     {
         Numbering {
+            alloc,
             keys: KeyArena::new(alloc),
-            buckets: Buckets::new(alloc),
+            slots: SlotTable::new(alloc),
         }
     }
 
@@ -61,19 +65,20 @@ impl Numbering {
     }
 
     /// The number of a key, a new one if the key was not seen before. A key that was seen takes no
-    /// memory. A refused call leaves the keys.
+    /// memory. A refused call leaves the keys. OutOfMemory comes too where there are 2^32 - 1 keys.
     pub fn number_of(&mut self, key: &[u32]) -> Result<usize, OutOfMemory>
         ensures number { IfOk result (IsNumbered self.old self.new key.now) }
         ensures seen { Contains self.old key.now → IsOk result }
         ensures err { OnErr result (self.new ≡ self.old) }
     {
         let hash = key_hash(key);
-        if let Some(number) = find(&self.keys, &self.buckets, key, hash) {
+        if let Some(number) = find(&self.keys, &self.slots, key, hash) {
             return Ok(number);
         }
         let number = self.keys.len();
+        make_room(self.alloc, &mut self.slots, &self.keys)?;
         self.keys.push(key)?;
-        if let Err(fault) = self.buckets.push(hash) {
+        if let Err(fault) = self.slots.put(hash, number) {
             self.keys.pop();
             return Err(fault);
         }
@@ -82,17 +87,36 @@ impl Numbering {
 }
 
 // The number of a key with the hash, if it has one.
-fn find(keys: &KeyArena, buckets: &Buckets, key: &[u32], hash: u32) -> Option<usize>
+fn find(keys: &KeyArena, table: &SlotTable, key: &[u32], hash: u32) -> Option<usize>
     requires hash { hash ≡ hash_of key.now }
-    requires buckets { buckets.now ≡ map hash_of keys.now }
+    requires slots { AreSlotted table.now (map hash_of keys.now) }
     ensures { MatchOption result (¬ Contains keys.now key.now) (λ number. (number < length keys.now) × (key_at keys.now number ≡ key.now)) }
 {
-    let mut end = keys.len();
-    while let Some(number) = buckets.latest_before(hash, end) {
-        if keys.key(number) == key {
+    for place in table.home(hash)..table.slots.len() {
+        let slot = table.slots[place];
+        if slot.link == 0 {
+            return None;
+        }
+        let number = slot.link as usize - 1;
+        if slot.hash == hash && keys.key(number) == key {
             return Some(number);
         }
-        end = number;
     }
     None
+}
+
+// Makes about twice as many slots where few are free. A refused call leaves the slots.
+fn make_room(alloc: Global, table: &mut SlotTable, keys: &KeyArena) -> Result<(), OutOfMemory>
+    requires { AreSlotted table.old (map hash_of keys.now) }
+    ensures { AreSlotted table.new (map hash_of keys.now) }
+{
+    if table.has_room(keys.len()) {
+        return Ok(());
+    }
+    let mut more = table.twice(alloc)?;
+    for number in 0..keys.len() {
+        more.put(key_hash(keys.key(number)), number)?;
+    }
+    *table = more;
+    Ok(())
 }

@@ -21,7 +21,7 @@ use std::marker::Model;
 #[derive(Drop)]
 pub(crate) struct SparseRows {
     tracks: Alphabet,
-    decisions: Decisions,
+    decisions: Box<Decisions>,
 }
 
 impl Model for SparseRows {
@@ -30,9 +30,9 @@ impl Model for SparseRows {
 
     ghost Value = { Rows };
 
-    ghost view = { λ r. record { sizes = r.tracks; rows = rows_in r.decisions } };
+    ghost view = { λ r. record { sizes = r.tracks; rows = rows_in r.decisions.value } };
 
-    ghost invariant = { λ r. AreOver r.tracks r.decisions };
+    ghost invariant = { λ r. AreOver r.tracks r.decisions.value };
 }
 
 impl SparseRows {
@@ -40,7 +40,7 @@ impl SparseRows {
     pub(crate) fn new(alloc: Global, alphabet: Alphabet) -> Result<Self, OutOfMemory>
         ensures { IfOk result (λ table. table ≡ record { sizes = alphabet; rows = [] }) }
     {
-        let decisions = no_decisions(alloc, &alphabet)?;
+        let decisions = Box::new(alloc, no_decisions(alloc, &alphabet)?)?;
         Ok(SparseRows {
             tracks: alphabet,
             decisions,
@@ -60,6 +60,8 @@ impl SparseRows {
         requires ascending { AllPairs IsByEarlier edges.now }
         ensures { IfOk result (λ table. table ≡ record { sizes = self.sizes; rows = self.rows ++ edges.now ∷ [] }) }
     {
+        // That an alphabet has no more than 65,536 letters.
+        let _letters = self.tracks.letters();
         let SparseRows {
             tracks,
             mut decisions,
@@ -106,8 +108,8 @@ impl SparseRows {
         // That the letters of an alphabet are numbered by 32 bits.
         let _letters = self.tracks.letters();
         let _letters = other.tracks.letters();
-        let one = &self.decisions;
-        let two = &other.decisions;
+        let one = &*self.decisions;
+        let two = &*other.decisions;
         one.is_within(place as usize, 0, two, at as usize)
             && two.is_within(at as usize, 0, one, place as usize)
     }
@@ -137,7 +139,7 @@ impl SparseRows {
     {
         Ok(SparseRows {
             tracks: self.tracks.copy(alloc)?,
-            decisions: self.decisions.copy(alloc)?,
+            decisions: Box::new(alloc, self.decisions.copy(alloc)?)?,
         })
     }
 }
@@ -161,6 +163,7 @@ fn add_edges(decisions: &mut Decisions, edges: &[Edge]) -> Result<(), OutOfMemor
     requires sound { IsSound decisions.old }
     requires track { 0 < length (sizes_in decisions.old) }
     requires in_range { All (λ edge. edge.letter < product (sizes_in decisions.old)) edges.now }
+    requires narrow { product (sizes_in decisions.old) ≤ 2 ^ 16 }
     requires ascending { AllPairs IsByEarlier edges.now }
     ensures sound { OnOk result (IsSound decisions.new) }
     ensures sizes { OnOk result (sizes_in decisions.new ≡ sizes_in decisions.old) }

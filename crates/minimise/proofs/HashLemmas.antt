@@ -1,5 +1,5 @@
 -- Hashes of states.
-use Rattle.std.proofs.Common.{◌≡◌, ◌≢◌, ℕ, ◌+◌, ◌*◌, ◌<◌, ◌^◌, List, [], ◌∷◌, ◌++◌, take, length, get_or, refl, sym, ap, ◌∙◌, arith}
+use Rattle.std.proofs.Common.{◌≡◌, ◌≢◌, ℕ, ◌+◌, ◌*◌, ◌/◌, ◌%◌, ◌<◌, ◌^◌, List, [], ◌∷◌, ◌++◌, take, length, get_or, refl, sym, ap, ◌∙◌, arith}
 use Rattle.std.proofs.lemmas.List.{get_or_default}
 use Rattle.digit_tuple.specs.Deterministic.{Automaton, IsTable, letters_of, states_of, edges_of}
 use Rattle.digit_tuple.specs.KeyHashes.{mixed}
@@ -27,6 +27,10 @@ module _ (classes : List ℕ) (dead start : ℕ) (es : List Edge) (k : ℕ) (z :
       ∙ sym (hash_edges-push start (class_edges classes dead (take k es)) (class_edge classes (get_or es k z)))
       ∙ ap (hash_edges start) (class_edges-live classes dead es k z within other)
 
+-- a hash as a key
+abbrev pub halves : ℕ → List ℕ
+halves hash = hash % 2 ^ 32 ∷ hash / 2 ^ 32 ∷ []
+
 module _ (d : Automaton) (classes : List ℕ) (table : IsTable (letters_of d) d.states) where
   -- states that are alike have one hash
   one_hash : (p q : ℕ) → AreAlike d classes p q → hash_of d classes p ≡ hash_of d classes q
@@ -35,12 +39,12 @@ module _ (d : Automaton) (classes : List ℕ) (table : IsTable (letters_of d) d.
       ∙ ap (hash_edges (mixed 0 (class_of classes q))) (rows_from_alike d classes table p q alike)
 
   -- states numbered by hashes
-  pub KeepAlike-hashed : (keys : List (List ℕ)) (numbers : List ℕ) (count : ℕ) → count ≡ states_of d + 1 → AreNumberedBy (λ q. hash_of d classes q ∷ []) keys numbers count → KeepAlike d classes numbers
+  pub KeepAlike-hashed : (keys : List (List ℕ)) (numbers : List ℕ) (count : ℕ) → count ≡ states_of d + 1 → AreNumberedBy (λ q. halves (hash_of d classes q)) keys numbers count → KeepAlike d classes numbers
   KeepAlike-hashed keys numbers count all done = record {
     width = done.width ∙ all;
     below = λ k z within.
         let low = done.below k (omega (arith, within, done.width)) in
         omega (arith, low, done.small, all, get_or_default numbers k z 0 within);
     same = λ p q small low alike.
-        (same_number (λ r. hash_of d classes r ∷ []) keys numbers count done p q (omega arith) (omega arith)).1 (ap (λ (h : ℕ). h ∷ []) (one_hash p q alike));
+        (same_number (λ r. halves (hash_of d classes r)) keys numbers count done p q (omega arith) (omega arith)).1 (ap halves (one_hash p q alike));
   }

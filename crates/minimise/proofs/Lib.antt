@@ -15,7 +15,6 @@ pub mod RefiningLemmas
 pub mod StabilityLemmas
 pub mod FlatEdgeLemmas
 pub mod HashLemmas
-pub mod HashNumberLemmas
 pub mod ResidualLemmas
 pub mod LeaderLemmas
 pub mod QuotientLemmas

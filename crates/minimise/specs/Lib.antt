@@ -8,7 +8,6 @@ pub mod CoarseClasses
 pub mod Signatures
 pub mod Refinement
 pub mod Hashes
-pub mod HashNumbers
 pub mod FlatEdges
 pub mod Leaders
 pub mod Gathering

@@ -36,6 +36,8 @@ pub fn canonical_of_numbered(alloc: Global, d: Dfa) -> Result<Dfa, OutOfMemory>
     ensures language { IfOk result (λ least. SameLanguage d least) }
     ensures canonical { IfOk result (λ least. IsCanonical least) }
 {
+    // That the states and edges of an automaton are a table.
+    let _states = d.states();
     let outputs = accepting_outputs(alloc, &d)?;
     let machine = Machine {
         dfa: &d,

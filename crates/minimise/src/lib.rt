@@ -34,9 +34,6 @@ mod flat_edges;
 /// Hashes of states.
 mod hashing;
 
-/// Numbers of hashes.
-mod hash_numbers;
-
 /// Classes that are refined by signatures.
 mod refinement;
 

@@ -11,13 +11,13 @@ ghost use Rattle.minimise.specs.Outputs.{HasOutputs};
 ghost use Rattle.minimise.specs.Refinement.{KeepAlike};
 
 use crate::flat_edges::FlatEdges;
-use crate::hash_numbers::HashNumbers;
 use crate::hashing::state_hash;
 use crate::machine::Machine;
 use crate::output_classes::output_classes;
 use crate::stability::is_stable;
 use digit_tuple::dfa::Dfa;
 use digit_tuple::faults::OutOfMemory;
+use digit_tuple::numbering::Numbering;
 use std::alloc::Global;
 
 /// The classes that rounds leave, and whether no further round parts them.
@@ -72,12 +72,14 @@ fn rehashed(
 {
     let states = dfa.states();
     let count = states as usize + 1;
-    let mut hashes = HashNumbers::new(alloc, states)?;
+    let mut hashes = Numbering::new(alloc);
     let mut numbers = Vec::with_capacity(alloc, count)?;
     for place in 0..count {
         let hash = state_hash(dfa, flat, classes, place as u32);
-        let number = hashes.number_of(hash)?;
-        numbers.push(number)?;
+        let low = (hash % 0x1_0000_0000) as u32;
+        let high = (hash >> 32) as u32;
+        let number = hashes.number_of(&[low, high])?;
+        numbers.push(number as u32)?;
     }
     Ok(numbers)
 }

@@ -1,18 +1,17 @@
-use Rattle.std.proofs.Common.{rules, ◌≡◌, ◌+◌, ℕ, List, [], ◌∷◌, length, false, if◌then◌else◌, inl, inr, sym, ap, ◌∙◌, subst, arith}
+use Rattle.std.proofs.Common.{rules, ◌≡◌, ◌+◌, ◌<◌, ℕ, List, [], ◌∷◌, length, false, if◌then◌else◌, inl, inr, sym, ap, ◌∙◌, subst, arith}
 use Rattle.std.specs.List.{All}
-use Rattle.std.proofs.lemmas.List.{length-map}
 use Rattle.std.proofs.lemmas.List.Elements.{All-push, All-nil}
-use Rattle.digit_tuple.specs.Deterministic.{Automaton, IsTable, accepts_of}
-use Rattle.digit_tuple.specs.DfaRows.{state_in, states_in}
+use Rattle.std.proofs.lemmas.List.{length_push}
+use Rattle.digit_tuple.specs.Deterministic.{Automaton, State, IsTable, accepts_of}
 use Rattle.digit_tuple.specs.FirstWords.{IsNumberedByFirsts}
-use Rattle.digit_tuple.specs.Letters.{IsWord}
+use Rattle.digit_tuple.specs.Letters.{product, IsWord}
 use Rattle.digit_tuple.specs.Width.{HasApart, HasWidth}
-use Rattle.digit_tuple.specs.declared.dfa.DfaState.{DfaState}
+use Rattle.digit_tuple.specs.declared.edges.Edge.{Edge}
 use Rattle.digit_tuple.specs.Keys.{LeadAlike, key_accepts}
-use Rattle.digit_tuple.specs.Explored.{NumbersSome, key_at, IsExplored}
+use Rattle.digit_tuple.specs.Explored.{AreNumbered, NumbersSome, key_at, IsExplored}
 use Rattle.digit_tuple.proofs.KeyEdgeLemmas.{IsStateFrom-written, Overflows-written, first_numbered, length-are_numbered}
 use Rattle.digit_tuple.proofs.FrontierLemmas.{All-state_from, IsFrontier-start}
-use Rattle.digit_tuple.proofs.ExploredLemmas.{IsExploring, IsExploring-start, IsExploring-pushed, IsExploring-refused, IsExploring-gap, HasApart-firsts, IsTable-explored, IsExplored-done, IsNumberedByFirsts-done, HasWidth-done, accepts_of-explored}
+use Rattle.digit_tuple.proofs.ExploredLemmas.{IsExploring, IsExploring-start, IsExploring-pushed, IsExploring-refused, IsExploring-edges, IsExploring-gap, HasApart-firsts, IsTable-explored, IsExplored-done, IsNumberedByFirsts-done, HasWidth-done, accepts_of-explored}
 use Rattle.digit_tuple.proofs.exploration.explore_keys.Goals as goal
 use Rattle.digit_tuple.proofs.exploration.explore_keys.Goals.{then-len-letters, else-len-letters, else-gap-via-then-gap+else-len-limit, else-gap-via-else-gap}
 
@@ -28,115 +27,146 @@ pub explore-init : goal.explore-init
 explore-init g c =
     let s = c.args.graph.now in
     let keys : g.G.KeyGraph.start s ∷ [] ≡ c.number_of.new.self = first_numbered c.new-keys.result c.number_of.new.self c.deref.result.now (g.G.KeyGraph.start s) c.in_ok-number_of.field-0 c.new-keys.ensures (c.deref.ensures.value ∙ c.in_ok-first_key.ensures) c.in_ok-number_of.ensures.number in
-    let none : [] ≡ states_in c.new-rows.result.items = ap states_in (sym c.new-rows.ensures.items) in
+    let none : [] ≡ c.in_ok-states.states.states = sym (ap (λ (d : Automaton). d.states) c.in_ok-states.ensures) in
     record {
       few = omega (arith, ap length keys, c.if-limit-eq0.false);
       room = λ never. absurd (cc);
       valid = subst (All (g.G.KeyGraph.is_key s)) keys (All-push (g.G.KeyGraph.is_key s) [] (g.G.KeyGraph.start s) (All-nil (g.G.KeyGraph.is_key s)) (g.met.G.KeyGraph.start_is_key s c.requires.graph));
-      explored = omega (arith, c.new-rows.ensures.len);
+      sizes = ap (λ (d : Automaton). d.sizes) c.in_ok-states.ensures;
+      explored = omega (arith, ap length none);
       exploring = subst (λ states. IsExploring (g.G.KeyGraph.letters s) (g.G.KeyGraph.start s) (g.G.KeyGraph.after s) (g.G.KeyGraph.accepts s) c.number_of.new.self states false) none
           (subst (λ ks. IsExploring (g.G.KeyGraph.letters s) (g.G.KeyGraph.start s) (g.G.KeyGraph.after s) (g.G.KeyGraph.accepts s) ks [] false) keys
           (IsExploring-start (g.G.KeyGraph.letters s) (g.G.KeyGraph.start s) (g.G.KeyGraph.after s) (g.G.KeyGraph.accepts s)));
     }
 
-pub returns-in_err-edges-2-clause-states : goal.returns-in_err-edges-2-clause-states
-returns-in_err-edges-2-clause-states g c h =
+pub returns-in_err-number_edges-clause-states : goal.returns-in_err-number_edges-clause-states
+returns-in_err-number_edges-clause-states g c h =
     let s = c.args.graph.now in
     let p = c.len-in-explore-2.result in
-    let at : p ≡ length (states_in c.explore.rows.items) = omega (arith, c.len-in-explore-2.ensures, length-map c.explore.rows.items state_in, c.explore.rows.ok) in
-    let e = c.from_residual-in_err-edges-2.ensures in
+    let e = c.from_residual-in_err-number_edges.ensures in
     let some : NumbersSome c.edges.new.out c.explore.keys c.number_edges.new.keys (c.args.limit + 1) = search rules in
-    IsExploring-refused (g.G.KeyGraph.letters s) (g.G.KeyGraph.start s) (g.G.KeyGraph.after s) (g.G.KeyGraph.accepts s) c.explore.keys c.number_edges.new.keys c.explore.rows.items c.explore.gap p (c.args.limit + 1)
-    c.explore.invariant.exploring at (omega arith)
+    IsExploring-refused (g.G.KeyGraph.letters s) (g.G.KeyGraph.start s) (g.G.KeyGraph.after s) (g.G.KeyGraph.accepts s) c.explore.keys c.number_edges.new.keys c.explore.states.states c.explore.gap p (c.args.limit + 1)
+    c.explore.invariant.exploring c.len-in-explore-2.ensures (omega arith)
     (Overflows-written (g.G.KeyGraph.letters s) (g.G.KeyGraph.after s) c.explore.keys c.number_edges.new.keys (key_at c.explore.keys p) c.key-key.result.now c.edges.new.out (c.args.limit + 1) c.key-key.ensures c.in_ok-edges.ensures some)
+
+pub with_state-requires-clause-in_range : goal.with_state-requires-clause-in_range
+with_state-requires-clause-in_range g c =
+    let s = c.args.graph.now in
+    let p = c.len-in-explore-2.result in
+    let state : State = record { accepting = c.is_accepting-accepting.result; edges = c.deref-in-explore.result.now } in
+    let numbered : AreNumbered c.edges.new.out state.edges c.explore.keys c.number_edges.new.keys =
+    subst (λ es. AreNumbered c.edges.new.out es c.explore.keys c.number_edges.new.keys) (sym {A = List Edge} c.deref-in-explore.ensures.value) c.in_ok-number_edges.ensures.edges in
+    let from = IsStateFrom-written (g.G.KeyGraph.letters s) (g.G.KeyGraph.after s) (g.G.KeyGraph.accepts s) c.explore.keys c.number_edges.new.keys (key_at c.explore.keys p) c.key-key.result.now c.edges.new.out state.accepting state.edges
+    c.key-key.ensures c.in_ok-edges.ensures numbered c.is_accepting-accepting.ensures in
+    let row = IsExploring-edges (g.G.KeyGraph.letters s) (g.G.KeyGraph.start s) (g.G.KeyGraph.after s) (g.G.KeyGraph.accepts s) c.explore.keys c.number_edges.new.keys c.explore.states.states state c.explore.gap p c.explore.invariant.exploring c.len-in-explore-2.ensures (omega arith) from in
+    let letters : g.G.KeyGraph.letters s ≡ product c.explore.states.sizes = c.requires.letters ∙ sym (ap product c.explore.invariant.sizes) in
+    subst (λ n. All (λ (edge : Edge). edge.letter < n) state.edges) letters row.0
+
+pub with_state-requires-clause-ascending : goal.with_state-requires-clause-ascending
+with_state-requires-clause-ascending g c =
+    let s = c.args.graph.now in
+    let p = c.len-in-explore-2.result in
+    let state : State = record { accepting = c.is_accepting-accepting.result; edges = c.deref-in-explore.result.now } in
+    let numbered : AreNumbered c.edges.new.out state.edges c.explore.keys c.number_edges.new.keys =
+    subst (λ es. AreNumbered c.edges.new.out es c.explore.keys c.number_edges.new.keys) (sym {A = List Edge} c.deref-in-explore.ensures.value) c.in_ok-number_edges.ensures.edges in
+    let from = IsStateFrom-written (g.G.KeyGraph.letters s) (g.G.KeyGraph.after s) (g.G.KeyGraph.accepts s) c.explore.keys c.number_edges.new.keys (key_at c.explore.keys p) c.key-key.result.now c.edges.new.out state.accepting state.edges
+    c.key-key.ensures c.in_ok-edges.ensures numbered c.is_accepting-accepting.ensures in
+    let row = IsExploring-edges (g.G.KeyGraph.letters s) (g.G.KeyGraph.start s) (g.G.KeyGraph.after s) (g.G.KeyGraph.accepts s) c.explore.keys c.number_edges.new.keys c.explore.states.states state c.explore.gap p c.explore.invariant.exploring c.len-in-explore-2.ensures (omega arith) from in
+    row.1
 
 pub returns-then-len-limit-clause-states : goal.returns-then-len-limit-clause-states
 returns-then-len-limit-clause-states g c h =
     let s = c.args.graph.now in
     let p = c.len-in-explore-2.result in
-    let at : p ≡ length (states_in c.explore.rows.items) = omega (arith, c.len-in-explore-2.ensures, length-map c.explore.rows.items state_in, c.explore.rows.ok) in
-    let row : DfaState = record { accepting = c.is_accepting-accepting.result; edges = c.in_ok-edges-2.edges } in
-    let from = IsStateFrom-written (g.G.KeyGraph.letters s) (g.G.KeyGraph.after s) (g.G.KeyGraph.accepts s) c.explore.keys c.number_edges.new.keys (key_at c.explore.keys p) c.key-key.result.now c.edges.new.out row.accepting row.edges.items
-    c.key-key.ensures c.in_ok-edges.ensures c.in_ok-edges-2.ensures.edges c.is_accepting-accepting.ensures in
-    let now = IsExploring-pushed (g.G.KeyGraph.letters s) (g.G.KeyGraph.start s) (g.G.KeyGraph.after s) (g.G.KeyGraph.accepts s) c.explore.keys c.number_edges.new.keys c.explore.rows.items c.push.new.self.items row c.explore.gap c.if-len-letters.gap p
-    c.explore.invariant.exploring at (omega arith) from c.in_ok-push.ensures.items
+    let state : State = record { accepting = c.is_accepting-accepting.result; edges = c.deref-in-explore.result.now } in
+    let numbered : AreNumbered c.edges.new.out state.edges c.explore.keys c.number_edges.new.keys =
+    subst (λ es. AreNumbered c.edges.new.out es c.explore.keys c.number_edges.new.keys) (sym {A = List Edge} c.deref-in-explore.ensures.value) c.in_ok-number_edges.ensures.edges in
+    let from = IsStateFrom-written (g.G.KeyGraph.letters s) (g.G.KeyGraph.after s) (g.G.KeyGraph.accepts s) c.explore.keys c.number_edges.new.keys (key_at c.explore.keys p) c.key-key.result.now c.edges.new.out state.accepting state.edges
+    c.key-key.ensures c.in_ok-edges.ensures numbered c.is_accepting-accepting.ensures in
+    let size : c.len-in-explore-3.result ≡ length state.edges = omega (arith, c.len-in-explore-3.ensures, c.number_edges.new.edges.ok, ap length c.deref-in-explore.ensures.value) in
+    let now = IsExploring-pushed (g.G.KeyGraph.letters s) (g.G.KeyGraph.start s) (g.G.KeyGraph.after s) (g.G.KeyGraph.accepts s) c.explore.keys c.number_edges.new.keys c.explore.states.states c.in_ok-states-2.states.states state c.explore.gap c.if-len-letters.gap p
+    c.explore.invariant.exploring c.len-in-explore-2.ensures (omega arith) from (ap (λ (d : Automaton). d.states) c.in_ok-states-2.ensures)
     (elim c.if-len-letters.branch [
-      | then-len-letters w ↦ inl (omega (arith, w.if-len-letters.true, c.in_ok-edges-2.edges.ok, c.letters-letters.ensures.value, c.requires.letters), w.gap-is)
-      | else-len-letters w ↦ inr (omega (arith, w.if-len-letters.false, c.in_ok-edges-2.edges.ok, c.letters-letters.ensures.value, c.requires.letters), w.gap-is)
+      | then-len-letters w ↦ inl (omega (arith, w.if-len-letters.true, size, c.letters-letters.ensures.value, c.requires.letters), w.gap-is)
+      | else-len-letters w ↦ inr (omega (arith, w.if-len-letters.false, size, c.letters-letters.ensures.value, c.requires.letters), w.gap-is)
     ]) in
-    IsExploring-gap (g.G.KeyGraph.letters s) (g.G.KeyGraph.start s) (g.G.KeyGraph.after s) (g.G.KeyGraph.accepts s) c.number_edges.new.keys (states_in c.push.new.self.items) c.args.limit
-    (subst (IsExploring (g.G.KeyGraph.letters s) (g.G.KeyGraph.start s) (g.G.KeyGraph.after s) (g.G.KeyGraph.accepts s) c.number_edges.new.keys (states_in c.push.new.self.items)) c.if-gap.true now) (omega arith)
+    IsExploring-gap (g.G.KeyGraph.letters s) (g.G.KeyGraph.start s) (g.G.KeyGraph.after s) (g.G.KeyGraph.accepts s) c.number_edges.new.keys c.in_ok-states-2.states.states c.args.limit
+    (subst (IsExploring (g.G.KeyGraph.letters s) (g.G.KeyGraph.start s) (g.G.KeyGraph.after s) (g.G.KeyGraph.accepts s) c.number_edges.new.keys c.in_ok-states-2.states.states) c.if-gap.true now) (omega arith)
 
 pub explore-preserved : goal.explore-preserved
 explore-preserved g c =
     let s = c.args.graph.now in
     let p = c.len-in-explore-2.result in
-    let at : p ≡ length (states_in c.explore.rows.items) = omega (arith, c.len-in-explore-2.ensures, length-map c.explore.rows.items state_in, c.explore.rows.ok) in
-    let row : DfaState = record { accepting = c.is_accepting-accepting.result; edges = c.in_ok-edges-2.edges } in
-    let from = IsStateFrom-written (g.G.KeyGraph.letters s) (g.G.KeyGraph.after s) (g.G.KeyGraph.accepts s) c.explore.keys c.number_edges.new.keys (key_at c.explore.keys p) c.key-key.result.now c.edges.new.out row.accepting row.edges.items
-    c.key-key.ensures c.in_ok-edges.ensures c.in_ok-edges-2.ensures.edges c.is_accepting-accepting.ensures in
-    let now = IsExploring-pushed (g.G.KeyGraph.letters s) (g.G.KeyGraph.start s) (g.G.KeyGraph.after s) (g.G.KeyGraph.accepts s) c.explore.keys c.number_edges.new.keys c.explore.rows.items c.push.new.self.items row c.explore.gap c.if-len-letters.gap p
-    c.explore.invariant.exploring at (omega arith) from c.in_ok-push.ensures.items
+    let state : State = record { accepting = c.is_accepting-accepting.result; edges = c.deref-in-explore.result.now } in
+    let numbered : AreNumbered c.edges.new.out state.edges c.explore.keys c.number_edges.new.keys =
+    subst (λ es. AreNumbered c.edges.new.out es c.explore.keys c.number_edges.new.keys) (sym {A = List Edge} c.deref-in-explore.ensures.value) c.in_ok-number_edges.ensures.edges in
+    let from = IsStateFrom-written (g.G.KeyGraph.letters s) (g.G.KeyGraph.after s) (g.G.KeyGraph.accepts s) c.explore.keys c.number_edges.new.keys (key_at c.explore.keys p) c.key-key.result.now c.edges.new.out state.accepting state.edges
+    c.key-key.ensures c.in_ok-edges.ensures numbered c.is_accepting-accepting.ensures in
+    let size : c.len-in-explore-3.result ≡ length state.edges = omega (arith, c.len-in-explore-3.ensures, c.number_edges.new.edges.ok, ap length c.deref-in-explore.ensures.value) in
+    let now = IsExploring-pushed (g.G.KeyGraph.letters s) (g.G.KeyGraph.start s) (g.G.KeyGraph.after s) (g.G.KeyGraph.accepts s) c.explore.keys c.number_edges.new.keys c.explore.states.states c.in_ok-states-2.states.states state c.explore.gap c.if-len-letters.gap p
+    c.explore.invariant.exploring c.len-in-explore-2.ensures (omega arith) from (ap (λ (d : Automaton). d.states) c.in_ok-states-2.ensures)
     (elim c.if-len-letters.branch [
-      | then-len-letters w ↦ inl (omega (arith, w.if-len-letters.true, c.in_ok-edges-2.edges.ok, c.letters-letters.ensures.value, c.requires.letters), w.gap-is)
-      | else-len-letters w ↦ inr (omega (arith, w.if-len-letters.false, c.in_ok-edges-2.edges.ok, c.letters-letters.ensures.value, c.requires.letters), w.gap-is)
+      | then-len-letters w ↦ inl (omega (arith, w.if-len-letters.true, size, c.letters-letters.ensures.value, c.requires.letters), w.gap-is)
+      | else-len-letters w ↦ inr (omega (arith, w.if-len-letters.false, size, c.letters-letters.ensures.value, c.requires.letters), w.gap-is)
     ]) in
     record {
-      few = c.in_ok-edges-2.ensures.few;
+      few = c.in_ok-number_edges.ensures.few;
       room = λ gap. elim c.else-gap.branch [
-        | else-gap-via-then-gap+else-len-limit w ↦ omega (arith, w.if-len-limit.false, w.len-then-gap.ensures.len, c.in_ok-edges-2.ensures.few)
+        | else-gap-via-then-gap+else-len-limit w ↦ omega (arith, w.if-len-limit.false, w.len-then-gap.ensures.len, c.in_ok-number_edges.ensures.few)
         | else-gap-via-else-gap w ↦ absurd (cc (gap, w.if-gap.false))
       ];
-      valid = All-state_from (g.G.KeyGraph.is_key s) (g.G.KeyGraph.letters s) (g.G.KeyGraph.after s (key_at c.explore.keys p)) (g.G.KeyGraph.accepts s (key_at c.explore.keys p)) c.explore.keys c.number_edges.new.keys (state_in row)
+      valid = All-state_from (g.G.KeyGraph.is_key s) (g.G.KeyGraph.letters s) (g.G.KeyGraph.after s (key_at c.explore.keys p)) (g.G.KeyGraph.accepts s (key_at c.explore.keys p)) c.explore.keys c.number_edges.new.keys state
           (λ a small. g.met.G.KeyGraph.after_is_key s (key_at c.explore.keys p) a c.requires.graph (c.explore.invariant.valid p [] (omega arith)) small)
           from c.explore.invariant.valid;
-      explored = let total : c.push.new.self.len ≡ c.explore.rows.len + 1 = c.in_ok-push.ensures.len in
-          let kept = length-are_numbered c.edges.new.out c.in_ok-edges-2.edges.items c.explore.keys c.number_edges.new.keys c.in_ok-edges-2.ensures.edges in
-          omega (arith, total, kept, c.len-in-explore-2.ensures);
+      sizes = ap (λ (d : Automaton). d.sizes) c.in_ok-states-2.ensures ∙ c.explore.invariant.sizes;
+      explored =
+          let total = length_push c.explore.states.states state in
+          let kept = length-are_numbered c.edges.new.out state.edges c.explore.keys c.number_edges.new.keys numbered in
+          omega (arith, total, kept, c.len-in-explore-2.ensures, ap (λ (d : Automaton). length d.states) c.in_ok-states-2.ensures);
       exploring = now;
     }
 
-pub from_states-requires : goal.from_states-requires
-from_states-requires g c =
+pub finish-dfa-requires : goal.finish-dfa-requires
+finish-dfa-requires g c =
     let s = c.args.graph.now in
-    let d : Automaton = record { sizes = c.args.alphabet; states = states_in c.explore.rows.items } in
-    let size : length (states_in c.explore.rows.items) ≡ length c.explore.keys = omega (arith, length-map c.explore.rows.items state_in, c.explore.rows.ok, c.explore.invariant.explored) in
+    let d : Automaton = c.explore.states in
+    let size : length d.states ≡ length c.explore.keys = omega (arith, c.explore.invariant.explored) in
     let small = c.explore.invariant.few in
-    subst (λ n. IsTable n (states_in c.explore.rows.items)) c.requires.letters
+    subst (λ n. IsTable n d.states) (c.requires.letters ∙ sym (ap product c.explore.invariant.sizes))
     (IsTable-explored (g.G.KeyGraph.letters s) (g.G.KeyGraph.start s) (g.G.KeyGraph.after s) (g.G.KeyGraph.accepts s) c.explore.keys d c.explore.gap c.explore.invariant.exploring size (omega arith))
 
 pub returns-clause-explored : goal.returns-clause-explored
 returns-clause-explored g c =
     let s = c.args.graph.now in
-    let d : Automaton = record { sizes = c.args.alphabet; states = states_in c.explore.rows.items } in
-    let size : length (states_in c.explore.rows.items) ≡ length c.explore.keys = omega (arith, length-map c.explore.rows.items state_in, c.explore.rows.ok, c.explore.invariant.explored) in
-    subst (IsExplored (g.G.KeyGraph.letters s) (g.G.KeyGraph.start s) (g.G.KeyGraph.after s) (g.G.KeyGraph.accepts s) c.explore.keys) (sym c.in_ok-dfa.ensures)
+    let d : Automaton = c.explore.states in
+    let size : length d.states ≡ length c.explore.keys = omega (arith, c.explore.invariant.explored) in
+    subst (IsExplored (g.G.KeyGraph.letters s) (g.G.KeyGraph.start s) (g.G.KeyGraph.after s) (g.G.KeyGraph.accepts s) c.explore.keys) (sym c.finish-dfa.ensures)
     (IsExplored-done (g.G.KeyGraph.letters s) (g.G.KeyGraph.start s) (g.G.KeyGraph.after s) (g.G.KeyGraph.accepts s) c.explore.keys d c.explore.gap c.explore.invariant.exploring size)
 
 pub returns-clause-numbered : goal.returns-clause-numbered
 returns-clause-numbered g c =
     let s = c.args.graph.now in
-    let d : Automaton = record { sizes = c.args.alphabet; states = states_in c.explore.rows.items } in
-    let size : length (states_in c.explore.rows.items) ≡ length c.explore.keys = omega (arith, length-map c.explore.rows.items state_in, c.explore.rows.ok, c.explore.invariant.explored) in (
+    let d : Automaton = c.explore.states in
+    let size : length d.states ≡ length c.explore.keys = omega (arith, c.explore.invariant.explored) in (
       c.explore.invariant.exploring.firsts,
-      subst (λ (d : Automaton). IsNumberedByFirsts d c.explore.invariant.exploring.firsts) (sym c.in_ok-dfa.ensures)
-          (IsNumberedByFirsts-done (g.G.KeyGraph.letters s) (g.G.KeyGraph.start s) (g.G.KeyGraph.after s) (g.G.KeyGraph.accepts s) c.explore.keys d c.explore.gap c.explore.invariant.exploring size c.requires.letters),
+      subst (λ (d : Automaton). IsNumberedByFirsts d c.explore.invariant.exploring.firsts) (sym c.finish-dfa.ensures)
+          (IsNumberedByFirsts-done (g.G.KeyGraph.letters s) (g.G.KeyGraph.start s) (g.G.KeyGraph.after s) (g.G.KeyGraph.accepts s) c.explore.keys d c.explore.gap c.explore.invariant.exploring size (c.requires.letters ∙ sym (ap product c.explore.invariant.sizes))),
     )
 
 pub returns-clause-language : goal.returns-clause-language
 returns-clause-language g c =
     let s = c.args.graph.now in
-    let d : Automaton = record { sizes = c.args.alphabet; states = states_in c.explore.rows.items } in
-    let size : length (states_in c.explore.rows.items) ≡ length c.explore.keys = omega (arith, length-map c.explore.rows.items state_in, c.explore.rows.ok, c.explore.invariant.explored) in
+    let d : Automaton = c.explore.states in
+    let size : length d.states ≡ length c.explore.keys = omega (arith, c.explore.invariant.explored) in
     let explored = IsExplored-done (g.G.KeyGraph.letters s) (g.G.KeyGraph.start s) (g.G.KeyGraph.after s) (g.G.KeyGraph.accepts s) c.explore.keys d c.explore.gap c.explore.invariant.exploring size in
-    subst (λ (d : Automaton). (word : List ℕ) → IsWord (g.G.KeyGraph.letters s) word → accepts_of d word ≡ key_accepts (g.G.KeyGraph.after s) (g.G.KeyGraph.accepts s) (g.G.KeyGraph.start s) word) (sym c.in_ok-dfa.ensures)
+    subst (λ (d : Automaton). (word : List ℕ) → IsWord (g.G.KeyGraph.letters s) word → accepts_of d word ≡ key_accepts (g.G.KeyGraph.after s) (g.G.KeyGraph.accepts s) (g.G.KeyGraph.start s) word) (sym c.finish-dfa.ensures)
     (accepts_of-explored (g.G.KeyGraph.letters s) (g.G.KeyGraph.start s) (g.G.KeyGraph.after s) (g.G.KeyGraph.accepts s) c.explore.keys d explored (omega (arith, c.explore.invariant.exploring.frontier.positive, size)))
 
 pub returns-clause-width : goal.returns-clause-width
 returns-clause-width g c =
     let s = c.args.graph.now in
-    let d : Automaton = record { sizes = c.args.alphabet; states = states_in c.explore.rows.items } in
-    let size : length (states_in c.explore.rows.items) ≡ length c.explore.keys = omega (arith, length-map c.explore.rows.items state_in, c.explore.rows.ok, c.explore.invariant.explored) in
+    let d : Automaton = c.explore.states in
+    let size : length d.states ≡ length c.explore.keys = omega (arith, c.explore.invariant.explored) in
     let wide = HasWidth-done (g.G.KeyGraph.letters s) (g.G.KeyGraph.start s) (g.G.KeyGraph.after s) (g.G.KeyGraph.accepts s) c.explore.keys d c.explore.gap c.explore.invariant.exploring size in
     let one : c.from.result ≡ (if c.explore.gap then 1 else 0) = search rules in
     let width : length c.explore.keys + (if c.explore.gap then 1 else 0) ≡ c.len-2.result + c.from.result = omega (arith, one, c.len-2.ensures.len) in

@@ -1,6 +1,5 @@
-use Rattle.std.proofs.Common.{◌≡◌, ◌≤◌, ◌<◌, ◌-◌, true, length, vec_len}
+use Rattle.std.proofs.Common.{◌≡◌, ◌≤◌, ◌<◌, ◌-◌, true, length}
 use Rattle.std.specs.List.{All}
-use Rattle.digit_tuple.specs.DfaRows.{states_in}
 use Rattle.digit_tuple.proofs.ExploredLemmas.{IsExploring}
 use Rattle.digit_tuple.proofs.exploration.explore_keys.Given as goal
 
@@ -9,9 +8,10 @@ invariant-explore g l = record {
   few : length l.keys ≤ l.limit;
   room : l.gap ≡ true → length l.keys < l.limit;
   valid : All (g.G.KeyGraph.is_key l.graph) l.keys;
-  explored : vec_len l.rows ≤ length l.keys;
-  exploring : IsExploring (g.G.KeyGraph.letters l.graph) (g.G.KeyGraph.start l.graph) (g.G.KeyGraph.after l.graph) (g.G.KeyGraph.accepts l.graph) l.keys (states_in l.rows.items) l.gap;
+  sizes : l.states.sizes ≡ l.fn.alphabet;
+  explored : length l.states.states ≤ length l.keys;
+  exploring : IsExploring (g.G.KeyGraph.letters l.graph) (g.G.KeyGraph.start l.graph) (g.G.KeyGraph.after l.graph) (g.G.KeyGraph.accepts l.graph) l.keys l.states.states l.gap;
 }
 
 abbrev pub decreases-explore : goal.decreases-explore
-decreases-explore g l = l.limit - vec_len l.rows
+decreases-explore g l = l.limit - length l.states.states

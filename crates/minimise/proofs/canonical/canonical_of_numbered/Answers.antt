@@ -1,5 +1,5 @@
 use Rattle.std.proofs.Common.{List, ℕ, ◌∙◌, subst}
-use Rattle.digit_tuple.specs.Deterministic.{Automaton, IsTable, letters_of}
+use Rattle.digit_tuple.specs.Deterministic.{IsTable, letters_of}
 use Rattle.minimise.specs.ClassFunctions.{SameClassFunction}
 use Rattle.minimise.specs.CoarseClasses.{AreResidualClasses}
 use Rattle.minimise.specs.Leaders.{AreAlone}
@@ -9,7 +9,7 @@ use Rattle.minimise.proofs.canonical.canonical_of_numbered.Goals as goal
 
 pub returns-then-branch-clause-canonical : goal.returns-then-branch-clause-canonical
 returns-then-branch-clause-canonical c =
-    let table : IsTable (letters_of c.args.d) c.args.d.states = subst (λ (d : Automaton). IsTable (letters_of d) d.states) c.d.view_is c.d.invariant in
+    let table : IsTable (letters_of c.args.d) c.args.d.states = c.states-states.ensures.table in
     let are = subst (λ (os : List ℕ). AreResidualClasses c.args.d os c.in_ok-classes.classes.items) (c.deref.ensures.value ∙ c.in_ok-outputs.ensures) c.in_ok-classes.ensures in
     IsCanonical-alone c.args.d c.in_ok-classes.classes.items c.requires.0 table c.requires.1 are (subst AreAlone c.deref-2.ensures.value (c.in_ok-are_alone.ensures.0 c.if-branch.true))
 

@@ -14,6 +14,6 @@ returns-clause-zero c =
     let both = set_by_zero c.in_ok-alphabet.alphabet c.in_ok-builder.builder c.add_state.new.self c.set.new.self c.in_ok-zeros.zeros c.in_ok-builder.ensures c.in_ok-zeros.ensures.state c.in_ok-zeros.ensures.number c.in_ok-set.ensures.set in
     let stays : StaysByZero made = subst StaysByZero (sym c.in_ok-finish.ensures) both.0 in
     let sizes : made.sizes ≡ c.args.language.now.sizes = ap (λ (d : Automaton). d.sizes) c.in_ok-finish.ensures ∙ both.1 ∙ c.in_ok-alphabet.ensures ∙ c.alphabet.ensures.sizes in
-    IfOk-weaker c.canonical-2.result _ _
+    IfOk-weaker c.canonical.result _ _
     (λ zero h way s is tracks. relation_kept way (s ∷ []) IsZero made zero (zero_holds way s made is (sizes ∙ tracks) stays) h.0 h.1)
-    (both_ok c.canonical-2.result (λ zero. zero.sizes ≡ made.sizes) (λ zero. SameLanguage made zero) c.canonical-2.ensures.sizes c.canonical-2.ensures.language)
+    (both_ok c.canonical.result (λ zero. zero.sizes ≡ made.sizes) (λ zero. SameLanguage made zero) c.canonical.ensures.sizes c.canonical.ensures.language)

@@ -1,7 +1,6 @@
-use Rattle.std.proofs.Common.{◌+◌, sym, ◌∙◌, subst}
+use Rattle.std.proofs.Common.{◌+◌, sym, ◌∙◌}
 use Rattle.std.proofs.lemmas.Result.{IfOk-weaker}
 use Rattle.digit_tuple.specs.Letters.{product}
-use Rattle.project_close.specs.Image.{ReadsProjection}
 use Rattle.project_close.proofs.ProjectionLemmas.{reads_apart, reads_language, reads_letters, reads_graph, reads_width}
 use Rattle.project_close.proofs.projection.live_projection.Goals as goal
 

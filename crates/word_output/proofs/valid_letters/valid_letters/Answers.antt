@@ -46,7 +46,7 @@ returns-in-Ok c =
     let counted : HasWidth (LeadToOne (validity_readings d languages)) (letters_of d) width =
     subst (λ (rs : List Reading). HasWidth (LeadToOne rs) (letters_of d) width) are (subst (λ (ss : List ℕ). HasWidth (LeadToOne (readings_in c.deref.result.now)) (product ss) width) sizes c.in-Ok.ensures.width) in
     let letters = c.deref-in-Ok-2.ensures.value ∙ c.in_ok-letters-in-Ok.ensures ∙ ap (λ (rs : List Reading). tuple_letters f rs keys) seen in
-    let size : c.states.result ≡ states_of valid.automaton = c.states.ensures.value ∙ ap states_of c.dfa-in-Ok.ensures.value in
+    let size : c.states.result ≡ states_of valid.automaton = c.states.ensures.value ∙ ap states_of c.dfa.ensures.value in
     record {
       line = _;
       step = record {

@@ -1,5 +1,6 @@
 use Rattle.std.proofs.Common.{◌≡◌, ◌<◌, ◌*◌, ◌/◌, ◌%◌, ℕ, List, [], ◌∷◌, ◌++◌, map, length, Some, refl, subst, sym, ap, ◌∙◌, arith}
 use Rattle.std.proofs.lemmas.Bool.{false≢true}
+use Rattle.std.proofs.Math.Nat.{mod-le}
 use Rattle.std.proofs.lemmas.Nat.{div_below, mod_below}
 use Rattle.digit_tuple.specs.Letters.{product}
 use Rattle.digit_tuple.specs.NumberLists.{extended, last_of, last_number}
@@ -33,8 +34,11 @@ extend_row-requires t c = (
         (
           subst (λ (d : Decisions). rest < product (sizes_in d)) same low,
           (
-            subst (λ (d : Decisions). 0 < length (rows_in d)) same some,
-            subst (λ (d : Decisions). CanFollow d rest) same (goes_down (last_number (last_of track.digits [])) digit (CanFollow below rest) follows last),
+            omega (arith, mod-le c.args.letter track.weight, c.requires.narrow),
+            (
+              subst (λ (d : Decisions). 0 < length (rows_in d)) same some,
+              subst (λ (d : Decisions). CanFollow d rest) same (goes_down (last_number (last_of track.digits [])) digit (CanFollow below rest) follows last),
+            ),
           ),
         ),
       ),

@@ -60,7 +60,7 @@ is_within-requires t c = (
         (
           subst (λ (d : Decisions). c.start-start.result + k < length (rows_in d)) same (omega (arith, inside, from)),
           (
-            subst (λ (d : Decisions). c.args.base + digit * track.weight + product (sizes_in d) < 4294967296) same (omega (arith, more, whole, scaled, sound.0.weight)),
+            subst (λ n. c.args.base + n * track.weight + product (sizes_in c.deref.result.now) < 4294967296) (sym c.from.ensures) (subst (λ (d : Decisions). c.args.base + digit * track.weight + product (sizes_in d) < 4294967296) same (omega (arith, more, whole, scaled, sound.0.weight))),
             (c.requires.other_sound, c.requires.at),
           ),
         ),
@@ -99,7 +99,7 @@ returns-then-not-is_within t c =
     let part = all-joined P c.args.base track.weight digits rows k 0 (omega (arith, here, ap length listed)) last (subst (λ (es : List Edge). AllByRecursion P (map (behind c.args.base) es)) row all) in
     let those : AllByRecursion P (map (behind (c.args.base + digit * track.weight)) (get_or (rows_in c.deref.result.now) (c.start-start.result + k) [])) =
     subst (λ (es : List Edge). AllByRecursion P (map (behind (c.args.base + digit * track.weight)) es)) (sym there) (subst (λ (ns : List ℕ). AllByRecursion P (map (behind (c.args.base + get_or ns k 0 * track.weight)) next)) (sym listed) part) in
-    false≢true (sym no ∙ c.is_within.ensures.1 those))
+    false≢true (sym no ∙ c.is_within.ensures.1 (subst (λ n. AllByRecursion P (map (behind (c.args.base + n * track.weight)) (get_or (rows_in c.deref.result.now) (c.start-start.result + k) []))) (sym c.from.ensures) those)))
 
 pub loop-count-preserved : goal.loop-count-preserved
 loop-count-preserved t c =
@@ -128,7 +128,7 @@ loop-count-preserved t c =
     ap (λ n. joined track.weight (take n ds) (drop c.start-start.result (rows_in below))) (add-one k) ∙ ap (λ n. joined track.weight (take (suc k) ds) (drop n (rows_in below))) from ∙ joined_more track.weight ds rows k 0 here last in
     let P : Edge → Type 0 = LeadsAs (get_or (rows_in c.args.other.now) c.args.at []) in
     let yes : c.is_within.result ≡ true = c.if-not-is_within.false in
-    let those : AllByRecursion P (map (behind (c.args.base + digit * track.weight)) next) = subst (λ (es : List Edge). AllByRecursion P (map (behind (c.args.base + digit * track.weight)) es)) there (c.is_within.ensures.0 yes) in
+    let those : AllByRecursion P (map (behind (c.args.base + digit * track.weight)) next) = subst (λ (es : List Edge). AllByRecursion P (map (behind (c.args.base + digit * track.weight)) es)) there (subst (λ n. AllByRecursion P (map (behind (c.args.base + n * track.weight)) (get_or (rows_in c.deref.result.now) (c.start-start.result + k) []))) c.from.ensures (c.is_within.ensures.0 yes)) in
     let before : AllByRecursion P (map (behind c.args.base) (joined track.weight (take k ds) rows)) = subst (λ n. AllByRecursion P (map (behind c.args.base) (joined track.weight (take k ds) (drop n (rows_in below))))) from c.loop-count.invariant in
     subst (λ (es : List Edge). AllByRecursion P (map (behind c.args.base) es)) (sym taken)
     (subst (AllByRecursion P) (sym (map-append (behind c.args.base) (joined track.weight (take k ds) rows) (map (behind (digit * track.weight)) next)))

@@ -59,7 +59,7 @@ row_into-requires t c = (
         subst IsSound same sound.1,
         (
           subst (λ (d : Decisions). c.start-start.result + k < length (rows_in d)) same (omega (arith, inside, from)),
-          subst (λ (d : Decisions). c.args.base + digit * track.weight + product (sizes_in d) < 4294967296) same (omega (arith, more, whole, scaled, sound.0.weight)),
+          subst (λ n. c.args.base + n * track.weight + product (sizes_in c.deref.result.now) < 4294967296) (sym c.from.ensures) (subst (λ (d : Decisions). c.args.base + digit * track.weight + product (sizes_in d) < 4294967296) same (omega (arith, more, whole, scaled, sound.0.weight))),
         ),
       ),
 )
@@ -90,6 +90,7 @@ loop-count-preserved t c =
     let taken : joined track.weight (take (k + 1) ds) (drop c.start-start.result (rows_in below)) ≡ joined track.weight (take k ds) rows ++ map (behind (digit * track.weight)) next =
     ap (λ n. joined track.weight (take n ds) (drop c.start-start.result (rows_in below))) (add-one k) ∙ ap (λ n. joined track.weight (take (suc k) ds) (drop n (rows_in below))) from ∙ joined_more track.weight ds rows k 0 here last in
     c.in_ok-row_into-in-OnTrack.ensures
+    ∙ ap (λ n. c.loop-count.row.items ++ map (behind (c.args.base + n * track.weight)) (get_or (rows_in c.deref.result.now) (c.start-start.result + k) [])) c.from.ensures
     ∙ ap (λ (es : List Edge). c.loop-count.row.items ++ map (behind (c.args.base + digit * track.weight)) es) there
     ∙ ap (λ (es : List Edge). es ++ map (behind (c.args.base + digit * track.weight)) next) (c.loop-count.invariant ∙ ap (λ n. c.args.row.now.items ++ map (behind c.args.base) (joined track.weight (take k ds) (drop n (rows_in below)))) from)
     ∙ append_assoc c.args.row.now.items (map (behind c.args.base) (joined track.weight (take k ds) rows)) (map (behind (c.args.base + digit * track.weight)) next)

@@ -1,6 +1,5 @@
-use Rattle.std.proofs.Common.{◌≡◌, ◌≢◌, ◌+◌, ◌/◌, ◌%◌, ◌<◌, ◌≤◌, ℕ, List, [], take, drop, length, get_or, Ok, Err, subst, sym, ap, ◌∙◌, length-drop, arith}
+use Rattle.std.proofs.Common.{◌≡◌, ◌≢◌, ◌+◌, ◌/◌, ◌%◌, ◌<◌, ◌≤◌, ℕ, List, [], take, drop, length, get_or, subst, sym, ap, ◌∙◌, length-drop, arith}
 use Rattle.std.proofs.lemmas.Bool.{eqb-false}
-use Rattle.std.proofs.lemmas.List.Sorted.{searched}
 use Rattle.std.proofs.lemmas.List.{get_or-drop}
 use Rattle.std.proofs.lemmas.Bool.Decides.{Decides-eqb}
 use Rattle.std.specs.List.{sum_by, All, AllPairs, AllByRecursion}
@@ -12,7 +11,7 @@ use Rattle.digit_tuple.specs.declared.decisions.Decisions.{Decisions}
 use Rattle.digit_tuple.specs.Decisions.{rows_in, sizes_in, joined, only_edge, AreDigitsBelow, IsSound, IsTrack, HasEdge}
 use Rattle.digit_tuple.proofs.JoinedRows.{length-joined_rows}
 use Rattle.digit_tuple.proofs.JoinedReads.{joined_rows-at, joined-at, joined-none, all_at, all_drop, AreBelow}
-use Rattle.digit_tuple.proofs.DecisionReads.{fits_at, only_edge-at, length-only_edges, empty-digits, letters-below, positive_weight, rising, not_found}
+use Rattle.digit_tuple.proofs.DecisionReads.{fits_at, only_edge-at, length-only_edges, empty-digits, letters-below, positive_weight}
 use Rattle.digit_tuple.proofs.DfaLemmas.{target_by-other}
 use Rattle.digit_tuple.proofs.decisions.Decisions.+step.Goals as goal
 
@@ -83,6 +82,14 @@ nonzero_rem-letter t c =
     let some : length ds ≢ 0 = eqb-false (length ds) 0 (sym c.is_empty.ensures ∙ c.if-is_empty.false) in
     positive_weight track.weight rows 0 (omega (arith, some, ap length listed, room)) low filled
 
+pub index_of-requires : goal.index_of-requires
+index_of-requires t c =
+    let track = c.in-OnTrack.track in
+    let below = c.in-OnTrack.below.value in
+    let sound : IsTrack track (product (sizes_in below)) (rows_in below) × IsSound below = subst IsSound c.in-OnTrack.is c.requires.sound in
+    let within : c.args.place < length track.digits = omega (arith, subst (λ (d : Decisions). c.args.place < length (rows_in d)) c.in-OnTrack.is c.requires.place, length-joined_rows track.weight track.digits (rows_in below)) in
+    subst (AllPairs (λ d e. d < e)) (sym c.list-digits.ensures) (all_at (AreDigitsBelow track.size) track.digits c.args.place [] sound.0.digits within).ascending
+
 pub overflow_add-start : goal.overflow_add-start
 overflow_add-start t c =
     let track = c.in-OnTrack.track in
@@ -102,7 +109,7 @@ overflow_add-start t c =
     let filled = all_drop HasEdge start (rows_in below) sound.0.filled in
     let ascending : AllPairs (λ d e. d < e) digits = (all_at (AreDigitsBelow track.size) track.digits c.args.place [] sound.0.digits within).ascending in
     let up : AllPairs (λ d e. d < e) ds = subst (AllPairs (λ d e. d < e)) (sym listed) ascending in
-    let found = searched ds (c.args.letter / track.weight) (Ok c.in-Ok.count) c.in-Ok.ensures.position (rising ds up) in
+    let found = c.in-Some.ensures.found in
     omega (arith, c.start.ensures.fits, found.0, ap length listed)
 
 pub step-requires : goal.step-requires
@@ -125,10 +132,10 @@ step-requires t c = (
       let filled = all_drop HasEdge start (rows_in below) sound.0.filled in
       let ascending : AllPairs (λ d e. d < e) digits = (all_at (AreDigitsBelow track.size) track.digits c.args.place [] sound.0.digits within).ascending in
       let up : AllPairs (λ d e. d < e) ds = subst (AllPairs (λ d e. d < e)) (sym listed) ascending in
-      let found = searched ds (c.args.letter / track.weight) (Ok c.in-Ok.count) c.in-Ok.ensures.position (rising ds up) in
+      let found = c.in-Some.ensures.found in
       let same = sym c.deref.ensures in (
         subst IsSound same sound.1,
-        subst (λ (d : Decisions). c.start.result + c.in-Ok.count < length (rows_in d)) same (omega (arith, fits, c.start.ensures.value, found.0, ap length listed)),
+        subst (λ (d : Decisions). c.start.result + c.in-Some.count < length (rows_in d)) same (omega (arith, fits, c.start.ensures.value, found.0, ap length listed)),
       ),
 )
 
@@ -140,8 +147,8 @@ returns-else-letter-eq0 t c =
     let other : 0 ≢ c.args.letter = λ same. c.if-letter-eq0.false (sym same) in
     sym (ap (λ (es : List Edge). target_by es c.args.letter) row ∙ target_by-other (edge_to 0 (get_or targets c.args.place 0)) [] c.args.letter other)
 
-pub returns-in-Ok : goal.returns-in-Ok
-returns-in-Ok t c =
+pub returns-in-Some : goal.returns-in-Some
+returns-in-Some t c =
     let track = c.in-OnTrack.track in
     let below = c.in-OnTrack.below.value in
     let sound : IsTrack track (product (sizes_in below)) (rows_in below) × IsSound below = subst IsSound c.in-OnTrack.is c.requires.sound in
@@ -159,15 +166,15 @@ returns-in-Ok t c =
     let filled = all_drop HasEdge start (rows_in below) sound.0.filled in
     let ascending : AllPairs (λ d e. d < e) digits = (all_at (AreDigitsBelow track.size) track.digits c.args.place [] sound.0.digits within).ascending in
     let up : AllPairs (λ d e. d < e) ds = subst (AllPairs (λ d e. d < e)) (sym listed) ascending in
-    let found = searched ds (c.args.letter / track.weight) (Ok c.in-Ok.count) c.in-Ok.ensures.position (rising ds up) in
-    let inside : c.in-Ok.count < length digits = omega (arith, found.0, ap length listed) in
-    let there : get_or (rows_in c.deref.result.now) (c.start.result + c.in-Ok.count) [] ≡ get_or rows c.in-Ok.count [] =
-    ap (λ (d : Decisions). get_or (rows_in d) (c.start.result + c.in-Ok.count) []) c.deref.ensures ∙ ap (λ n. get_or (rows_in below) (n + c.in-Ok.count) []) c.start.ensures.value ∙ sym (get_or-drop start (rows_in below) c.in-Ok.count []) in
-    let at = joined-at track.weight c.args.letter digits rows c.in-Ok.count 0 low ascending inside (omega (arith, inside, room)) (ap (λ (ns : List ℕ). get_or ns c.in-Ok.count 0) (sym listed) ∙ found.1) in
+    let found = c.in-Some.ensures.found in
+    let inside : c.in-Some.count < length digits = omega (arith, found.0, ap length listed) in
+    let there : get_or (rows_in c.deref.result.now) (c.start.result + c.in-Some.count) [] ≡ get_or rows c.in-Some.count [] =
+    ap (λ (d : Decisions). get_or (rows_in d) (c.start.result + c.in-Some.count) []) c.deref.ensures ∙ ap (λ n. get_or (rows_in below) (n + c.in-Some.count) []) c.start.ensures.value ∙ sym (get_or-drop start (rows_in below) c.in-Some.count []) in
+    let at = joined-at track.weight c.args.letter digits rows c.in-Some.count 0 low ascending inside (omega (arith, inside, room)) (ap (λ (ns : List ℕ). get_or ns c.in-Some.count 0) (sym listed) ∙ found.1) in
     c.step.ensures ∙ ap (λ (es : List Edge). target_by es (c.args.letter % track.weight)) there ∙ sym at ∙ ap (λ (es : List Edge). target_by es c.args.letter) (sym row)
 
-pub returns-in-Err : goal.returns-in-Err
-returns-in-Err t c =
+pub returns-in-None : goal.returns-in-None
+returns-in-None t c =
     let track = c.in-OnTrack.track in
     let below = c.in-OnTrack.below.value in
     let sound : IsTrack track (product (sizes_in below)) (rows_in below) × IsSound below = subst IsSound c.in-OnTrack.is c.requires.sound in
@@ -185,6 +192,5 @@ returns-in-Err t c =
     let filled = all_drop HasEdge start (rows_in below) sound.0.filled in
     let ascending : AllPairs (λ d e. d < e) digits = (all_at (AreDigitsBelow track.size) track.digits c.args.place [] sound.0.digits within).ascending in
     let up : AllPairs (λ d e. d < e) ds = subst (AllPairs (λ d e. d < e)) (sym listed) ascending in
-    let parted = searched ds (c.args.letter / track.weight) (Err c.in-Err.field-0) c.in-Err.ensures.position (rising ds up) in
-    let others = subst (All (λ d. d ≢ c.args.letter / track.weight)) listed (not_found ds (c.args.letter / track.weight) c.in-Err.field-0 parted.1 parted.2) in
+    let others = subst (All (λ d. d ≢ c.args.letter / track.weight)) listed c.in-None.ensures.none in
     sym (ap (λ (es : List Edge). target_by es c.args.letter) row ∙ joined-none track.weight c.args.letter digits rows low others)

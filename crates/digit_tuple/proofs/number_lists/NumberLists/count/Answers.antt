@@ -5,6 +5,6 @@ use Rattle.digit_tuple.proofs.number_lists.NumberLists.count.Goals as goal
 
 pub returns : goal.returns
 returns c =
-    let total = lists_at-total c.self.inside.starts.items c.self.inside.numbers.items c.self.invariant.ascending in
+    let total = lists_at-total c.self.inside.starts c.self.inside.numbers.items c.self.invariant.ascending in
     let view = ap (λ (ls : List (List ℕ)). sum_by length ls) c.self.view_is in
     omega (arith, total, view, c.self.invariant.first, c.len.ensures)

@@ -1,0 +1,10 @@
+-- How many edges an automaton has, and how many cells they take as decisions by tracks.
+use Rattle.std.specs.Prelude.{ℕ, sum_by, length}
+use Rattle.digit_tuple.specs.CellCounts.{cells_of}
+use Rattle.digit_tuple.specs.Deterministic.{Automaton}
+
+abbrev pub edge_count : Automaton → ℕ
+edge_count d = sum_by (λ state. length state.edges) d.states
+
+abbrev pub cell_count : Automaton → ℕ
+cell_count d = sum_by (λ state. cells_of d.sizes state.edges) d.states

@@ -1,0 +1,84 @@
+//! Deterministic automata that grow by whole states.
+
+ghost use Rattle.std.specs.Prelude.{◌≡◌, ℕ, ◌<◌, ◌++◌, ◌∷◌, [], length, IfOk};
+ghost use Rattle.std.specs.List.{All, AllPairs};
+ghost use Rattle.digit_tuple.specs.Deterministic.{Automaton, IsTable, IsByEarlier, letters_of};
+ghost use Rattle.digit_tuple.specs.DfaRows.{flagged};
+
+use crate::alphabet::Alphabet;
+use crate::dfa::Dfa;
+use crate::edges::Edge;
+use crate::faults::OutOfMemory;
+use crate::sparse_rows::SparseRows;
+use std::alloc::Global;
+use std::marker::Model;
+
+/// The first states of a deterministic automaton, in the form that it is kept in. Their edges may lead
+/// to states that are still to come.
+pub(crate) struct GrowingDfa {
+    flags: Vec<bool>,
+    table: SparseRows,
+}
+
+impl Model for GrowingDfa {
+    ghost use Rattle.std.specs.Prelude.{◌≡◌, length};
+    ghost use Rattle.digit_tuple.specs.Deterministic.{Automaton};
+    ghost use Rattle.digit_tuple.specs.DfaRows.{flagged};
+
+    ghost Value = { Automaton };
+
+    ghost view = { λ g. record { sizes = g.table.sizes; states = flagged g.flags.items g.table.rows } };
+
+    ghost invariant = { λ g. length g.flags.items ≡ length g.table.rows };
+}
+
+impl Drop for GrowingDfa {
+    fn drop(self) {
+        let GrowingDfa {
+            flags: _flags,
+            table: _table,
+        } = self;
+    }
+}
+
+impl GrowingDfa {
+    /// No states yet.
+    pub(crate) fn new(alloc: Global, alphabet: Alphabet) -> Result<Self, OutOfMemory>
+        ensures { IfOk result (λ states. states ≡ record { sizes = alphabet; states = [] }) }
+    {
+        Ok(GrowingDfa {
+            flags: Vec::new(alloc),
+            table: SparseRows::new(alloc, alphabet)?,
+        })
+    }
+
+    /// How many states there are.
+    pub(crate) fn len(&self) -> usize
+        ensures { result ≡ length self.now.states }
+    {
+        self.flags.len()
+    }
+
+    /// The states with one more, of these edges. A refused call gives them up.
+    pub(crate) fn with_state(self, accepting: bool, edges: &[Edge]) -> Result<Self, OutOfMemory>
+        requires in_range { All (λ edge. edge.letter < letters_of self) edges.now }
+        requires ascending { AllPairs IsByEarlier edges.now }
+        ensures { IfOk result (λ states. states ≡ record { sizes = self.sizes; states = self.states ++ (record { accepting = accepting; edges = edges.now }) ∷ [] }) }
+    {
+        let GrowingDfa { mut flags, table } = self;
+        flags.push(accepting)?;
+        Ok(GrowingDfa {
+            flags,
+            table: table.with_row(edges)?,
+        })
+    }
+
+    /// The automaton of the states.
+    pub(crate) fn finish(self) -> Dfa
+        requires { IsTable (letters_of self) self.states }
+        ensures { result ≡ self }
+    {
+        let GrowingDfa { flags, table } = self;
+        Dfa::of_rows(flags, table)
+    }
+}
