@@ -37,6 +37,10 @@ mod tables;
 #[cfg(test)]
 mod dense_tables;
 
+// edges and cells of automata
+#[cfg(test)]
+mod edge_counts;
+
 // the subset construction, the reversal and the least automaton
 #[cfg(test)]
 mod least;
