@@ -5,7 +5,7 @@ use crate::row_fault::RowFault;
 use crate::table_texts::listed;
 use digit_tuple::alphabet::Alphabet;
 use digit_tuple::dense::Dense;
-use digit_tuple::dfa::DfaState;
+use digit_tuple::dfa::{Dfa, DfaState};
 use digit_tuple::edges::Edge;
 use digit_tuple::table::{Table, accepts_by};
 use std::alloc::Global;
@@ -32,14 +32,26 @@ fn accepts_ones<T: Table>(table: &T) -> bool {
     accepts_by(table, &[1, 1]) && !accepts_by(table, &[1, 0])
 }
 
-// Whether the dense table and the automaton do, and the table has the one edge.
-fn both_accept_ones(alloc: Global) -> Result<bool, RowFault> {
+// Whether the dense table does, and has the one edge.
+fn dense_accepts_ones(alloc: Global) -> Result<bool, RowFault> {
     let dense = dense(alloc)?;
-    let dfa = listed(alloc, ONES)?;
-    Ok(accepts_ones(&dense) && accepts_ones(&dfa) && dense.edges(0).len() == 1)
+    Ok(accepts_ones(&dense) && dense.edges(0).len() == 1)
+}
+
+// Whether the automaton of the dense table does, and has the one edge.
+fn made_accepts_ones(alloc: Global) -> Result<bool, RowFault> {
+    let made = Dfa::of_dense(alloc, &dense(alloc)?)?;
+    Ok(accepts_ones(&made) && made.edges() == 1)
+}
+
+// Whether the automaton of the line does.
+fn listed_accepts_ones(alloc: Global) -> Result<bool, RowFault> {
+    Ok(accepts_ones(&listed(alloc, ONES)?))
 }
 
 #[test]
 fn tables_accept_by_their_runs(rt: HostRuntime) {
-    expect_so(&rt, ONES, &both_accept_ones(rt.alloc()));
+    expect_so(&rt, "dense", &dense_accepts_ones(rt.alloc()));
+    expect_so(&rt, "of the dense one", &made_accepts_ones(rt.alloc()));
+    expect_so(&rt, ONES, &listed_accepts_ones(rt.alloc()));
 }
