@@ -146,6 +146,10 @@ IsTrack-same size weight letters letters' ds ds' rows rows' d l r is = record {
   filled = subst (AllByRecursion HasEdge) (sym r) is.filled;
 }
 
+pub on_any : {T E : Type 0} (r : Result T E) (P : Type 0) → P → OnOk r P
+on_any (Ok x) P p = p
+on_any (Err e) P p = tt
+
 -- what holds on Ok gives what follows from it
 pub on_ok : {T E : Type 0} (r : Result T E) (P Q R S : Type 0) → OnOk r P → OnOk r Q → OnOk r R → (P → Q → R → S) → OnOk r S
 on_ok (Ok x) P Q R S p q r next = next p q r

@@ -1,16 +1,19 @@
 -- What rows that are kept as decisions tell: their letters are in range, and they have few digits.
-use Rattle.std.proofs.Common.{◌≡◌, ◌≢◌, ℕ, suc, zero, ◌+◌, ◌*◌, ◌<◌, ◌≤◌, ◌⊎◌, inl, inr, List, [], ◌∷◌, map, take, length, get_or, refl, sym, ap, ◌∙◌, subst, arith}
+use Rattle.std.proofs.Common.{◌≡◌, ◌≢◌, ℕ, suc, zero, ◌+◌, ◌*◌, ◌/◌, ◌%◌, ◌<◌, ◌≤◌, ◌⊎◌, inl, inr, List, [], ◌∷◌, ◌++◌, map, take, drop, length, get_or, refl, sym, ap, ◌∙◌, subst, add-one, length-drop, Box, Global, arith}
 use Rattle.std.specs.List.{sum_by, All, AllPairs, AllByRecursion}
 use Rattle.std.proofs.lemmas.Bool.{cases_lt, cases_order}
-use Rattle.std.proofs.lemmas.List.{get_or_default}
+use Rattle.std.proofs.lemmas.Nat.{mul-le, div_below, mod_below}
+use Rattle.std.proofs.lemmas.List.{get_or_default, get_or-drop, map-append}
 use Rattle.std.proofs.lemmas.List.Sums.{sum_by-cons}
 use Rattle.digit_tuple.specs.Letters.{product}
-use Rattle.digit_tuple.specs.Decisions.{only_edge, joined_rows, rows_in, sizes_in, cells_in, AreDigitsBelow, HasEdge, IsTrack, IsSound}
+use Rattle.digit_tuple.specs.Decisions.{only_edge, behind, joined, joined_rows, rows_in, sizes_in, cells_in, AreDigitsBelow, HasEdge, IsTrack, IsSound}
 use Rattle.digit_tuple.specs.declared.edges.Edge.{Edge}
 use Rattle.digit_tuple.specs.declared.decisions.Track.{Track}
 use Rattle.digit_tuple.specs.declared.decisions.Decisions.{Decisions}
 use Rattle.digit_tuple.specs.declared.decisions.Decisions.TheVariants.{Targets, OnTrack'}
-use Rattle.digit_tuple.proofs.JoinedReads.{AreBelow, AreBelow-rows, sum-joined_rows, rows-le-edges, places_within}
+use Rattle.digit_tuple.proofs.LetterLemmas.{positive_right}
+use Rattle.digit_tuple.proofs.JoinedRows.{length-joined_rows}
+use Rattle.digit_tuple.proofs.JoinedReads.{AreBelow, AreBelow-rows, sum-joined_rows, rows-le-edges, places_within, joined_rows-at, joined_more, map-behind, all_at, all_drop}
 
 only_edges-below : (targets : List ℕ) → AllByRecursion (AreBelow 1) (map only_edge targets)
 only_edges-below [] = tt
@@ -38,10 +41,44 @@ few-cells (OnTrack' track p below) sound =
     let edges : length (sizes_in below) * sum_by length (rows_in below) ≡ length (sizes_in below) * sum_by length (joined_rows track.weight track.digits (rows_in below)) = ap (λ n. length (sizes_in below) * n) (sym same) in
     omega (arith, rest, same, few, edges, sound.0.count)
 
--- the rows behind the digits of a row are among all rows
-pub fits_at : (track : Track) (letters : ℕ) (rows : List (List Edge)) (place : ℕ) → IsTrack track letters rows → place < length track.digits
-    → sum_by length (take place track.digits) + length (get_or track.digits place []) ≤ length rows
-fits_at track letters rows place is within = omega (arith, places_within track.digits place within, is.count)
+-- the digits of a row
+abbrev pub digits_at : Track → ℕ → List ℕ
+digits_at track place = get_or track.digits place []
+
+-- how many rows stand before those behind the digits of a row
+abbrev pub start_at : Track → ℕ → ℕ
+start_at track place = sum_by length (take place track.digits)
+
+-- there is such a row: it joins rows that follow the start, one for each of its digits, which are of the track
+pub record IsRow (track : Track) (rows : List (List Edge)) (place : ℕ) : Type 0 where
+  pub within : place < length track.digits
+  pub row : get_or (joined_rows track.weight track.digits rows) place [] ≡ joined track.weight (digits_at track place) (drop (start_at track place) rows)
+  pub fits : start_at track place + length (digits_at track place) ≤ length rows
+  pub room : length (digits_at track place) ≤ length (drop (start_at track place) rows)
+  pub digits : AreDigitsBelow track.size (digits_at track place)
+
+pub IsRow-track : (track : Track) (letters : ℕ) (rows : List (List Edge)) (place : ℕ) → IsTrack track letters rows → place < length track.digits → IsRow track rows place
+IsRow-track track letters rows place is within =
+    let fits : start_at track place + length (digits_at track place) ≤ length rows = omega (arith, places_within track.digits place within, is.count) in
+    record {
+      within = within;
+      row = joined_rows-at track.weight track.digits rows place within;
+      fits = fits;
+      room = omega (arith, fits, length-drop (start_at track place) rows);
+      digits = all_at (AreDigitsBelow track.size) track.digits place [] is.digits within;
+    }
+
+-- what sound decisions say of a row where there is a track
+pub record IsRowOn (track : Track) (below : Decisions) (place : ℕ) : Type 0 where
+  pub track_is : IsTrack track (product (sizes_in below)) (rows_in below)
+  pub below_is : IsSound below
+  pub at : IsRow track (rows_in below) place
+
+pub IsRowOn-sound : (d : Decisions) (track : Track) (p : Box (Unit {0}) Global) (below : Decisions) (place : ℕ) → d ≡ OnTrack' track p below → IsSound d → place < length (rows_in d) → IsRowOn track below place
+IsRowOn-sound d track p below place is sound within =
+    let both : IsTrack track (product (sizes_in below)) (rows_in below) × IsSound below = subst IsSound is sound in
+    let inside : place < length track.digits = omega (arith, subst (λ (d : Decisions). place < length (rows_in d)) is within, length-joined_rows track.weight track.digits (rows_in below)) in
+    record { track_is = both.0; below_is = both.1; at = IsRow-track track (product (sizes_in below)) (rows_in below) place both.0 inside }
 
 pub sum-only_edges : (targets : List ℕ) → sum_by length (map only_edge targets) ≡ length targets
 sum-only_edges [] = refl
@@ -87,3 +124,50 @@ not_found ns n at before after k z within same = by (cases_lt k at)
     by : (k < at) ⊎ (at ≤ k) → ⊥
     by (inl less) = omega (arith, read, before k less)
     by (inr more) = omega (arith, read, after k more within)
+
+-- what sound decisions say of a letter where there is a track: its digit is of the track, and the rest a letter of the later ones
+pub record IsLetterOn (track : Track) (below : Decisions) (letter : ℕ) : Type 0 where
+  pub track_is : IsTrack track (product (sizes_in below)) (rows_in below)
+  pub below_is : IsSound below
+  pub digit : letter / track.weight < track.size
+  pub rest : letter % track.weight < product (sizes_in below)
+
+pub IsLetterOn-sound : (d : Decisions) (track : Track) (p : Box (Unit {0}) Global) (below : Decisions) (letter : ℕ) → d ≡ OnTrack' track p below → IsSound d → letter < product (sizes_in d) → IsLetterOn track below letter
+IsLetterOn-sound d track p below letter is sound within =
+    let both : IsTrack track (product (sizes_in below)) (rows_in below) × IsSound below = subst IsSound is sound in
+    let whole : letter < track.size * product (sizes_in below) = subst (λ (d : Decisions). letter < product (sizes_in d)) is within in
+    let weight : product (sizes_in below) ≡ track.weight = sym both.0.weight in
+    let less : letter < track.size * track.weight = subst (λ n. letter < track.size * n) weight whole in
+    let positive : 0 < track.weight = positive_right track.size track.weight (omega (arith, less)) in
+    record {
+      track_is = both.0;
+      below_is = both.1;
+      digit = div_below letter track.weight track.size positive less;
+      rest = omega (arith, mod_below letter track.weight positive, weight);
+    }
+
+-- the rows behind its digits have letters of the later tracks, and have edges
+pub letters-behind : (track : Track) (below : Decisions) (place : ℕ) → IsRowOn track below place → AllByRecursion (AreBelow track.weight) (drop (start_at track place) (rows_in below))
+letters-behind track below place on =
+    subst (λ w. AllByRecursion (AreBelow w) (drop (start_at track place) (rows_in below))) (sym on.track_is.weight)
+    (all_drop (AreBelow (product (sizes_in below))) (start_at track place) (rows_in below) (letters-below below on.below_is))
+
+pub filled-behind : (track : Track) (below : Decisions) (place : ℕ) → IsRowOn track below place → AllByRecursion HasEdge (drop (start_at track place) (rows_in below))
+filled-behind track below place on = all_drop HasEdge (start_at track place) (rows_in below) on.track_is.filled
+
+-- the edges behind one digit more
+pub joined-next : (base w : ℕ) (ds : List ℕ) (rows : List (List Edge)) (start k : ℕ) → k < length ds → start + k < length rows
+    → map (behind base) (joined w (take (k + 1) ds) (drop start rows)) ≡ map (behind base) (joined w (take k ds) (drop start rows)) ++ map (behind (base + get_or ds k 0 * w)) (get_or rows (start + k) [])
+joined-next base w ds rows start k within there =
+    ap (λ n. map (behind base) (joined w (take n ds) (drop start rows))) (add-one k)
+    ∙ ap (map (behind base)) (joined_more w ds (drop start rows) k 0 within (omega (arith, there, length-drop start rows)))
+    ∙ map-append (behind base) (joined w (take k ds) (drop start rows)) (map (behind (get_or ds k 0 * w)) (get_or (drop start rows) k []))
+    ∙ ap (λ (es : List Edge). map (behind base) (joined w (take k ds) (drop start rows)) ++ es) (map-behind base (get_or ds k 0 * w) (get_or (drop start rows) k []))
+    ∙ ap (λ (es : List Edge). map (behind base) (joined w (take k ds) (drop start rows)) ++ map (behind (base + get_or ds k 0 * w)) es) (get_or-drop start rows k [])
+
+-- the letters behind a digit are in range
+pub behind-fits : (base size w letters digit : ℕ) → w ≡ letters → digit < size → base + size * letters < 4294967296 → base + digit * w + letters < 4294967296
+behind-fits base size w letters digit same less whole =
+    let more = mul-le (suc digit) w size w (omega (arith, less)) (omega arith) in
+    let scaled : size * letters ≡ size * w = ap (λ n. size * n) (sym same) in
+    omega (arith, more, whole, scaled, same)

@@ -6,7 +6,7 @@ use Rattle.std.proofs.lemmas.Bool.{cases_lt, cases_order}
 use Rattle.std.proofs.lemmas.List.{length_push, get_or_append_left, get_or_push, get_or_default}
 use Rattle.std.proofs.lemmas.List.Elements.{All-push, All-from_get_or}
 use Rattle.std.proofs.lemmas.List.Quantifiers.{all_pairs_push}
-use Rattle.digit_tuple.specs.Deterministic.{Automaton, State, IsTable, IsRow, IsByEarlier, no_state, states_of, step_of, run_of, accepts_from, accepts_of, target_by}
+use Rattle.digit_tuple.specs.Deterministic.{Automaton, State, IsTable, IsRow, no_state, states_of, step_of, run_of, accepts_from, accepts_of, target_by}
 use Rattle.digit_tuple.specs.FirstWords.{IsNumberedByFirsts}
 use Rattle.digit_tuple.specs.Letters.{IsWord, product}
 use Rattle.digit_tuple.specs.Width.{HasApart, HasWidth}
@@ -293,33 +293,3 @@ module _ (letters : ℕ) (start : List ℕ) (after : List ℕ → ℕ → Option
               at : (o : Option ℕ) → run_of d 0 w ≡ o → MatchOption o (key_run after start w ≡ None) (λ t. (t < states_of d) × (key_run after start w ≡ Some (key_at keys t))) → Any (LeadAlike after start w) e.firsts
               at None is none = absurd (some_run w 0 positive over is)
               at (Some t) is found = Any-at (LeadAlike after start w) e.firsts t [] (omega (arith, found.0, e.frontier.count, done)) (like w t found.0 found.1)
-
-module _ (letters : ℕ) (start : List ℕ) (after : List ℕ → ℕ → Option (List ℕ)) (accepts : List ℕ → Bool) where
-  -- one more state, at its place
-  pub IsExploring-pushed : (keys new : List (List ℕ)) (states pushed : List State) (state : State) (gap now : Bool) (p : ℕ) → IsExploring letters start after accepts keys states gap → p ≡ length states → p < length keys
-      → IsStateFrom letters (after (key_at keys p)) (accepts (key_at keys p)) keys new state → pushed ≡ states ++ state ∷ []
-      → ((length state.edges < letters) × (now ≡ true)) ⊎ ((letters ≤ length state.edges) × (now ≡ gap)) → IsExploring letters start after accepts new pushed now
-  IsExploring-pushed keys new states pushed state gap now p e at here from items short =
-      subst (λ ss. IsExploring letters start after accepts new ss now) (sym items)
-      (IsExploring-row letters start after accepts keys new states state gap now e (omega (arith, at, here))
-      (subst (λ n. IsStateFrom letters (after (key_at keys n)) (accepts (key_at keys n)) keys new state) at from) short)
-
-  -- an edge too many, at its place
-  pub IsExploring-refused : (keys new : List (List ℕ)) (states : List State) (gap : Bool) (p count : ℕ) → IsExploring letters start after accepts keys states gap → p ≡ length states → p < length keys
-      → Overflows letters (after (key_at keys p)) keys new count → HasApart (LeadAlike after start) letters count
-  IsExploring-refused keys new states gap p count e at here over =
-      IsExploring-overflows letters start after accepts keys new states gap count e (omega (arith, at, here)) (subst (λ n. Overflows letters (after (key_at keys n)) keys new count) at over)
-
-  -- the edges of a state are by letters, which ascend
-  pub IsExploring-edges : (keys new : List (List ℕ)) (states : List State) (state : State) (gap : Bool) (p : ℕ) → IsExploring letters start after accepts keys states gap → p ≡ length states → p < length keys
-      → IsStateFrom letters (after (key_at keys p)) (accepts (key_at keys p)) keys new state → All (λ edge. edge.letter < letters) state.edges × AllPairs IsByEarlier state.edges
-  IsExploring-edges keys new states state gap p e at here from = (λ k d within. (row.in_range k d within).0, row.ascending)
-    where
-      frontier : IsFrontier letters start after keys e.firsts p 0
-      frontier = subst (λ n. IsFrontier letters start after keys e.firsts n 0) (sym at) e.frontier
-
-      tried : AreTried letters start after keys e.firsts new p from.key_edges state.edges
-      tried = AreTried-edges letters start after from.key_edges state.edges keys e.firsts new p 0 frontier here (IsTrail-are letters start after (key_at keys p) from.key_edges from.are) from.numbered
-
-      row : IsStateOf letters start after accepts new tried.more p state
-      row = IsStateOf-tried letters start after accepts keys new tried.more p from.key_edges state (tried.keys_grow.same p here) from.are tried.led from.accepting_is

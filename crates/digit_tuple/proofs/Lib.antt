@@ -42,6 +42,7 @@ pub mod RowLemmas
 pub mod KeptLemmas
 pub mod FrontierLemmas
 pub mod ExploredLemmas
+pub mod RoundLemmas
 pub mod LetterEdges
 pub mod ReflaggedLemmas
 pub mod StartLemmas
@@ -50,6 +51,8 @@ pub mod JoinedRows
 pub mod DecisionLemmas
 pub mod JoinedReads
 pub mod DecisionReads
+pub mod BlockLemmas
 pub mod SparseRowLemmas
 pub mod CellLemmas
+pub mod RowBlockLemmas
 pub mod SameRows

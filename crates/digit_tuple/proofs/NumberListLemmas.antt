@@ -1,9 +1,11 @@
 -- Lists that stand one behind another in one list of numbers.
-use Rattle.std.proofs.Common.{◌≡◌, ℕ, zero, suc, ◌+◌, ◌-◌, ◌<◌, ◌≤◌, List, [], ◌∷◌, ◌++◌, take, drop, length, get_or, refl, sym, ap, ◌∙◌, length-append, length-drop, length-take, arith, Some}
+use Rattle.std.proofs.Common.{◌≡◌, ℕ, zero, suc, ◌+◌, ◌-◌, ◌*◌, ◌<◌, ◌≤◌, List, [], ◌∷◌, ◌++◌, take, drop, replicate, length, get_or, refl, sym, ap, ◌∙◌, length-append, length-drop, length-take, arith, Some}
 use Rattle.std.specs.List.{slice_range, slice_get, sum_by}
-use Rattle.std.proofs.lemmas.List.{drop-append-le, take_all}
-use Rattle.std.proofs.lemmas.List.Sums.{sum_by-cons}
-use Rattle.digit_tuple.specs.NumberLists.{first_place, lists_at, AreAscendingPlaces, AreStarts, extended, last_of, last_number}
+use Rattle.std.proofs.Math.Seq.{take-append-add}
+use Rattle.std.proofs.lemmas.List.{append_assoc, drop-append-le, get_or_append_left, get_or-append_right, get_or-replicate, length-replicate, take-append-le, take-replicate, take_all}
+use Rattle.std.proofs.lemmas.List.Folds.{sum_by-replicate}
+use Rattle.std.proofs.lemmas.List.Sums.{sum_by-append, sum_by-cons}
+use Rattle.digit_tuple.specs.NumberLists.{first_place, lists_at, lists_of, AreAscendingPlaces, AreStarts, AreLists, extended, last_of, last_number}
 use Rattle.digit_tuple.proofs.KeySpanLemmas.{slice_range-append}
 
 pub length-lists_at : (starts numbers : List ℕ) → length (lists_at starts numbers) ≡ length starts
@@ -123,3 +125,102 @@ last-number (m ∷ ns) (suc k) n same = last-number ns k m (omega arith)
 pub last-number-at : (ns : List ℕ) → slice_get ns (length ns - 1) ≡ last_number ns
 last-number-at [] = refl
 last-number-at (n ∷ ns) = last-number ns (length (n ∷ ns) - 1) n (omega arith)
+
+-- how many lists there are
+pub length-lists_of : (same width : ℕ) (starts numbers : List ℕ) → length (lists_of same width starts numbers) ≡ same + length starts
+length-lists_of same width starts numbers =
+    omega (arith, length-append (replicate same (take width numbers)) (lists_at starts (drop width numbers)), length-replicate same (take width numbers), length-lists_at starts (drop width numbers))
+
+-- so many of the lists that are the same have so many numbers
+sum-same : (same width : ℕ) (numbers : List ℕ) → width ≤ length numbers → sum_by length (replicate same (take width numbers)) ≡ same * width
+sum-same same width numbers within =
+    let first : length (take width numbers) ≡ width = omega (arith, length-take width numbers) in
+    sum_by-replicate length same (take width numbers) ∙ ap (λ n. same * n) first
+
+-- how many numbers the lists have
+pub lists_of-total : (same width : ℕ) (starts numbers : List ℕ) → width ≤ length numbers → AreStarts starts (length (drop width numbers)) → sum_by length (lists_of same width starts numbers) ≡ same * width + (length numbers - width)
+lists_of-total same width starts numbers within are =
+    let others = lists_at-total starts (drop width numbers) are.ascending in
+    omega (arith, sum_by-append length (replicate same (take width numbers)) (lists_at starts (drop width numbers)), sum-same same width numbers within, others, are.first, length-drop width numbers)
+
+-- where a list begins that is the same as the first, and where another
+pub lists_of-start_same : (same width : ℕ) (starts numbers : List ℕ) (q : ℕ) → width ≤ length numbers → q ≤ same → sum_by length (take q (lists_of same width starts numbers)) ≡ q * width
+lists_of-start_same same width starts numbers q within few =
+    let length-same : q ≤ length (replicate same (take width numbers)) = omega (arith, few, length-replicate same (take width numbers)) in
+    ap (sum_by length) (take-append-le q (replicate same (take width numbers)) (lists_at starts (drop width numbers)) length-same ∙ take-replicate q same (take width numbers) few)
+    ∙ sum-same q width numbers within
+
+pub lists_of-start : (same width : ℕ) (starts numbers : List ℕ) (q : ℕ) → width ≤ length numbers → AreStarts starts (length (drop width numbers)) → q < length starts → sum_by length (take (same + q) (lists_of same width starts numbers)) ≡ same * width + get_or starts q 0
+lists_of-start same width starts numbers q within are inside =
+    let firsts = replicate same (take width numbers) in
+    let others = lists_at starts (drop width numbers) in
+    let whole : same + q ≡ length firsts + q = omega (arith, length-replicate same (take width numbers)) in
+    let parts = ap (λ n. sum_by length (take n (firsts ++ others))) whole ∙ ap (sum_by length) (take-append-add firsts others q) ∙ sum_by-append length firsts (take q others) in
+    let there = lists_at-start starts (drop width numbers) q 0 are.ascending inside in
+    omega (arith, parts, sum-same same width numbers within, there, are.first)
+
+-- the list at a place
+pub lists_of-read_same : (same width : ℕ) (starts numbers : List ℕ) (q : ℕ) → q < same → get_or (lists_of same width starts numbers) q [] ≡ take width numbers
+lists_of-read_same same width starts numbers q few =
+    let inside : q < length (replicate same (take width numbers)) = omega (arith, few, length-replicate same (take width numbers)) in
+    get_or_append_left (replicate same (take width numbers)) (lists_at starts (drop width numbers)) [] q inside ∙ get_or-replicate same q (take width numbers) [] few
+
+pub lists_of-read : (same width : ℕ) (starts numbers : List ℕ) (q : ℕ) → same ≤ q → get_or (lists_of same width starts numbers) q [] ≡ get_or (lists_at starts (drop width numbers)) (q - same) []
+lists_of-read same width starts numbers q past =
+    get_or-append_right (replicate same (take width numbers)) (lists_at starts (drop width numbers)) same q [] (length-replicate same (take width numbers)) past
+
+-- one more list with no numbers
+pub lists_of-push : (same width : ℕ) (starts numbers : List ℕ) (end : ℕ) → end ≡ length (drop width numbers) → lists_of same width (starts ++ end ∷ []) numbers ≡ lists_of same width starts numbers ++ [] ∷ []
+lists_of-push same width starts numbers end is =
+    let firsts = replicate same (take width numbers) in
+    ap (λ (ls : List (List ℕ)). firsts ++ ls) (lists_at-push starts (drop width numbers) end is) ∙ sym (append_assoc firsts (lists_at starts (drop width numbers)) ([] ∷ []))
+
+-- a number at the end of the last list
+extended-append : {A : Type 0} (xs ys : List (List A)) (more : List A) → 0 < length ys → extended (xs ++ ys) more ≡ xs ++ extended ys more
+extended-append [] ys more some = refl
+extended-append (x ∷ []) [] more some = absurd (omega arith)
+extended-append (x ∷ []) (y ∷ ys) more some = refl
+extended-append {A = A} (x ∷ (w ∷ xs)) ys more some = ap (λ (ls : List (List A)). x ∷ ls) (extended-append (w ∷ xs) ys more some)
+
+pub lists_of-add : (same width : ℕ) (starts numbers : List ℕ) (n : ℕ) → width ≤ length numbers → AreStarts starts (length (drop width numbers)) → 0 < length starts → lists_of same width starts (numbers ++ n ∷ []) ≡ extended (lists_of same width starts numbers) (n ∷ [])
+lists_of-add same width starts numbers n within are some =
+    let others = lists_at starts (drop width numbers) in
+    let inside : 0 < length others = omega (arith, some, length-lists_at starts (drop width numbers)) in
+    ap (λ (ns : List ℕ). replicate same ns ++ lists_at starts (drop width (numbers ++ n ∷ []))) (take-append-le width numbers (n ∷ []) within)
+    ∙ ap (λ (ns : List ℕ). replicate same (take width numbers) ++ lists_at starts ns) (drop-append-le width numbers (n ∷ []) within)
+    ∙ ap (λ (ls : List (List ℕ)). replicate same (take width numbers) ++ ls) (lists_at-add starts (drop width numbers) n are.ascending)
+    ∙ sym (extended-append (replicate same (take width numbers)) others (n ∷ []) inside)
+
+-- where there are lists, the last one begins at a place
+pub AreLists-some : (same width : ℕ) (starts numbers : List ℕ) → AreLists same width starts numbers → 0 < length (lists_of same width starts numbers) → 0 < length starts
+AreLists-some zero width starts numbers are some = omega (arith, some, length-lists_of zero width starts numbers)
+AreLists-some (suc same) width starts numbers are some = are.last (omega arith)
+
+-- lists with one more number, kept so
+pub AreLists-add : (same width : ℕ) (starts numbers : List ℕ) (n : ℕ) → AreLists same width starts numbers → 0 < length starts → sum_by length (lists_of same width starts numbers) + 1 < 18446744073709551616 → AreLists same width starts (numbers ++ n ∷ [])
+AreLists-add same width starts numbers n are some small =
+    let more : length (drop width numbers) ≤ length (drop width (numbers ++ n ∷ [])) = omega (arith, length-drop width numbers, length-drop width (numbers ++ n ∷ []), length-append numbers (n ∷ [])) in
+    let within : width ≤ length (numbers ++ n ∷ []) = omega (arith, are.within, length-append numbers (n ∷ [])) in
+    let places = AreStarts-more starts (length (drop width numbers)) (length (drop width (numbers ++ n ∷ []))) some more are.places in
+    record {
+      within = within;
+      bare = are.bare;
+      places = places;
+      last = λ _. some;
+      few = omega (arith, are.few, length-lists_of same width starts numbers, length-lists_of same width starts (numbers ++ n ∷ []));
+      small = omega (arith, small, length-append numbers (n ∷ []), lists_of-total same width starts numbers are.within are.places, lists_of-total same width starts (numbers ++ n ∷ []) within places);
+    }
+
+-- lists with one more that begins at the end, kept so
+pub AreLists-push : (same width : ℕ) (starts numbers : List ℕ) (end : ℕ) → end ≡ length (drop width numbers) → AreLists same width starts numbers → length (lists_of same width starts numbers) + 1 < 18446744073709551616 → AreLists same width (starts ++ end ∷ []) numbers
+AreLists-push same width starts numbers end is are few =
+    let some : 0 < length (starts ++ end ∷ []) = omega (arith, length-append starts (end ∷ [])) in
+    let pushed = lists_of-push same width starts numbers end is in
+    record {
+      within = are.within;
+      bare = are.bare;
+      places = AreStarts-push starts (length (drop width numbers)) end is are.places;
+      last = λ _. some;
+      few = omega (arith, few, ap length pushed, length-append (lists_of same width starts numbers) ([] ∷ []));
+      small = omega (arith, are.small, ap (sum_by length) pushed, sum_by-append length (lists_of same width starts numbers) ([] ∷ []));
+    }

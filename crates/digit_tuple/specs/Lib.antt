@@ -37,4 +37,5 @@ pub mod NumberLists
 pub mod Decisions
 pub mod CellCounts
 pub mod EdgeCounts
+pub mod Blocks
 pub mod SparseRows

@@ -1,5 +1,6 @@
--- Lists that stand one behind another in one list of numbers, and a list of lists whose last one grows.
-use Rattle.std.specs.Prelude.{◌≡◌, ℕ, ◌≤◌, List, [], ◌∷◌, ◌++◌, length, slice_range, Option, None, Some, ⊤}
+-- Lists that stand one behind another in one list of numbers, the first of them once for all that are the same, and a
+-- list of lists whose last one grows.
+use Rattle.std.specs.Prelude.{◌≡◌, ℕ, ◌^◌, ◌<◌, ◌≤◌, List, [], ◌∷◌, ◌++◌, length, take, drop, replicate, sum_by, slice_range, Option, None, Some, ⊤}
 
 -- the first of the places, or the end where there is none
 abbrev pub first_place : List ℕ → ℕ → ℕ
@@ -20,6 +21,20 @@ AreAscendingPlaces (start ∷ starts) end = (start ≤ first_place starts end) �
 pub record AreStarts (starts : List ℕ) (end : ℕ) : Type 0 where
   pub first : first_place starts end ≡ 0
   pub ascending : AreAscendingPlaces starts end
+
+-- so many times the first numbers, up to the width, and then the lists that begin at these places behind them
+abbrev pub lists_of : ℕ → ℕ → List ℕ → List ℕ → List (List ℕ)
+lists_of same width starts numbers = replicate same (take width numbers) ++ lists_at starts (drop width numbers)
+
+-- lists that are kept so: the width is 0 where no list is counted, the last one begins at a place, and there are fewer
+-- than 2 ^ 64 lists, with fewer numbers in all
+pub record AreLists (same width : ℕ) (starts numbers : List ℕ) : Type 0 where
+  pub within : width ≤ length numbers
+  pub bare : same ≡ 0 → width ≡ 0
+  pub places : AreStarts starts (length (drop width numbers))
+  pub last : 0 < same → 0 < length starts
+  pub few : length (lists_of same width starts numbers) < 2 ^ 64
+  pub small : sum_by length (lists_of same width starts numbers) < 2 ^ 64
 
 -- the lists with more at the end of the last one
 abbrev pub extended : {A : Type 0} → List (List A) → List A → List (List A)

@@ -1,7 +1,9 @@
 -- Rows of edges by letters of tracks, kept as decisions by these tracks.
-use Rattle.std.specs.Prelude.{◌≡◌, ◌==◌, ℕ, List, [], ◌∷◌, slice_index_or, if◌then◌else◌}
+use Rattle.std.specs.Prelude.{◌≡◌, ◌==◌, ℕ, List, [], ◌∷◌, length, map, slice_index_or, if◌then◌else◌}
+use Rattle.std.specs.List.{AllByRecursion}
+use Rattle.digit_tuple.specs.Blocks.{AreBlocks}
 use Rattle.digit_tuple.specs.Letters.{product}
-use Rattle.digit_tuple.specs.Decisions.{sizes_in, IsSound}
+use Rattle.digit_tuple.specs.Decisions.{rows_in, sizes_in, IsSound}
 use Rattle.digit_tuple.specs.declared.edges.Edge.{Edge}
 use Rattle.digit_tuple.specs.declared.decisions.Decisions.{Decisions}
 
@@ -26,3 +28,23 @@ deciding sizes = if product sizes == 0 then 0 ∷ [] else some_track sizes
 pub record AreOver (sizes : List ℕ) (decisions : Decisions) : Type 0 where
   pub sound : IsSound decisions
   pub tracks : sizes_in decisions ≡ deciding sizes
+
+-- how many rows a full block has
+abbrev pub block_rows : ℕ
+block_rows = 256
+
+-- the block is by the tracks, and full
+pub record IsFullOver (sizes : List ℕ) (block : Decisions) : Type 0 where
+  pub over : AreOver sizes block
+  pub rows : length (rows_in block) ≡ block_rows
+
+-- the blocks are by the tracks, and each but the last is full
+pub record AreRowBlocks (sizes : List ℕ) (blocks : List Decisions) : Type 0 where
+  pub over : AllByRecursion (AreOver sizes) blocks
+  pub rows : AreBlocks block_rows (map rows_in blocks)
+
+-- the other blocks are sound, and have the same tracks and the same rows
+pub record HaveSameRows (blocks others : List Decisions) : Type 0 where
+  pub sound : AllByRecursion IsSound others
+  pub tracks : map sizes_in others ≡ map sizes_in blocks
+  pub rows : map rows_in others ≡ map rows_in blocks

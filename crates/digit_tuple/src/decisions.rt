@@ -1,7 +1,7 @@
 //! Rows of edges as decisions by tracks.
 
 ghost use Rattle.std.specs.Prelude.{◌≡◌, ◌≢◌, ℕ, ◌+◌, ◌*◌, ◌<◌, ◌↔◌, ◌^◌, ◌++◌, ◌∷◌, [], List, length, map, Some, IfOk, OnOk, IfSome, IfNone, IsTrue, slice_index, slice_index_or, sum_by};
-ghost use Rattle.digit_tuple.specs.Decisions.{rows_in, sizes_in, cells_in, IsSound, EndsIn, CanFollow, LeadsAs, behind};
+ghost use Rattle.digit_tuple.specs.Decisions.{rows_in, sizes_in, cells_in, joined_rows, only_edge, IsSound, IsTrack, EndsIn, CanFollow, LeadsAs, behind};
 ghost use Rattle.std.specs.List.{All, AllPairs, AllByRecursion};
 ghost use Rattle.digit_tuple.specs.Deterministic.{target_by};
 ghost use Rattle.digit_tuple.specs.Letters.{product};
@@ -12,6 +12,9 @@ use crate::edges::Edge;
 use crate::faults::OutOfMemory;
 use crate::number_lists::NumberLists;
 use std::alloc::Global;
+
+// For how many rows there is memory at first, so that a small table seldom asks for more.
+const FIRST_ROWS: usize = 32;
 
 /// Rows of edges over some tracks. A row on no track is one edge, of which the target is kept. A row
 /// on some tracks is a list of digits on the first, and behind each digit a row on the others.
@@ -90,14 +93,14 @@ impl Decisions {
         ensures rows { IfOk result (λ rows. rows_in rows ≡ []) }
     {
         match sizes.first() {
-            None => Ok(Decisions::Targets(Vec::new(alloc))),
+            None => Ok(Decisions::Targets(Vec::with_capacity(alloc, FIRST_ROWS)?)),
             Some(size) => {
                 let weight = letters / *size;
                 let below = Decisions::bare(alloc, &sizes[1..], weight)?;
                 let track = Track {
                     size: *size,
                     weight,
-                    digits: NumberLists::new(alloc),
+                    digits: NumberLists::with_capacity(alloc, FIRST_ROWS)?,
                 };
                 Ok(Decisions::OnTrack(track, Box::new(alloc, below)?))
             }
@@ -113,9 +116,9 @@ impl Decisions {
         let track = Track {
             size,
             weight: 1,
-            digits: NumberLists::new(alloc),
+            digits: NumberLists::with_capacity(alloc, FIRST_ROWS)?,
         };
-        let targets = Decisions::Targets(Vec::new(alloc));
+        let targets = Decisions::Targets(Vec::with_capacity(alloc, FIRST_ROWS)?);
         Ok(Decisions::OnTrack(track, Box::new(alloc, targets)?))
     }
 
@@ -155,6 +158,9 @@ impl Decisions {
                 Ok(())
             }
             Decisions::OnTrack(track, below) => {
+                if let Some(targets) = below.targets() {
+                    return track.last_row_into(place, base, targets, row);
+                }
                 let start = track.digits.start(place);
                 for (count, digit) in track.digits.list(place).iter().enumerate() {
                     let more = base + u32::from(*digit) * track.weight;
@@ -231,6 +237,16 @@ impl Decisions {
         }
     }
 
+    /// How many rows there are.
+    pub(crate) fn len(&self) -> usize
+        ensures { result ≡ length (rows_in self.now) }
+    {
+        match self {
+            Decisions::Targets(targets) => targets.len(),
+            Decisions::OnTrack(track, _) => track.digits.len(),
+        }
+    }
+
     /// How many edges there are in all rows.
     pub(crate) fn edges(&self) -> u64
         requires { IsSound self.now }
@@ -250,6 +266,32 @@ impl Decisions {
         match self {
             Decisions::Targets(_) => 0,
             Decisions::OnTrack(track, below) => track.digits.count() as u64 + below.cells(),
+        }
+    }
+
+    /// Gives back memory that is not in use.
+    pub(crate) fn shrink_to_fit(&mut self)
+        requires { IsSound self.old }
+        ensures sound { IsSound self.new }
+        ensures sizes { sizes_in self.new ≡ sizes_in self.old }
+        ensures rows { rows_in self.new ≡ rows_in self.old }
+    {
+        match self {
+            Decisions::Targets(targets) => targets.shrink_to_fit(),
+            Decisions::OnTrack(track, below) => {
+                track.digits.shrink_to_fit();
+                below.shrink_to_fit();
+            }
+        }
+    }
+
+    // The targets of rows on no track.
+    fn targets(&self) -> Option<&[u32]>
+        ensures { IfSome result (λ targets. rows_in self.now ≡ map only_edge targets.now) }
+    {
+        match self {
+            Decisions::Targets(targets) => Some(targets),
+            Decisions::OnTrack(_, _) => None,
         }
     }
 
@@ -274,6 +316,31 @@ impl Decisions {
                 Ok(Decisions::OnTrack(track, Box::new(alloc, below)?))
             }
         }
+    }
+}
+
+impl Track {
+    // Writes the edges of a row at the end of others, where no track is later: behind each digit is a target.
+    fn last_row_into(
+        &self,
+        place: usize,
+        base: u32,
+        targets: &[u32],
+        row: &mut Vec<Edge>,
+    ) -> Result<(), OutOfMemory>
+        requires track { IsTrack self.now self.now.weight (map only_edge targets.now) }
+        requires place { place < length self.now.digits }
+        requires base { base + self.now.size * self.now.weight < 2 ^ 32 }
+        ensures { OnOk result (row.new.items ≡ row.old.items ++ map (behind base) (slice_index_or (joined_rows self.now.weight self.now.digits (map only_edge targets.now)) place [])) }
+    {
+        let start = self.digits.start(place);
+        for (count, digit) in self.digits.list(place).iter().enumerate() {
+            row.push(Edge {
+                letter: base + u32::from(*digit) * self.weight,
+                target: targets[start + count],
+            })?;
+        }
+        Ok(())
     }
 }
 

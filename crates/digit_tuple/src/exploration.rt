@@ -1,25 +1,29 @@
 //! The exploration.
 
-ghost use Rattle.std.specs.Prelude.{◌≡◌, ℕ, ◌+◌, ◌<◌, ◌≤◌, List, [], length, IfOk, OnOk, None, Some};
+ghost use Rattle.std.specs.Prelude.{◌≡◌, ℕ, ◌+◌, ◌<◌, ◌≤◌, List, [], length, map, IfOk, OnOk, None, Some};
 ghost use Rattle.std.specs.List.{All};
 ghost use Rattle.std.specs.Result.{IsErrOf};
 ghost use Rattle.digit_tuple.specs.Deterministic.{IsTable, accepts_of, states_of, letters_of};
 ghost use Rattle.digit_tuple.specs.FirstWords.{IsNumberedByFirsts};
 ghost use Rattle.digit_tuple.specs.Letters.{product, IsWord};
 ghost use Rattle.digit_tuple.specs.Width.{HasApart, HasWidth};
+ghost use Rattle.digit_tuple.specs.KeyHashes.{hash_of};
 ghost use Rattle.digit_tuple.specs.Keys.{LeadAlike, key_accepts};
 ghost use Rattle.digit_tuple.specs.Explored.{AreNumbered, NumbersSome, IsExplored};
 
 use crate::alphabet::Alphabet;
 use crate::dfa::Dfa;
 use crate::edges::Edge;
-use crate::faults::OpFault;
+use crate::faults::{OpFault, OutOfMemory};
 use crate::growing_dfa::GrowingDfa;
 use crate::key_edges::KeyEdges;
 use crate::key_graph::KeyGraph;
-use crate::numbering::Numbering;
+use crate::numbering::{Lookup, Numbering};
 use crate::stepped::Stepped;
 use std::alloc::Global;
+
+// For at most how many edges of a state there is memory at first.
+const FIRST_EDGES: usize = 64;
 
 /// What an exploration made: the automaton, and the keys that its states stand for, in their order.
 #[derive(Drop)]
@@ -97,14 +101,16 @@ pub fn explore_keys<G: KeyGraph>(
     let letters = alphabet.letters() as usize;
     let mut states = GrowingDfa::new(alloc, alphabet)?;
     let mut key_edges = KeyEdges::new(alloc);
-    let mut edges = Vec::new(alloc);
+    let room = letters.min(FIRST_EDGES);
+    let mut lookups = Vec::with_capacity(alloc, room)?;
+    let mut edges = Vec::with_capacity(alloc, room)?;
     let mut gap = false;
     'explore: while states.len() < keys.len() {
         let key = keys.key(states.len());
         let accepting = graph.is_accepting(key);
         key_edges.clear();
         graph.edges(alloc, key, &mut key_edges)?;
-        number_edges(&mut keys, &key_edges, limit, &mut edges)?;
+        number_edges(&mut keys, &key_edges, limit, &mut lookups, &mut edges)?;
         if edges.len() < letters {
             gap = true;
         }
@@ -122,11 +128,13 @@ pub fn explore_keys<G: KeyGraph>(
 }
 
 // Writes the edges that the key edges become in place of what the buffer held, as the keys that they lead
-// to are numbered in turn. `States` comes where the keys are too many.
+// to are numbered in turn. All are looked up before the first is numbered, so that the reads of their slots
+// do not wait for one another. `States` comes where the keys are too many.
 fn number_edges(
     keys: &mut Numbering,
     key_edges: &KeyEdges,
     limit: u32,
+    lookups: &mut Vec<Lookup>,
     edges: &mut Vec<Edge>,
 ) -> Result<(), OpFault>
     requires { length keys.old ≤ limit }
@@ -135,9 +143,10 @@ fn number_edges(
     ensures states { IsErrOf result OpFault.States → NumbersSome key_edges.now keys.old keys.new (limit + 1) }
     ensures letters { ¬ IsErrOf result OpFault.Letters }
 {
+    look_up_keys(keys, key_edges, lookups)?;
     edges.clear();
     for place in 0..key_edges.len() {
-        let target = keys.number_of(key_edges.key(place))?;
+        let target = keys.number_by(key_edges.key(place), lookups[place])?;
         if keys.len() > limit as usize {
             return Err(OpFault::States);
         }
@@ -145,6 +154,21 @@ fn number_edges(
             letter: key_edges.letter(place),
             target: target as u32,
         })?;
+    }
+    Ok(())
+}
+
+// Writes the lookups of the keys that the key edges lead to in place of what the buffer held.
+fn look_up_keys(
+    keys: &Numbering,
+    key_edges: &KeyEdges,
+    lookups: &mut Vec<Lookup>,
+) -> Result<(), OutOfMemory>
+    ensures { OnOk result (map (λ lookup. lookup.hash) lookups.new.items ≡ map (λ edge. hash_of edge.key) key_edges.now) }
+{
+    lookups.clear();
+    for place in 0..key_edges.len() {
+        lookups.push(keys.look_up(key_edges.key(place)))?;
     }
     Ok(())
 }

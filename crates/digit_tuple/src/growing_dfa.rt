@@ -13,6 +13,12 @@ use crate::sparse_rows::SparseRows;
 use std::alloc::Global;
 use std::marker::Model;
 
+// For how many states there is memory at first.
+const FIRST_STATES: usize = 32;
+
+// Up to so many states memory that is not in use is kept.
+const MANY_STATES: usize = 1024;
+
 /// The first states of a deterministic automaton, in the form that it is kept in. Their edges may lead
 /// to states that are still to come.
 pub(crate) struct GrowingDfa {
@@ -47,7 +53,7 @@ impl GrowingDfa {
         ensures { IfOk result (λ states. states ≡ record { sizes = alphabet; states = [] }) }
     {
         Ok(GrowingDfa {
-            flags: Vec::new(alloc),
+            flags: Vec::with_capacity(alloc, FIRST_STATES)?,
             table: SparseRows::new(alloc, alphabet)?,
         })
     }
@@ -73,12 +79,19 @@ impl GrowingDfa {
         })
     }
 
-    /// The automaton of the states.
+    /// The automaton of the states. Where there are many, memory that is not in use is given back.
     pub(crate) fn finish(self) -> Dfa
         requires { IsTable (letters_of self) self.states }
         ensures { result ≡ self }
     {
-        let GrowingDfa { flags, table } = self;
+        let GrowingDfa {
+            mut flags,
+            mut table,
+        } = self;
+        if flags.len() > MANY_STATES {
+            flags.shrink_to_fit();
+            table.shrink_to_fit();
+        }
         Dfa::of_rows(flags, table)
     }
 }

@@ -1,6 +1,6 @@
 //! Keys, numbered in the order in which they were first seen.
 
-ghost use Rattle.std.specs.Prelude.{◌≡◌, ◌<◌, ◌^◌, [], length, map, IfOk, IsOk, OnErr, MatchOption};
+ghost use Rattle.std.specs.Prelude.{◌≡◌, ◌↔◌, ℕ, ◌+◌, ◌<◌, ◌^◌, [], length, map, IfOk, IsOk, IsTrue, OnErr, MatchOption};
 ghost use Rattle.std.specs.List.{Contains};
 ghost use Rattle.digit_tuple.specs.Explored.{AreApart, IsNumbered, key_at};
 ghost use Rattle.digit_tuple.specs.KeyHashes.{hash_of};
@@ -33,6 +33,14 @@ impl Model for Numbering {
     ghost view = { λ a. a.keys };
 
     ghost invariant = { λ a. AreApart a.keys × AreSlotted a.slots (map hash_of a.keys) };
+}
+
+/// What is read of a key before it is searched for: its hash, and the link that the hash's home held where
+/// that was of the same hash, else 0. The link is a guess. Nothing rests on it, and keys may have come since.
+#[derive(Clone, Copy)]
+pub struct Lookup {
+    pub hash: u32,
+    pub guess: u32,
 }
 
 impl Numbering {
@@ -71,19 +79,60 @@ impl Numbering {
         ensures seen { Contains self.old key.now → IsOk result }
         ensures err { OnErr result (self.new ≡ self.old) }
     {
+        let lookup = self.look_up(key);
+        self.number_by(key, lookup)
+    }
+
+    /// What `number_by` takes of a key. It reads one slot, and none of the numbered keys, so that the reads
+    /// of several lookups do not wait for one another.
+    pub fn look_up(&self, key: &[u32]) -> Lookup
+        ensures { result.hash ≡ hash_of key.now }
+    {
         let hash = key_hash(key);
-        if let Some(number) = find(&self.keys, &self.slots, key, hash) {
+        let slot = self.slots.home_slot(hash);
+        let guess = if slot.hash == hash { slot.link } else { 0 };
+        Lookup { hash, guess }
+    }
+
+    /// The number of a key that was looked up before, also where keys have come since. What it gives and
+    /// what it refuses is as of `number_of`.
+    pub fn number_by(&mut self, key: &[u32], lookup: Lookup) -> Result<usize, OutOfMemory>
+        requires { lookup.hash ≡ hash_of key.now }
+        ensures number { IfOk result (IsNumbered self.old self.new key.now) }
+        ensures seen { Contains self.old key.now → IsOk result }
+        ensures err { OnErr result (self.new ≡ self.old) }
+    {
+        if let Some(number) = known_number(&self.keys, &self.slots, key, lookup) {
             return Ok(number);
         }
         let number = self.keys.len();
         make_room(self.alloc, &mut self.slots, &self.keys)?;
         self.keys.push(key)?;
-        if let Err(fault) = self.slots.put(hash, number) {
+        if let Err(fault) = self.slots.put(lookup.hash, number) {
             self.keys.pop();
             return Err(fault);
         }
         Ok(number)
     }
+}
+
+// The number of a key, if it has one: the guess where that is right.
+fn known_number(keys: &KeyArena, table: &SlotTable, key: &[u32], lookup: Lookup) -> Option<usize>
+    requires hash { lookup.hash ≡ hash_of key.now }
+    requires slots { AreSlotted table.now (map hash_of keys.now) }
+    ensures { MatchOption result (¬ Contains keys.now key.now) (λ number. (number < length keys.now) × (key_at keys.now number ≡ key.now)) }
+{
+    if is_linked(keys, key, lookup.guess) {
+        return Some(lookup.guess as usize - 1);
+    }
+    find(keys, table, key, lookup.hash)
+}
+
+// Whether the link is one more than the number of the key.
+fn is_linked(keys: &KeyArena, key: &[u32], link: u32) -> bool
+    ensures { IsTrue result ↔ ((number : ℕ) × (link ≡ number + 1) × (number < length keys.now) × (key_at keys.now number ≡ key.now)) }
+{
+    link > 0 && link as usize <= keys.len() && keys.key(link as usize - 1) == key
 }
 
 // The number of a key with the hash, if it has one.

@@ -62,6 +62,13 @@ impl SlotTable {
         hash as usize & self.mask
     }
 
+    /// The slot at the home of a hash, or a free one where there are no slots.
+    pub fn home_slot(&self, hash: u32) -> Slot
+        ensures { result ≡ slot_at self.now.slots.items (home_of self.now.mask hash) }
+    {
+        self.slots.get(self.home(hash)).copied().unwrap_or(FREE)
+    }
+
     /// Gives the next number to a hash. A refused call leaves the numbers. OutOfMemory comes too where
     /// the number is 2^32 - 1 or more.
     pub fn put(&mut self, hash: u32, number: usize) -> Result<(), OutOfMemory>

@@ -1,12 +1,12 @@
 //! Sparse rows: edges by letters of tracks, of which only those that are there take a place.
 
-ghost use Rattle.std.specs.Prelude.{◌≡◌, ℕ, ◌*◌, ◌<◌, ◌≤◌, ◌^◌, ◌↔◌, ◌++◌, ◌∷◌, [], length, sum_by, IfOk, OnOk, IsTrue};
-ghost use Rattle.std.specs.List.{All, AllPairs};
+ghost use Rattle.std.specs.Prelude.{◌≡◌, ℕ, ◌*◌, ◌%◌, ◌<◌, ◌≤◌, ◌^◌, ◌↔◌, ◌++◌, ◌∷◌, [], length, slice_index_or, sum_by, IfOk, OnOk, IsTrue};
+ghost use Rattle.std.specs.List.{All, AllByRecursion, AllPairs, flat_map};
 ghost use Rattle.digit_tuple.specs.CellCounts.{cells_of};
-ghost use Rattle.digit_tuple.specs.Decisions.{rows_in, sizes_in, IsSound};
+ghost use Rattle.digit_tuple.specs.Decisions.{rows_in, sizes_in, cells_in, IsSound};
 ghost use Rattle.digit_tuple.specs.Deterministic.{IsByEarlier, target_by};
 ghost use Rattle.digit_tuple.specs.Letters.{product, IsAlphabet};
-ghost use Rattle.digit_tuple.specs.SparseRows.{Rows, row_at, deciding, AreOver};
+ghost use Rattle.digit_tuple.specs.SparseRows.{Rows, row_at, deciding, block_rows, AreOver, IsFullOver, AreRowBlocks, HaveSameRows};
 
 use crate::alphabet::Alphabet;
 use crate::decisions::Decisions;
@@ -15,24 +15,33 @@ use crate::faults::OutOfMemory;
 use std::alloc::Global;
 use std::marker::Model;
 
+// How many rows a full block has.
+const BLOCK_ROWS: usize = 256;
+
 /// Rows of edges, each by ascending letters. A row is kept as a decision by tracks: the digits on the
 /// first track that go on, behind each the digits on the next, and behind those on the last track the
-/// targets. A letter without an edge takes no place.
+/// targets. A letter without an edge takes no place. The rows stand in blocks, so that a table grows
+/// without a copy of its rows.
 #[derive(Drop)]
 pub(crate) struct SparseRows {
     tracks: Alphabet,
-    decisions: Box<Decisions>,
+    // Each block but the last has BLOCK_ROWS rows.
+    blocks: Vec<Decisions>,
+    // How many edges all rows have.
+    edges: u64,
 }
 
 impl Model for SparseRows {
+    ghost use Rattle.std.specs.Prelude.{◌≡◌, length, sum_by};
+    ghost use Rattle.std.specs.List.{flat_map};
     ghost use Rattle.digit_tuple.specs.Decisions.{rows_in};
-    ghost use Rattle.digit_tuple.specs.SparseRows.{Rows, AreOver};
+    ghost use Rattle.digit_tuple.specs.SparseRows.{Rows, AreRowBlocks};
 
     ghost Value = { Rows };
 
-    ghost view = { λ r. record { sizes = r.tracks; rows = rows_in r.decisions.value } };
+    ghost view = { λ r. record { sizes = r.tracks; rows = flat_map rows_in r.blocks.items } };
 
-    ghost invariant = { λ r. AreOver r.tracks r.decisions.value };
+    ghost invariant = { λ r. AreRowBlocks r.tracks r.blocks.items × (r.edges ≡ sum_by length (flat_map rows_in r.blocks.items)) };
 }
 
 impl SparseRows {
@@ -40,10 +49,10 @@ impl SparseRows {
     pub(crate) fn new(alloc: Global, alphabet: Alphabet) -> Result<Self, OutOfMemory>
         ensures { IfOk result (λ table. table ≡ record { sizes = alphabet; rows = [] }) }
     {
-        let decisions = Box::new(alloc, no_decisions(alloc, &alphabet)?)?;
         Ok(SparseRows {
             tracks: alphabet,
-            decisions,
+            blocks: Vec::with_capacity(alloc, 1)?,
+            edges: 0,
         })
     }
 
@@ -54,7 +63,8 @@ impl SparseRows {
         &self.tracks
     }
 
-    /// The rows with one more behind them, of these edges. A refused call gives them up.
+    /// The rows with one more behind them, of these edges. A refused call gives them up. A call is also
+    /// refused where there would be 2^64 edges.
     pub(crate) fn with_row(self, edges: &[Edge]) -> Result<Self, OutOfMemory>
         requires in_range { All (λ edge. edge.letter < product self.sizes) edges.now }
         requires ascending { AllPairs IsByEarlier edges.now }
@@ -64,10 +74,20 @@ impl SparseRows {
         let _letters = self.tracks.letters();
         let SparseRows {
             tracks,
-            mut decisions,
+            mut blocks,
+            edges: before,
         } = self;
-        add_edges(&mut decisions, edges)?;
-        Ok(SparseRows { tracks, decisions })
+        let Some(count) = before.checked_add(edges.len() as u64) else {
+            return Err(OutOfMemory);
+        };
+        let mut block = take_open_block(&tracks, &mut blocks)?;
+        add_edges(&mut block, edges)?;
+        blocks.push(block)?;
+        Ok(SparseRows {
+            tracks,
+            blocks,
+            edges: count,
+        })
     }
 
     /// Writes the edges of a row in place of what the buffer held.
@@ -78,7 +98,8 @@ impl SparseRows {
         // That the letters of an alphabet are numbered by 32 bits.
         let _letters = self.tracks.letters();
         row.clear();
-        self.decisions.row_into(place as usize, 0, row)
+        self.block_of(place)
+            .row_into(place as usize % BLOCK_ROWS, 0, row)
     }
 
     /// Where a letter leads from a row, unless it leads nowhere. It takes no memory.
@@ -86,7 +107,8 @@ impl SparseRows {
         requires { place < length self.now.rows }
         ensures { result ≡ target_by (row_at self.now place) letter }
     {
-        self.decisions.step(place as usize, letter)
+        self.block_of(place)
+            .step(place as usize % BLOCK_ROWS, letter)
     }
 
     /// Whether a row has no edge.
@@ -94,7 +116,7 @@ impl SparseRows {
         requires { place < length self.now.rows }
         ensures { IsTrue result ↔ (row_at self.now place ≡ []) }
     {
-        self.decisions.is_bare(place as usize)
+        self.block_of(place).is_bare(place as usize % BLOCK_ROWS)
     }
 
     /// Whether the row at a place is that of other rows at a place. It takes no memory.
@@ -108,17 +130,18 @@ impl SparseRows {
         // That the letters of an alphabet are numbered by 32 bits.
         let _letters = self.tracks.letters();
         let _letters = other.tracks.letters();
-        let one = &*self.decisions;
-        let two = &*other.decisions;
-        one.is_within(place as usize, 0, two, at as usize)
-            && two.is_within(at as usize, 0, one, place as usize)
+        let one = self.block_of(place);
+        let two = other.block_of(at);
+        let place = place as usize % BLOCK_ROWS;
+        let at = at as usize % BLOCK_ROWS;
+        one.is_within(place, 0, two, at) && two.is_within(at, 0, one, place)
     }
 
-    /// How many edges there are.
+    /// How many edges there are. The cost does not depend on their number.
     pub(crate) fn edges(&self) -> u64
         ensures { result ≡ sum_by length self.now.rows }
     {
-        self.decisions.edges()
+        self.edges
     }
 
     /// How many digits are kept, each with what it leads to. Where there is no track there is none.
@@ -130,7 +153,14 @@ impl SparseRows {
         if self.tracks.tracks() == 0 {
             return 0;
         }
-        self.decisions.cells()
+        count_cells(&self.blocks)
+    }
+
+    /// Gives back memory that is not in use.
+    pub(crate) fn shrink_to_fit(&mut self)
+        ensures { self.new ≡ self.old }
+    {
+        shrink_blocks(&mut self.blocks);
     }
 
     /// The same rows, in memory of their own.
@@ -139,9 +169,78 @@ impl SparseRows {
     {
         Ok(SparseRows {
             tracks: self.tracks.copy(alloc)?,
-            decisions: Box::new(alloc, self.decisions.copy(alloc)?)?,
+            blocks: copy_blocks(alloc, &self.blocks)?,
+            edges: self.edges,
         })
     }
+
+    // The block of a row.
+    fn block_of(&self, place: u32) -> &Decisions
+        requires { place < length self.now.rows }
+        ensures over { AreOver self.now.sizes result.now }
+        ensures within { place % block_rows < length (rows_in result.now) }
+        ensures row { slice_index_or (rows_in result.now) (place % block_rows) [] ≡ row_at self.now place }
+    {
+        &self.blocks[place as usize / BLOCK_ROWS]
+    }
+}
+
+// The block for one more row: the last one, which is taken away, or a new one where that is full or there
+// is none. The blocks that are left are full. What a refused call leaves is of no use.
+fn take_open_block(tracks: &Alphabet, blocks: &mut Vec<Decisions>) -> Result<Decisions, OutOfMemory>
+    requires { AreRowBlocks tracks.now blocks.old.items }
+    ensures over { IfOk result (AreOver tracks.now) }
+    ensures room { IfOk result (λ block. length (rows_in block) < block_rows) }
+    ensures full { OnOk result (AllByRecursion (IsFullOver tracks.now) blocks.new.items) }
+    ensures rows { IfOk result (λ block. flat_map rows_in blocks.new.items ++ rows_in block ≡ flat_map rows_in blocks.old.items) }
+{
+    let alloc = *blocks.allocator();
+    match blocks.pop() {
+        None => no_decisions(alloc, tracks),
+        Some(mut last) => {
+            if last.len() < BLOCK_ROWS {
+                return Ok(last);
+            }
+            last.shrink_to_fit();
+            blocks.push(last)?;
+            no_decisions(alloc, tracks)
+        }
+    }
+}
+
+// How many digits are kept in all blocks.
+fn count_cells(blocks: &[Decisions]) -> u64
+    requires { sum_by cells_in blocks.now < 2 ^ 64 }
+    ensures { result ≡ sum_by cells_in blocks.now }
+{
+    let mut cells = 0;
+    for block in blocks {
+        cells += block.cells();
+    }
+    cells
+}
+
+// Gives back memory that is not in use. A full block was shrunk when the next one began.
+fn shrink_blocks(blocks: &mut Vec<Decisions>)
+    requires { AllByRecursion IsSound blocks.old.items }
+    ensures { HaveSameRows blocks.old.items blocks.new.items }
+{
+    blocks.shrink_to_fit();
+    if let Some(last) = blocks.last_mut() {
+        last.shrink_to_fit();
+    }
+}
+
+// The same blocks, in memory of their own.
+fn copy_blocks(alloc: Global, blocks: &[Decisions]) -> Result<Vec<Decisions>, OutOfMemory>
+    requires { AllByRecursion IsSound blocks.now }
+    ensures { IfOk result (λ copied. HaveSameRows blocks.now copied.items) }
+{
+    let mut copied = Vec::with_capacity(alloc, blocks.len())?;
+    for block in blocks {
+        copied.push(block.copy(alloc)?)?;
+    }
+    Ok(copied)
 }
 
 // No rows, by the tracks of an alphabet.

@@ -35,14 +35,14 @@ impl Model for Starts {
 }
 
 impl Starts {
-    /// No places.
-    pub(crate) fn new(alloc: Global) -> Self
-        ensures { result ≡ [] }
+    /// No places, and memory for so many.
+    pub(crate) fn with_capacity(alloc: Global, capacity: usize) -> Result<Self, OutOfMemory>
+        ensures { IfOk result (λ starts. starts ≡ []) }
     {
-        Starts {
-            offsets: Vec::new(alloc),
+        Ok(Starts {
+            offsets: Vec::with_capacity(alloc, capacity)?,
             bases: Vec::new(alloc),
-        }
+        })
     }
 
     /// How many places there are.
@@ -74,6 +74,14 @@ impl Starts {
         self.bases.push(Base { first, place })?;
         self.offsets.push(0)?;
         Ok(())
+    }
+
+    /// Gives back memory that is not in use.
+    pub(crate) fn shrink_to_fit(&mut self)
+        ensures { self.new ≡ self.old }
+    {
+        self.offsets.shrink_to_fit();
+        self.bases.shrink_to_fit();
     }
 
     /// The same places, in memory of their own.

@@ -1,4 +1,4 @@
-use Rattle.std.proofs.Common.{rules, ◌≡◌, ◌+◌, ◌<◌, ℕ, List, [], ◌∷◌, length, false, if◌then◌else◌, inl, inr, sym, ap, ◌∙◌, subst, arith}
+use Rattle.std.proofs.Common.{rules, ◌≡◌, ◌+◌, ◌<◌, ℕ, List, [], ◌∷◌, ◌++◌, length, false, if◌then◌else◌, inl, inr, sym, ap, ◌∙◌, subst, arith}
 use Rattle.std.specs.List.{All}
 use Rattle.std.proofs.lemmas.List.Elements.{All-push, All-nil}
 use Rattle.std.proofs.lemmas.List.{length_push}
@@ -9,11 +9,32 @@ use Rattle.digit_tuple.specs.Width.{HasApart, HasWidth}
 use Rattle.digit_tuple.specs.declared.edges.Edge.{Edge}
 use Rattle.digit_tuple.specs.Keys.{LeadAlike, key_accepts}
 use Rattle.digit_tuple.specs.Explored.{AreNumbered, NumbersSome, key_at, IsExplored}
-use Rattle.digit_tuple.proofs.KeyEdgeLemmas.{IsStateFrom-written, Overflows-written, first_numbered, length-are_numbered}
+use Rattle.digit_tuple.proofs.KeyEdgeLemmas.{Overflows-written, first_numbered, length-are_numbered}
 use Rattle.digit_tuple.proofs.FrontierLemmas.{All-state_from, IsFrontier-start}
-use Rattle.digit_tuple.proofs.ExploredLemmas.{IsExploring, IsExploring-start, IsExploring-pushed, IsExploring-refused, IsExploring-edges, IsExploring-gap, HasApart-firsts, IsTable-explored, IsExplored-done, IsNumberedByFirsts-done, HasWidth-done, accepts_of-explored}
+use Rattle.digit_tuple.proofs.ExploredLemmas.{IsExploring, IsExploring-start, IsExploring-overflows, IsExploring-gap, HasApart-firsts, IsTable-explored, IsExplored-done, IsNumberedByFirsts-done, HasWidth-done, accepts_of-explored}
+use Rattle.digit_tuple.proofs.RoundLemmas.{IsRound, IsRound-written}
+use Rattle.digit_tuple.proofs.exploration.explore_keys.Given.{Over}
 use Rattle.digit_tuple.proofs.exploration.explore_keys.Goals as goal
-use Rattle.digit_tuple.proofs.exploration.explore_keys.Goals.{then-len-letters, else-len-letters, else-gap-via-then-gap+else-len-limit, else-gap-via-else-gap}
+use Rattle.digit_tuple.proofs.exploration.explore_keys.Goals.{After-deref-in-explore, then-len-letters, else-len-letters, else-gap-via-then-gap+else-len-limit, else-gap-via-else-gap}
+
+-- the state that a round makes
+abbrev state_in : (g : Over) → After-deref-in-explore g → State
+state_in g c = record { accepting = c.is_accepting-accepting.result; edges = c.deref-in-explore.result.now }
+
+-- the round that makes it
+round : (g : Over) (c : After-deref-in-explore g)
+    → IsRound (g.G.KeyGraph.letters c.args.graph.now) (g.G.KeyGraph.start c.args.graph.now) (g.G.KeyGraph.after c.args.graph.now) (g.G.KeyGraph.accepts c.args.graph.now) c.explore.keys c.number_edges.new.keys c.explore.states.states (state_in g c) c.if-len-letters.gap
+round g c =
+    let s = c.args.graph.now in
+    let written : c.deref-in-explore.result.now ≡ c.number_edges.new.edges.items = c.deref-in-explore.ensures.value in
+    let size : c.len-in-explore-3.result ≡ length c.deref-in-explore.result.now = omega (arith, c.len-in-explore-3.ensures, c.number_edges.new.edges.ok, ap length written) in
+    IsRound-written (g.G.KeyGraph.letters s) (g.G.KeyGraph.start s) (g.G.KeyGraph.after s) (g.G.KeyGraph.accepts s) c.explore.keys c.number_edges.new.keys c.explore.states.states (state_in g c)
+    c.explore.gap c.if-len-letters.gap c.key-key.result.now c.edges.new.out c.explore.invariant.exploring (omega (arith, c.len-in-explore-2.ensures)) (c.key-key.ensures ∙ ap (key_at c.explore.keys) c.len-in-explore-2.ensures) c.in_ok-edges-2.ensures
+    (subst (λ es. AreNumbered c.edges.new.out es c.explore.keys c.number_edges.new.keys) (sym written) c.in_ok-number_edges.ensures.edges) c.is_accepting-accepting.ensures
+    (elim c.if-len-letters.branch [
+      | then-len-letters w ↦ inl (omega (arith, w.if-len-letters.true, size, c.letters-letters.ensures.value, c.requires.letters), w.gap-is)
+      | else-len-letters w ↦ inr (omega (arith, w.if-len-letters.false, size, c.letters-letters.ensures.value, c.requires.letters), w.gap-is)
+    ])
 
 pub returns-then-limit-eq0-clause-states : goal.returns-then-limit-eq0-clause-states
 returns-then-limit-eq0-clause-states g c h =
@@ -42,88 +63,50 @@ explore-init g c =
 pub returns-in_err-number_edges-clause-states : goal.returns-in_err-number_edges-clause-states
 returns-in_err-number_edges-clause-states g c h =
     let s = c.args.graph.now in
-    let p = c.len-in-explore-2.result in
+    let states = c.explore.states.states in
     let e = c.from_residual-in_err-number_edges.ensures in
     let some : NumbersSome c.edges.new.out c.explore.keys c.number_edges.new.keys (c.args.limit + 1) = search rules in
-    IsExploring-refused (g.G.KeyGraph.letters s) (g.G.KeyGraph.start s) (g.G.KeyGraph.after s) (g.G.KeyGraph.accepts s) c.explore.keys c.number_edges.new.keys c.explore.states.states c.explore.gap p (c.args.limit + 1)
-    c.explore.invariant.exploring c.len-in-explore-2.ensures (omega arith)
-    (Overflows-written (g.G.KeyGraph.letters s) (g.G.KeyGraph.after s) c.explore.keys c.number_edges.new.keys (key_at c.explore.keys p) c.key-key.result.now c.edges.new.out (c.args.limit + 1) c.key-key.ensures c.in_ok-edges.ensures some)
+    IsExploring-overflows (g.G.KeyGraph.letters s) (g.G.KeyGraph.start s) (g.G.KeyGraph.after s) (g.G.KeyGraph.accepts s) c.explore.keys c.number_edges.new.keys states c.explore.gap (c.args.limit + 1)
+    c.explore.invariant.exploring (omega (arith, c.len-in-explore-2.ensures))
+    (Overflows-written (g.G.KeyGraph.letters s) (g.G.KeyGraph.after s) c.explore.keys c.number_edges.new.keys (key_at c.explore.keys (length states)) c.key-key.result.now c.edges.new.out (c.args.limit + 1)
+    (c.key-key.ensures ∙ ap (key_at c.explore.keys) c.len-in-explore-2.ensures) c.in_ok-edges-2.ensures some)
 
 pub with_state-requires-clause-in_range : goal.with_state-requires-clause-in_range
 with_state-requires-clause-in_range g c =
-    let s = c.args.graph.now in
-    let p = c.len-in-explore-2.result in
-    let state : State = record { accepting = c.is_accepting-accepting.result; edges = c.deref-in-explore.result.now } in
-    let numbered : AreNumbered c.edges.new.out state.edges c.explore.keys c.number_edges.new.keys =
-    subst (λ es. AreNumbered c.edges.new.out es c.explore.keys c.number_edges.new.keys) (sym {A = List Edge} c.deref-in-explore.ensures.value) c.in_ok-number_edges.ensures.edges in
-    let from = IsStateFrom-written (g.G.KeyGraph.letters s) (g.G.KeyGraph.after s) (g.G.KeyGraph.accepts s) c.explore.keys c.number_edges.new.keys (key_at c.explore.keys p) c.key-key.result.now c.edges.new.out state.accepting state.edges
-    c.key-key.ensures c.in_ok-edges.ensures numbered c.is_accepting-accepting.ensures in
-    let row = IsExploring-edges (g.G.KeyGraph.letters s) (g.G.KeyGraph.start s) (g.G.KeyGraph.after s) (g.G.KeyGraph.accepts s) c.explore.keys c.number_edges.new.keys c.explore.states.states state c.explore.gap p c.explore.invariant.exploring c.len-in-explore-2.ensures (omega arith) from in
-    let letters : g.G.KeyGraph.letters s ≡ product c.explore.states.sizes = c.requires.letters ∙ sym (ap product c.explore.invariant.sizes) in
-    subst (λ n. All (λ (edge : Edge). edge.letter < n) state.edges) letters row.0
+    let now = round g (goal.at.with_state-requires-clause-in_range g c).After-deref-in-explore in
+    subst (λ n. All (λ (edge : Edge). edge.letter < n) c.deref-in-explore.result.now) (c.requires.letters ∙ sym (ap product c.explore.invariant.sizes)) now.in_range
 
 pub with_state-requires-clause-ascending : goal.with_state-requires-clause-ascending
-with_state-requires-clause-ascending g c =
-    let s = c.args.graph.now in
-    let p = c.len-in-explore-2.result in
-    let state : State = record { accepting = c.is_accepting-accepting.result; edges = c.deref-in-explore.result.now } in
-    let numbered : AreNumbered c.edges.new.out state.edges c.explore.keys c.number_edges.new.keys =
-    subst (λ es. AreNumbered c.edges.new.out es c.explore.keys c.number_edges.new.keys) (sym {A = List Edge} c.deref-in-explore.ensures.value) c.in_ok-number_edges.ensures.edges in
-    let from = IsStateFrom-written (g.G.KeyGraph.letters s) (g.G.KeyGraph.after s) (g.G.KeyGraph.accepts s) c.explore.keys c.number_edges.new.keys (key_at c.explore.keys p) c.key-key.result.now c.edges.new.out state.accepting state.edges
-    c.key-key.ensures c.in_ok-edges.ensures numbered c.is_accepting-accepting.ensures in
-    let row = IsExploring-edges (g.G.KeyGraph.letters s) (g.G.KeyGraph.start s) (g.G.KeyGraph.after s) (g.G.KeyGraph.accepts s) c.explore.keys c.number_edges.new.keys c.explore.states.states state c.explore.gap p c.explore.invariant.exploring c.len-in-explore-2.ensures (omega arith) from in
-    row.1
+with_state-requires-clause-ascending g c = (round g (goal.at.with_state-requires-clause-ascending g c).After-deref-in-explore).ascending
 
 pub returns-then-len-limit-clause-states : goal.returns-then-len-limit-clause-states
 returns-then-len-limit-clause-states g c h =
     let s = c.args.graph.now in
-    let p = c.len-in-explore-2.result in
-    let state : State = record { accepting = c.is_accepting-accepting.result; edges = c.deref-in-explore.result.now } in
-    let numbered : AreNumbered c.edges.new.out state.edges c.explore.keys c.number_edges.new.keys =
-    subst (λ es. AreNumbered c.edges.new.out es c.explore.keys c.number_edges.new.keys) (sym {A = List Edge} c.deref-in-explore.ensures.value) c.in_ok-number_edges.ensures.edges in
-    let from = IsStateFrom-written (g.G.KeyGraph.letters s) (g.G.KeyGraph.after s) (g.G.KeyGraph.accepts s) c.explore.keys c.number_edges.new.keys (key_at c.explore.keys p) c.key-key.result.now c.edges.new.out state.accepting state.edges
-    c.key-key.ensures c.in_ok-edges.ensures numbered c.is_accepting-accepting.ensures in
-    let size : c.len-in-explore-3.result ≡ length state.edges = omega (arith, c.len-in-explore-3.ensures, c.number_edges.new.edges.ok, ap length c.deref-in-explore.ensures.value) in
-    let now = IsExploring-pushed (g.G.KeyGraph.letters s) (g.G.KeyGraph.start s) (g.G.KeyGraph.after s) (g.G.KeyGraph.accepts s) c.explore.keys c.number_edges.new.keys c.explore.states.states c.in_ok-states-2.states.states state c.explore.gap c.if-len-letters.gap p
-    c.explore.invariant.exploring c.len-in-explore-2.ensures (omega arith) from (ap (λ (d : Automaton). d.states) c.in_ok-states-2.ensures)
-    (elim c.if-len-letters.branch [
-      | then-len-letters w ↦ inl (omega (arith, w.if-len-letters.true, size, c.letters-letters.ensures.value, c.requires.letters), w.gap-is)
-      | else-len-letters w ↦ inr (omega (arith, w.if-len-letters.false, size, c.letters-letters.ensures.value, c.requires.letters), w.gap-is)
-    ]) in
-    IsExploring-gap (g.G.KeyGraph.letters s) (g.G.KeyGraph.start s) (g.G.KeyGraph.after s) (g.G.KeyGraph.accepts s) c.number_edges.new.keys c.in_ok-states-2.states.states c.args.limit
-    (subst (IsExploring (g.G.KeyGraph.letters s) (g.G.KeyGraph.start s) (g.G.KeyGraph.after s) (g.G.KeyGraph.accepts s) c.number_edges.new.keys c.in_ok-states-2.states.states) c.if-gap.true now) (omega arith)
+    let at = (goal.at.returns-then-len-limit-clause-states g c).After-deref-in-explore in
+    let states = c.explore.states.states ++ state_in g at ∷ [] in
+    IsExploring-gap (g.G.KeyGraph.letters s) (g.G.KeyGraph.start s) (g.G.KeyGraph.after s) (g.G.KeyGraph.accepts s) c.number_edges.new.keys states c.args.limit
+    (subst (IsExploring (g.G.KeyGraph.letters s) (g.G.KeyGraph.start s) (g.G.KeyGraph.after s) (g.G.KeyGraph.accepts s) c.number_edges.new.keys states) c.if-gap.true (round g at).exploring) (omega arith)
 
 pub explore-preserved : goal.explore-preserved
 explore-preserved g c =
     let s = c.args.graph.now in
-    let p = c.len-in-explore-2.result in
-    let state : State = record { accepting = c.is_accepting-accepting.result; edges = c.deref-in-explore.result.now } in
-    let numbered : AreNumbered c.edges.new.out state.edges c.explore.keys c.number_edges.new.keys =
-    subst (λ es. AreNumbered c.edges.new.out es c.explore.keys c.number_edges.new.keys) (sym {A = List Edge} c.deref-in-explore.ensures.value) c.in_ok-number_edges.ensures.edges in
-    let from = IsStateFrom-written (g.G.KeyGraph.letters s) (g.G.KeyGraph.after s) (g.G.KeyGraph.accepts s) c.explore.keys c.number_edges.new.keys (key_at c.explore.keys p) c.key-key.result.now c.edges.new.out state.accepting state.edges
-    c.key-key.ensures c.in_ok-edges.ensures numbered c.is_accepting-accepting.ensures in
-    let size : c.len-in-explore-3.result ≡ length state.edges = omega (arith, c.len-in-explore-3.ensures, c.number_edges.new.edges.ok, ap length c.deref-in-explore.ensures.value) in
-    let now = IsExploring-pushed (g.G.KeyGraph.letters s) (g.G.KeyGraph.start s) (g.G.KeyGraph.after s) (g.G.KeyGraph.accepts s) c.explore.keys c.number_edges.new.keys c.explore.states.states c.in_ok-states-2.states.states state c.explore.gap c.if-len-letters.gap p
-    c.explore.invariant.exploring c.len-in-explore-2.ensures (omega arith) from (ap (λ (d : Automaton). d.states) c.in_ok-states-2.ensures)
-    (elim c.if-len-letters.branch [
-      | then-len-letters w ↦ inl (omega (arith, w.if-len-letters.true, size, c.letters-letters.ensures.value, c.requires.letters), w.gap-is)
-      | else-len-letters w ↦ inr (omega (arith, w.if-len-letters.false, size, c.letters-letters.ensures.value, c.requires.letters), w.gap-is)
-    ]) in
+    let states = c.explore.states.states in
+    let at = (goal.at.explore-preserved g c).After-deref-in-explore in
+    let state = state_in g at in
+    let now = round g at in
+    let pushed : c.in_ok-states-2.states.states ≡ states ++ state ∷ [] = ap (λ (d : Automaton). d.states) c.in_ok-states-2.ensures in
     record {
       few = c.in_ok-number_edges.ensures.few;
       room = λ gap. elim c.else-gap.branch [
         | else-gap-via-then-gap+else-len-limit w ↦ omega (arith, w.if-len-limit.false, w.len-then-gap.ensures.len, c.in_ok-number_edges.ensures.few)
         | else-gap-via-else-gap w ↦ absurd (cc (gap, w.if-gap.false))
       ];
-      valid = All-state_from (g.G.KeyGraph.is_key s) (g.G.KeyGraph.letters s) (g.G.KeyGraph.after s (key_at c.explore.keys p)) (g.G.KeyGraph.accepts s (key_at c.explore.keys p)) c.explore.keys c.number_edges.new.keys state
-          (λ a small. g.met.G.KeyGraph.after_is_key s (key_at c.explore.keys p) a c.requires.graph (c.explore.invariant.valid p [] (omega arith)) small)
-          from c.explore.invariant.valid;
+      valid = All-state_from (g.G.KeyGraph.is_key s) (g.G.KeyGraph.letters s) (g.G.KeyGraph.after s (key_at c.explore.keys (length states))) (g.G.KeyGraph.accepts s (key_at c.explore.keys (length states))) c.explore.keys c.number_edges.new.keys state
+          (λ a small. g.met.G.KeyGraph.after_is_key s (key_at c.explore.keys (length states)) a c.requires.graph (c.explore.invariant.valid (length states) [] (omega (arith, c.len-in-explore-2.ensures))) small)
+          now.from c.explore.invariant.valid;
       sizes = ap (λ (d : Automaton). d.sizes) c.in_ok-states-2.ensures ∙ c.explore.invariant.sizes;
-      explored =
-          let total = length_push c.explore.states.states state in
-          let kept = length-are_numbered c.edges.new.out state.edges c.explore.keys c.number_edges.new.keys numbered in
-          omega (arith, total, kept, c.len-in-explore-2.ensures, ap (λ (d : Automaton). length d.states) c.in_ok-states-2.ensures);
-      exploring = now;
+      explored = omega (arith, length_push states state, length-are_numbered now.from.key_edges state.edges c.explore.keys c.number_edges.new.keys now.from.numbered, c.len-in-explore-2.ensures, ap length pushed);
+      exploring = subst (λ ss. IsExploring (g.G.KeyGraph.letters s) (g.G.KeyGraph.start s) (g.G.KeyGraph.after s) (g.G.KeyGraph.accepts s) c.number_edges.new.keys ss c.if-len-letters.gap) (sym pushed) now.exploring;
     }
 
 pub finish-dfa-requires : goal.finish-dfa-requires

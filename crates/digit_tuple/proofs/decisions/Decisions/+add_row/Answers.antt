@@ -1,14 +1,13 @@
-use Rattle.std.proofs.Common.{◌≡◌, ◌<◌, ◌*◌, ◌/◌, ◌%◌, ℕ, List, [], ◌∷◌, ◌++◌, subst, sym, ap, ◌∙◌, arith}
-use Rattle.std.proofs.lemmas.Nat.{div_below}
+use Rattle.std.proofs.Common.{◌≡◌, ◌/◌, ◌%◌, ℕ, List, [], ◌∷◌, ◌++◌, sym, ap, ◌∙◌}
 use Rattle.digit_tuple.specs.Letters.{product}
 use Rattle.digit_tuple.specs.NumberLists.{extended, last_of, last_number}
 use Rattle.digit_tuple.specs.Reversed.{edge_to}
 use Rattle.digit_tuple.specs.declared.edges.Edge.{Edge}
 use Rattle.digit_tuple.specs.declared.decisions.Decisions.{Decisions}
-use Rattle.digit_tuple.specs.Decisions.{rows_in, sizes_in, joined_rows, IsSound, IsTrack}
-use Rattle.digit_tuple.proofs.LetterLemmas.{positive_right}
+use Rattle.digit_tuple.specs.Decisions.{rows_in, sizes_in, joined_rows}
 use Rattle.digit_tuple.proofs.JoinedRows.{extended-push, joined_rows-push, last_of-push}
 use Rattle.digit_tuple.proofs.DecisionLemmas.{IsTrack-push, IsTrack-same, on_ok, behind-split}
+use Rattle.digit_tuple.proofs.DecisionReads.{IsLetterOn-sound}
 use Rattle.digit_tuple.proofs.decisions.Decisions.+add_row.Goals as goal
 
 pub returns-in_ok-add-in-OnTrack-clause-sound : goal.returns-in_ok-add-in-OnTrack-clause-sound
@@ -17,18 +16,13 @@ returns-in_ok-add-in-OnTrack-clause-sound t c =
     let below = c.in-OnTrack.below.value in
     let digit : ℕ = c.args.letter / track.weight in
     let rest : ℕ = c.args.letter % track.weight in
-    let sound : IsTrack track (product (sizes_in below)) (rows_in below) × IsSound below = subst IsSound c.in-OnTrack.is c.requires.sound in
-    let whole : c.args.letter < track.size * product (sizes_in below) = subst (λ (d : Decisions). c.args.letter < product (sizes_in d)) c.in-OnTrack.is c.requires.letter in
-    let weight : product (sizes_in below) ≡ track.weight = sym sound.0.weight in
-    let less : c.args.letter < track.size * track.weight = subst (λ n. c.args.letter < track.size * n) weight whole in
-    let positive : 0 < track.weight = positive_right track.size track.weight (omega (arith, less)) in
-    let small : digit < track.size = div_below c.args.letter track.weight track.size positive less in
+    let on = IsLetterOn-sound _ track _ below c.args.letter c.in-OnTrack.is c.requires.sound c.requires.letter in
     let pushed : c.add.new.self ≡ track.digits ++ (digit ∷ []) ∷ [] =
     c.in_ok-add-in-OnTrack.ensures ∙ ap (λ (ls : List (List ℕ)). extended ls (digit ∷ [])) c.in_ok-begin-in-OnTrack.ensures ∙ extended-push track.digits [] (digit ∷ []) in
     on_ok c.add_row.result _ _ _ _ c.add_row.ensures.sound c.add_row.ensures.sizes c.add_row.ensures.rows
     (λ s z r. (
       IsTrack-same track.size track.weight _ _ _ _ _ _ pushed (ap product z ∙ ap (λ (d : Decisions). product (sizes_in d)) c.deref_mut.ensures.value) (r ∙ ap (λ (d : Decisions). rows_in d ++ (edge_to rest c.args.target ∷ []) ∷ []) c.deref_mut.ensures.value)
-          (IsTrack-push track (product (sizes_in below)) digit (rows_in below) (edge_to rest c.args.target) sound.0 small),
+          (IsTrack-push track (product (sizes_in below)) digit (rows_in below) (edge_to rest c.args.target) on.track_is on.digit),
       s,
     ))
 
@@ -38,18 +32,13 @@ returns-in_ok-add-in-OnTrack-clause-rows t c =
     let below = c.in-OnTrack.below.value in
     let digit : ℕ = c.args.letter / track.weight in
     let rest : ℕ = c.args.letter % track.weight in
-    let sound : IsTrack track (product (sizes_in below)) (rows_in below) × IsSound below = subst IsSound c.in-OnTrack.is c.requires.sound in
-    let whole : c.args.letter < track.size * product (sizes_in below) = subst (λ (d : Decisions). c.args.letter < product (sizes_in d)) c.in-OnTrack.is c.requires.letter in
-    let weight : product (sizes_in below) ≡ track.weight = sym sound.0.weight in
-    let less : c.args.letter < track.size * track.weight = subst (λ n. c.args.letter < track.size * n) weight whole in
-    let positive : 0 < track.weight = positive_right track.size track.weight (omega (arith, less)) in
-    let small : digit < track.size = div_below c.args.letter track.weight track.size positive less in
+    let on = IsLetterOn-sound _ track _ below c.args.letter c.in-OnTrack.is c.requires.sound c.requires.letter in
     let pushed : c.add.new.self ≡ track.digits ++ (digit ∷ []) ∷ [] =
     c.in_ok-add-in-OnTrack.ensures ∙ ap (λ (ls : List (List ℕ)). extended ls (digit ∷ [])) c.in_ok-begin-in-OnTrack.ensures ∙ extended-push track.digits [] (digit ∷ []) in
     on_ok c.add_row.result _ _ _ _ c.add_row.ensures.rows c.add_row.ensures.rows c.add_row.ensures.rows
     (λ r q p. ap (λ (ls : List (List ℕ)). joined_rows track.weight ls (rows_in c.add_row.new.self)) pushed
     ∙ ap (joined_rows track.weight (track.digits ++ (digit ∷ []) ∷ [])) (r ∙ ap (λ (d : Decisions). rows_in d ++ (edge_to rest c.args.target ∷ []) ∷ []) c.deref_mut.ensures.value)
-    ∙ joined_rows-push track.weight track.digits (rows_in below) digit (edge_to rest c.args.target ∷ []) sound.0.count
+    ∙ joined_rows-push track.weight track.digits (rows_in below) digit (edge_to rest c.args.target ∷ []) on.track_is.count
     ∙ ap (λ (row : List Edge). joined_rows track.weight track.digits (rows_in below) ++ row ∷ []) (behind-split c.args.letter track.weight c.args.target)
     ∙ ap (λ (d : Decisions). rows_in d ++ (edge_to c.args.letter c.args.target ∷ []) ∷ []) (sym c.in-OnTrack.is))
 
@@ -58,13 +47,6 @@ returns-in_ok-add-in-OnTrack-clause-ends t c =
     let track = c.in-OnTrack.track in
     let below = c.in-OnTrack.below.value in
     let digit : ℕ = c.args.letter / track.weight in
-    let rest : ℕ = c.args.letter % track.weight in
-    let sound : IsTrack track (product (sizes_in below)) (rows_in below) × IsSound below = subst IsSound c.in-OnTrack.is c.requires.sound in
-    let whole : c.args.letter < track.size * product (sizes_in below) = subst (λ (d : Decisions). c.args.letter < product (sizes_in d)) c.in-OnTrack.is c.requires.letter in
-    let weight : product (sizes_in below) ≡ track.weight = sym sound.0.weight in
-    let less : c.args.letter < track.size * track.weight = subst (λ n. c.args.letter < track.size * n) weight whole in
-    let positive : 0 < track.weight = positive_right track.size track.weight (omega (arith, less)) in
-    let small : digit < track.size = div_below c.args.letter track.weight track.size positive less in
     let pushed : c.add.new.self ≡ track.digits ++ (digit ∷ []) ∷ [] =
     c.in_ok-add-in-OnTrack.ensures ∙ ap (λ (ls : List (List ℕ)). extended ls (digit ∷ [])) c.in_ok-begin-in-OnTrack.ensures ∙ extended-push track.digits [] (digit ∷ []) in
     on_ok c.add_row.result _ _ _ _ c.add_row.ensures.ends c.add_row.ensures.ends c.add_row.ensures.ends

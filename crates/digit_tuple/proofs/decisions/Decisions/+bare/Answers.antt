@@ -14,7 +14,7 @@ returns-in_ok-new-in-Some-clause-sound t c =
     let none : rows_in below ≡ [] = ap rows_in boxed ∙ c.in_ok-below-in-Some.ensures.rows in
     let weight = first_weight c.args.sizes.now c.in-Some.size.now c.args.letters c.in-Some.ensures.value c.requires.letters c.requires.some in
     let sizes : sizes_in below ≡ drop 1 c.args.sizes.now = ap sizes_in boxed ∙ c.in_ok-below-in-Some.ensures.sizes ∙ take_all (length c.args.sizes.now - 1) (drop 1 c.args.sizes.now) (omega (arith, length-drop 1 c.args.sizes.now)) in
-    let digits : c.new-in-Some.result ≡ [] = c.new-in-Some.ensures in (
+    let digits : c.in_ok-with_capacity-in-Some.field-0 ≡ [] = c.in_ok-with_capacity-in-Some.ensures in (
       record {
         weight = weight ∙ ap product (sym sizes);
         count = ap (λ (xs : List (List ℕ)). sum_by length xs) digits ∙ sym (ap length none);

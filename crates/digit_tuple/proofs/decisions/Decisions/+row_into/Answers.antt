@@ -1,65 +1,65 @@
-use Rattle.std.proofs.Common.{◌≡◌, ◌+◌, ◌*◌, ◌<◌, ◌≤◌, suc, ℕ, List, [], ◌++◌, map, take, drop, length, get_or, subst, sym, ap, ◌∙◌, add-one, append_assoc, length-drop, arith}
-use Rattle.std.proofs.lemmas.Nat.{mul-le}
-use Rattle.std.proofs.lemmas.List.{map-append, take_all, get_or-drop}
-use Rattle.std.specs.List.{sum_by}
+use Rattle.std.proofs.Common.{◌≡◌, ◌+◌, ◌*◌, ◌<◌, ℕ, List, [], ◌++◌, map, take, drop, length, get_or, subst, sym, ap, ◌∙◌, append_assoc, arith}
+use Rattle.std.proofs.lemmas.List.{take_all}
+use Rattle.std.specs.Result.{OnOk}
 use Rattle.digit_tuple.specs.Letters.{product}
 use Rattle.digit_tuple.specs.declared.edges.Edge.{Edge}
 use Rattle.digit_tuple.specs.declared.decisions.Decisions.{Decisions}
-use Rattle.digit_tuple.specs.Decisions.{rows_in, sizes_in, joined, behind, AreDigitsBelow, IsSound, IsTrack}
-use Rattle.digit_tuple.proofs.JoinedRows.{length-joined_rows}
-use Rattle.digit_tuple.proofs.JoinedReads.{joined_rows-at, joined_more, map-behind, all_at}
-use Rattle.digit_tuple.proofs.DecisionReads.{fits_at}
+use Rattle.digit_tuple.specs.Decisions.{rows_in, sizes_in, joined, joined_rows, only_edge, behind, IsSound, IsTrack}
+use Rattle.digit_tuple.proofs.DecisionReads.{IsRowOn-sound, joined-next, behind-fits}
 use Rattle.digit_tuple.proofs.decisions.Decisions.+row_into.Goals as goal
 
-pub start-start-requires : goal.start-start-requires
-start-start-requires t c =
+pub last_row_into-requires-clause-track : goal.last_row_into-requires-clause-track
+last_row_into-requires-clause-track t c =
     let track = c.in-OnTrack.track in
     let below = c.in-OnTrack.below.value in
-    let sound : IsTrack track (product (sizes_in below)) (rows_in below) × IsSound below = subst IsSound c.in-OnTrack.is c.requires.sound in
-    let within : c.args.place < length track.digits = omega (arith, subst (λ (d : Decisions). c.args.place < length (rows_in d)) c.in-OnTrack.is c.requires.place, length-joined_rows track.weight track.digits (rows_in below)) in
-    within
+    let on = IsRowOn-sound _ track _ below c.args.place c.in-OnTrack.is c.requires.sound c.requires.place in
+    subst (IsTrack track track.weight) (ap rows_in (sym c.deref.ensures) ∙ c.in-Some.ensures) (subst (λ n. IsTrack track n (rows_in below)) (sym on.track_is.weight) on.track_is)
+
+pub last_row_into-requires-clause-place : goal.last_row_into-requires-clause-place
+last_row_into-requires-clause-place t c = (IsRowOn-sound _ c.in-OnTrack.track _ c.in-OnTrack.below.value c.args.place c.in-OnTrack.is c.requires.sound c.requires.place).at.within
+
+pub last_row_into-requires-clause-base : goal.last_row_into-requires-clause-base
+last_row_into-requires-clause-base t c =
+    let track = c.in-OnTrack.track in
+    let below = c.in-OnTrack.below.value in
+    let on = IsRowOn-sound _ track _ below c.args.place c.in-OnTrack.is c.requires.sound c.requires.place in
+    let whole : c.args.base + track.size * product (sizes_in below) < 4294967296 = subst (λ (d : Decisions). c.args.base + product (sizes_in d) < 4294967296) c.in-OnTrack.is c.requires.base in
+    subst (λ n. c.args.base + track.size * n < 4294967296) (sym on.track_is.weight) whole
+
+pub returns-in-Some : goal.returns-in-Some
+returns-in-Some t c =
+    let track = c.in-OnTrack.track in
+    let same : map only_edge c.in-Some.targets.now ≡ rows_in c.in-OnTrack.below.value = sym c.in-Some.ensures ∙ ap rows_in c.deref.ensures in
+    subst (λ (row : List Edge). OnOk c.last_row_into.result (c.last_row_into.new.row.items ≡ c.args.row.now.items ++ map (behind c.args.base) row))
+    (ap (λ (rows : List (List Edge)). get_or (joined_rows track.weight track.digits rows) c.args.place []) same ∙ ap (λ (d : Decisions). get_or (rows_in d) c.args.place []) (sym c.in-OnTrack.is))
+    c.last_row_into.ensures
+
+pub start-start-requires : goal.start-start-requires
+start-start-requires t c = (IsRowOn-sound _ c.in-OnTrack.track _ c.in-OnTrack.below.value c.args.place c.in-OnTrack.is c.requires.sound c.requires.place).at.within
 
 pub list-digit-items-requires : goal.list-digit-items-requires
-list-digit-items-requires t c =
-    let track = c.in-OnTrack.track in
-    let below = c.in-OnTrack.below.value in
-    let sound : IsTrack track (product (sizes_in below)) (rows_in below) × IsSound below = subst IsSound c.in-OnTrack.is c.requires.sound in
-    let within : c.args.place < length track.digits = omega (arith, subst (λ (d : Decisions). c.args.place < length (rows_in d)) c.in-OnTrack.is c.requires.place, length-joined_rows track.weight track.digits (rows_in below)) in
-    within
+list-digit-items-requires t c = (IsRowOn-sound _ c.in-OnTrack.track _ c.in-OnTrack.below.value c.args.place c.in-OnTrack.is c.requires.sound c.requires.place).at.within
 
 pub overflow_add-start : goal.overflow_add-start
 overflow_add-start t c = omega (arith, c.start-start.ensures.fits, c.loop-count-test.true, ap length c.list-digit-items.ensures)
 
 pub row_into-requires : goal.row_into-requires
 row_into-requires t c = (
-  omega (arith, c.decreases, ap (λ (d : Decisions). length (sizes_in d)) c.deref.ensures, ap (λ (d : Decisions). length (sizes_in d)) c.in-OnTrack.is),
+  omega (arith, c.decreases, ap (λ (d : Decisions). length (sizes_in d)) c.deref-in-loop-count.ensures, ap (λ (d : Decisions). length (sizes_in d)) c.in-OnTrack.is),
   let track = c.in-OnTrack.track in
       let below = c.in-OnTrack.below.value in
-      let sound : IsTrack track (product (sizes_in below)) (rows_in below) × IsSound below = subst IsSound c.in-OnTrack.is c.requires.sound in
-      let within : c.args.place < length track.digits = omega (arith, subst (λ (d : Decisions). c.args.place < length (rows_in d)) c.in-OnTrack.is c.requires.place, length-joined_rows track.weight track.digits (rows_in below)) in
-      let digits : List ℕ = get_or track.digits c.args.place [] in
-      let start : ℕ = sum_by length (take c.args.place track.digits) in
-      let rows : List (List Edge) = drop start (rows_in below) in
-      let row : get_or (rows_in c.args.self.now) c.args.place [] ≡ joined track.weight digits rows = ap (λ (d : Decisions). get_or (rows_in d) c.args.place []) c.in-OnTrack.is ∙ joined_rows-at track.weight track.digits (rows_in below) c.args.place within in
-      let fits = fits_at track (product (sizes_in below)) (rows_in below) c.args.place sound.0 within in
-      let room : length digits ≤ length rows = omega (arith, fits, length-drop start (rows_in below)) in
+      let on = IsRowOn-sound _ track _ below c.args.place c.in-OnTrack.is c.requires.sound c.requires.place in
       let k = c.loop-count.count in
       let ds = c.list-digit-items.result.now in
-      let listed : ds ≡ digits = c.list-digit-items.ensures in
-      let from : c.start-start.result ≡ start = c.start-start.ensures.value in
-      let here : k < length ds = c.loop-count-test.true in
-      let last : k < length rows = omega (arith, here, ap length listed, room) in
-      let inside : start + k < length (rows_in below) = omega (arith, fits, ap length listed, here) in
-      let digit : ℕ = get_or ds k 0 in
-      let small : digit < track.size = subst (λ (ns : List ℕ). get_or ns k 0 < track.size) (sym listed) ((all_at (AreDigitsBelow track.size) track.digits c.args.place [] sound.0.digits within).below k 0 (omega (arith, here, ap length listed))) in
-      let more = mul-le (suc digit) track.weight track.size track.weight (omega (arith, small)) (omega arith) in
+      let inside : c.start-start.result + k < length (rows_in below) = omega (arith, on.at.fits, c.start-start.ensures.value, ap length c.list-digit-items.ensures, c.loop-count-test.true) in
+      let small : get_or ds k 0 < track.size = subst (λ (ns : List ℕ). get_or ns k 0 < track.size) (sym c.list-digit-items.ensures) (on.at.digits.below k 0 (omega (arith, c.loop-count-test.true, ap length c.list-digit-items.ensures))) in
       let whole : c.args.base + track.size * product (sizes_in below) < 4294967296 = subst (λ (d : Decisions). c.args.base + product (sizes_in d) < 4294967296) c.in-OnTrack.is c.requires.base in
-      let scaled : track.size * product (sizes_in below) ≡ track.size * track.weight = ap (λ n. track.size * n) (sym sound.0.weight) in
-      let same = sym c.deref.ensures in (
-        subst IsSound same sound.1,
+      let same = sym c.deref-in-loop-count.ensures in (
+        subst IsSound same on.below_is,
         (
-          subst (λ (d : Decisions). c.start-start.result + k < length (rows_in d)) same (omega (arith, inside, from)),
-          subst (λ n. c.args.base + n * track.weight + product (sizes_in c.deref.result.now) < 4294967296) (sym c.from.ensures) (subst (λ (d : Decisions). c.args.base + digit * track.weight + product (sizes_in d) < 4294967296) same (omega (arith, more, whole, scaled, sound.0.weight))),
+          subst (λ (d : Decisions). c.start-start.result + k < length (rows_in d)) same inside,
+          subst (λ n. c.args.base + n * track.weight + product (sizes_in c.deref-in-loop-count.result.now) < 4294967296) (sym c.from.ensures)
+              (subst (λ (d : Decisions). c.args.base + get_or ds k 0 * track.weight + product (sizes_in d) < 4294967296) same (behind-fits c.args.base track.size track.weight (product (sizes_in below)) (get_or ds k 0) on.track_is.weight small whole)),
         ),
       ),
 )
@@ -68,52 +68,28 @@ pub loop-count-preserved : goal.loop-count-preserved
 loop-count-preserved t c =
     let track = c.in-OnTrack.track in
     let below = c.in-OnTrack.below.value in
-    let sound : IsTrack track (product (sizes_in below)) (rows_in below) × IsSound below = subst IsSound c.in-OnTrack.is c.requires.sound in
-    let within : c.args.place < length track.digits = omega (arith, subst (λ (d : Decisions). c.args.place < length (rows_in d)) c.in-OnTrack.is c.requires.place, length-joined_rows track.weight track.digits (rows_in below)) in
-    let digits : List ℕ = get_or track.digits c.args.place [] in
-    let start : ℕ = sum_by length (take c.args.place track.digits) in
-    let rows : List (List Edge) = drop start (rows_in below) in
-    let row : get_or (rows_in c.args.self.now) c.args.place [] ≡ joined track.weight digits rows = ap (λ (d : Decisions). get_or (rows_in d) c.args.place []) c.in-OnTrack.is ∙ joined_rows-at track.weight track.digits (rows_in below) c.args.place within in
-    let fits = fits_at track (product (sizes_in below)) (rows_in below) c.args.place sound.0 within in
-    let room : length digits ≤ length rows = omega (arith, fits, length-drop start (rows_in below)) in
+    let on = IsRowOn-sound _ track _ below c.args.place c.in-OnTrack.is c.requires.sound c.requires.place in
     let k = c.loop-count.count in
     let ds = c.list-digit-items.result.now in
-    let listed : ds ≡ digits = c.list-digit-items.ensures in
-    let from : c.start-start.result ≡ start = c.start-start.ensures.value in
-    let here : k < length ds = c.loop-count-test.true in
-    let last : k < length rows = omega (arith, here, ap length listed, room) in
-    let inside : start + k < length (rows_in below) = omega (arith, fits, ap length listed, here) in
-    let digit : ℕ = get_or ds k 0 in
-    let next : List Edge = get_or rows k [] in
-    let there : get_or (rows_in c.deref.result.now) (c.start-start.result + k) [] ≡ next =
-    ap (λ (d : Decisions). get_or (rows_in d) (c.start-start.result + k) []) c.deref.ensures ∙ ap (λ n. get_or (rows_in below) (n + k) []) from ∙ sym (get_or-drop start (rows_in below) k []) in
-    let taken : joined track.weight (take (k + 1) ds) (drop c.start-start.result (rows_in below)) ≡ joined track.weight (take k ds) rows ++ map (behind (digit * track.weight)) next =
-    ap (λ n. joined track.weight (take n ds) (drop c.start-start.result (rows_in below))) (add-one k) ∙ ap (λ n. joined track.weight (take (suc k) ds) (drop n (rows_in below))) from ∙ joined_more track.weight ds rows k 0 here last in
+    let start = c.start-start.result in
+    let inside : start + k < length (rows_in below) = omega (arith, on.at.fits, c.start-start.ensures.value, ap length c.list-digit-items.ensures, c.loop-count-test.true) in
+    let before : List Edge = map (behind c.args.base) (joined track.weight (take k ds) (drop start (rows_in below))) in
     c.in_ok-row_into-in-OnTrack.ensures
-    ∙ ap (λ n. c.loop-count.row.items ++ map (behind (c.args.base + n * track.weight)) (get_or (rows_in c.deref.result.now) (c.start-start.result + k) [])) c.from.ensures
-    ∙ ap (λ (es : List Edge). c.loop-count.row.items ++ map (behind (c.args.base + digit * track.weight)) es) there
-    ∙ ap (λ (es : List Edge). es ++ map (behind (c.args.base + digit * track.weight)) next) (c.loop-count.invariant ∙ ap (λ n. c.args.row.now.items ++ map (behind c.args.base) (joined track.weight (take k ds) (drop n (rows_in below)))) from)
-    ∙ append_assoc c.args.row.now.items (map (behind c.args.base) (joined track.weight (take k ds) rows)) (map (behind (c.args.base + digit * track.weight)) next)
-    ∙ ap (λ (es : List Edge). c.args.row.now.items ++ (map (behind c.args.base) (joined track.weight (take k ds) rows) ++ es)) (sym (map-behind c.args.base (digit * track.weight) next))
-    ∙ ap (λ (es : List Edge). c.args.row.now.items ++ es) (sym (map-append (behind c.args.base) (joined track.weight (take k ds) rows) (map (behind (digit * track.weight)) next)))
-    ∙ ap (λ (es : List Edge). c.args.row.now.items ++ map (behind c.args.base) es) (sym taken)
+    ∙ ap (λ n. c.loop-count.row.items ++ map (behind (c.args.base + n * track.weight)) (get_or (rows_in c.deref-in-loop-count.result.now) (start + k) [])) c.from.ensures
+    ∙ ap (λ (d : Decisions). c.loop-count.row.items ++ map (behind (c.args.base + get_or ds k 0 * track.weight)) (get_or (rows_in d) (start + k) [])) c.deref-in-loop-count.ensures
+    ∙ ap (λ (es : List Edge). es ++ map (behind (c.args.base + get_or ds k 0 * track.weight)) (get_or (rows_in below) (start + k) [])) c.loop-count.invariant
+    ∙ append_assoc c.args.row.now.items before (map (behind (c.args.base + get_or ds k 0 * track.weight)) (get_or (rows_in below) (start + k) []))
+    ∙ ap (λ (es : List Edge). c.args.row.now.items ++ es) (sym (joined-next c.args.base track.weight ds (rows_in below) start k c.loop-count-test.true inside))
 
 pub returns-after-loop-count : goal.returns-after-loop-count
 returns-after-loop-count t c =
     let track = c.in-OnTrack.track in
     let below = c.in-OnTrack.below.value in
-    let sound : IsTrack track (product (sizes_in below)) (rows_in below) × IsSound below = subst IsSound c.in-OnTrack.is c.requires.sound in
-    let within : c.args.place < length track.digits = omega (arith, subst (λ (d : Decisions). c.args.place < length (rows_in d)) c.in-OnTrack.is c.requires.place, length-joined_rows track.weight track.digits (rows_in below)) in
-    let digits : List ℕ = get_or track.digits c.args.place [] in
-    let start : ℕ = sum_by length (take c.args.place track.digits) in
-    let rows : List (List Edge) = drop start (rows_in below) in
-    let row : get_or (rows_in c.args.self.now) c.args.place [] ≡ joined track.weight digits rows = ap (λ (d : Decisions). get_or (rows_in d) c.args.place []) c.in-OnTrack.is ∙ joined_rows-at track.weight track.digits (rows_in below) c.args.place within in
-    let fits = fits_at track (product (sizes_in below)) (rows_in below) c.args.place sound.0 within in
-    let room : length digits ≤ length rows = omega (arith, fits, length-drop start (rows_in below)) in
+    let on = IsRowOn-sound _ track _ below c.args.place c.in-OnTrack.is c.requires.sound c.requires.place in
     let ds = c.list-digit-items.result.now in
-    let listed : ds ≡ digits = c.list-digit-items.ensures in
     let all : take c.loop-count.count ds ≡ ds = take_all c.loop-count.count ds c.loop-count-test.false in
     c.loop-count.invariant
-    ∙ ap (λ (ns : List ℕ). c.args.row.now.items ++ map (behind c.args.base) (joined track.weight ns (drop c.start-start.result (rows_in below)))) (all ∙ listed)
-    ∙ ap (λ n. c.args.row.now.items ++ map (behind c.args.base) (joined track.weight digits (drop n (rows_in below)))) c.start-start.ensures.value
-    ∙ ap (λ (es : List Edge). c.args.row.now.items ++ map (behind c.args.base) es) (sym row)
+    ∙ ap (λ (ns : List ℕ). c.args.row.now.items ++ map (behind c.args.base) (joined track.weight ns (drop c.start-start.result (rows_in below)))) (all ∙ c.list-digit-items.ensures)
+    ∙ ap (λ n. c.args.row.now.items ++ map (behind c.args.base) (joined track.weight (get_or track.digits c.args.place []) (drop n (rows_in below)))) c.start-start.ensures.value
+    ∙ ap (λ (es : List Edge). c.args.row.now.items ++ map (behind c.args.base) es) (sym on.at.row)
+    ∙ ap (λ (d : Decisions). c.args.row.now.items ++ map (behind c.args.base) (get_or (rows_in d) c.args.place [])) (sym c.in-OnTrack.is)

@@ -1,46 +1,34 @@
-use Rattle.std.proofs.Common.{◌≡◌, ◌<◌, suc, [], drop, length, get_or, List, ℕ, ap, ◌∙◌, sym, arith, add-one}
-use Rattle.std.specs.List.{slice_range}
-use Rattle.digit_tuple.specs.NumberLists.{first_place}
-use Rattle.digit_tuple.proofs.NumberListLemmas.{length-lists_at, lists_at-read, AreAscendingPlaces-end, AreAscendingPlaces-next}
+use Rattle.std.proofs.Common.{◌≡◌, ◌-◌, [], length, get_or, take, drop, List, ℕ, subst, ap, ◌∙◌, sym, arith}
+use Rattle.std.proofs.lemmas.List.{take_rest}
+use Rattle.digit_tuple.specs.NumberLists.{AreStarts, lists_at}
+use Rattle.digit_tuple.proofs.NumberListLemmas.{length-lists_of, lists_of-read_same, lists_of-read}
 use Rattle.digit_tuple.proofs.number_lists.NumberLists.list.Goals as goal
 
-pub get-start-requires : goal.get-start-requires
-get-start-requires c = omega (arith, c.requires, ap length c.self.view_is, length-lists_at c.self.inside.starts c.self.inside.numbers.items)
+-- the numbers behind the width
+behind : (numbers items : List ℕ) (width : ℕ) → numbers ≡ items → take (length numbers - width) (drop width numbers) ≡ drop width items
+behind numbers items width is = take_rest numbers width ∙ ap (drop width) is
 
-pub end_of-end-requires : goal.end_of-end-requires
-end_of-end-requires c = omega (arith, c.requires, ap length c.self.view_is, length-lists_at c.self.inside.starts c.self.inside.numbers.items)
+pub list_at-requires-clause-starts : goal.list_at-requires-clause-starts
+list_at-requires-clause-starts c =
+    let l = c.self.inside in
+    subst (λ (ns : List ℕ). AreStarts l.starts (length ns)) (sym (behind c.deref-else-place-self.result.now l.numbers.items l.width c.deref-else-place-self.ensures.value)) c.self.invariant.places
 
-pub part-requires-clause-order : goal.part-requires-clause-order
-part-requires-clause-order c =
-    let starts = c.self.inside.starts in
-    let numbers = c.self.inside.numbers.items in
-    let within : c.args.place < length starts = omega (arith, c.requires, ap length c.self.view_is, length-lists_at starts numbers) in
-    let len : c.len.result ≡ length numbers = omega arith in
-    let end : c.end_of-end.result ≡ first_place (drop (suc c.args.place) starts) (length numbers) =
-    c.end_of-end.ensures ∙ ap (λ n. first_place (drop n starts) c.len.result) (add-one c.args.place) ∙ ap (first_place (drop (suc c.args.place) starts)) len in
-    omega (arith, end, c.get-start.ensures, AreAscendingPlaces-next starts (length numbers) c.args.place 0 c.self.invariant.ascending within)
+pub list_at-requires-clause-place : goal.list_at-requires-clause-place
+list_at-requires-clause-place c =
+    let l = c.self.inside in
+    omega (arith, c.requires, c.if-place-self.false, ap length c.self.view_is, length-lists_of l.same l.width l.starts l.numbers.items)
 
-pub part-requires-clause-within : goal.part-requires-clause-within
-part-requires-clause-within c =
-    let starts = c.self.inside.starts in
-    let numbers = c.self.inside.numbers.items in
-    let within : c.args.place < length starts = omega (arith, c.requires, ap length c.self.view_is, length-lists_at starts numbers) in
-    let len : c.len.result ≡ length numbers = omega arith in
-    let end : c.end_of-end.result ≡ first_place (drop (suc c.args.place) starts) (length numbers) =
-    c.end_of-end.ensures ∙ ap (λ n. first_place (drop n starts) c.len.result) (add-one c.args.place) ∙ ap (first_place (drop (suc c.args.place) starts)) len in
-    omega (arith, end, ap length c.deref.ensures.value, AreAscendingPlaces-end starts (length numbers) (suc c.args.place) c.self.invariant.ascending)
+pub returns-then-place-self : goal.returns-then-place-self
+returns-then-place-self c =
+    let l = c.self.inside in
+    ap (take l.width) c.deref.ensures.value
+    ∙ sym (lists_of-read_same l.same l.width l.starts l.numbers.items c.args.place c.if-place-self.true)
+    ∙ ap (λ (ls : List (List ℕ)). get_or ls c.args.place []) c.self.view_is
 
-pub returns : goal.returns
-returns c =
-    let starts = c.self.inside.starts in
-    let numbers = c.self.inside.numbers.items in
-    let within : c.args.place < length starts = omega (arith, c.requires, ap length c.self.view_is, length-lists_at starts numbers) in
-    let len : c.len.result ≡ length numbers = omega arith in
-    let end : c.end_of-end.result ≡ first_place (drop (suc c.args.place) starts) (length numbers) =
-    c.end_of-end.ensures ∙ ap (λ n. first_place (drop n starts) c.len.result) (add-one c.args.place) ∙ ap (first_place (drop (suc c.args.place) starts)) len in
-    c.part.ensures
-    ∙ ap (λ (ns : List ℕ). slice_range ns c.get-start.result c.end_of-end.result) c.deref.ensures.value
-    ∙ ap (λ n. slice_range numbers n c.end_of-end.result) c.get-start.ensures
-    ∙ ap (slice_range numbers (get_or starts c.args.place 0)) end
-    ∙ sym (lists_at-read starts numbers c.args.place 0 within)
+pub returns-else-place-self : goal.returns-else-place-self
+returns-else-place-self c =
+    let l = c.self.inside in
+    c.list_at.ensures
+    ∙ ap (λ (ns : List ℕ). get_or (lists_at l.starts ns) (c.args.place - l.same) []) (behind c.deref-else-place-self.result.now l.numbers.items l.width c.deref-else-place-self.ensures.value)
+    ∙ sym (lists_of-read l.same l.width l.starts l.numbers.items c.args.place c.if-place-self.false)
     ∙ ap (λ (ls : List (List ℕ)). get_or ls c.args.place []) c.self.view_is

@@ -1,24 +1,24 @@
 use Rattle.std.proofs.Common.{◌≡◌, ◌<◌, ◌≤◌, ◌*◌, length, subst, sym, ap, ◌∙◌, arith}
-use Rattle.std.specs.List.{sum_by}
+use Rattle.std.specs.List.{sum_by, flat_map}
 use Rattle.std.proofs.lemmas.Nat.{mul-le}
 use Rattle.digit_tuple.specs.CellCounts.{cells_of}
-use Rattle.digit_tuple.specs.Decisions.{rows_in, sizes_in, cells_in}
+use Rattle.digit_tuple.specs.Decisions.{rows_in, cells_in}
 use Rattle.digit_tuple.specs.SparseRows.{Rows}
-use Rattle.digit_tuple.proofs.DecisionReads.{few-cells}
-use Rattle.digit_tuple.proofs.CellLemmas.{cells-deciding, cells-trackless}
-use Rattle.digit_tuple.proofs.SparseRowLemmas.{deciding-few}
+use Rattle.digit_tuple.proofs.CellLemmas.{cells-trackless}
+use Rattle.digit_tuple.proofs.RowBlockLemmas.{block_cells, few-block_cells}
 use Rattle.digit_tuple.proofs.sparse_rows.SparseRows.cells.Goals as goal
 
-pub cells-requires : goal.cells-requires
-cells-requires c =
-    let d = c.self.inside.decisions.value in
+pub count_cells-requires : goal.count_cells-requires
+count_cells-requires c =
+    let blocks = c.self.inside.blocks.items in
     let tracks = c.self.inside.tracks in
-    let few = few-cells d c.self.invariant.sound in
     let some : 0 < length tracks = omega (arith, c.if-tracks-eq0.false, c.tracks.ensures.value) in
-    let short : length (sizes_in d) ≤ 16 = omega (arith, ap length c.self.invariant.tracks, deciding-few tracks some, c.tracks.ensures.alphabet.tracks) in
-    let small : sum_by length (rows_in d) < 1152921504606846976 = subst (λ (t : Rows). sum_by length t.rows < 1152921504606846976) (sym c.self.view_is) c.requires in
-    let bound = mul-le (length (sizes_in d)) (sum_by length (rows_in d)) 16 (sum_by length (rows_in d)) short (omega arith) in
-    omega (arith, few, small, bound, ap cells_in c.deref.ensures)
+    let few = few-block_cells tracks blocks c.self.invariant.0.over some in
+    let short : length tracks ≤ 16 = omega (arith, c.tracks.ensures.alphabet.tracks) in
+    let edges = sum_by length (flat_map rows_in blocks) in
+    let small : edges < 1152921504606846976 = subst (λ (t : Rows). sum_by length t.rows < 1152921504606846976) (sym c.self.view_is) c.requires in
+    let bound = mul-le (length tracks) edges 16 edges short (omega arith) in
+    omega (arith, few, small, bound, ap (sum_by cells_in) c.deref.ensures.value)
 
 pub returns-then-tracks-eq0-clause-count : goal.returns-then-tracks-eq0-clause-count
 returns-then-tracks-eq0-clause-count c =
@@ -28,18 +28,12 @@ returns-then-tracks-eq0-clause-count c =
 
 pub returns-clause-count : goal.returns-clause-count
 returns-clause-count c =
-    let d = c.self.inside.decisions.value in
-    let tracks = c.self.inside.tracks in
-    let some : 0 < length tracks = omega (arith, c.if-tracks-eq0.false, c.tracks.ensures.value) in
-    subst (λ (t : Rows). c.cells.result ≡ sum_by (cells_of t.sizes) t.rows) c.self.view_is
-    (c.cells.ensures ∙ ap cells_in c.deref.ensures ∙ cells-deciding tracks d c.self.invariant.sound c.self.invariant.tracks some)
+    let some : 0 < length c.self.inside.tracks = omega (arith, c.if-tracks-eq0.false, c.tracks.ensures.value) in
+    subst (λ (t : Rows). c.count_cells.result ≡ sum_by (cells_of t.sizes) t.rows) c.self.view_is
+    (c.count_cells.ensures ∙ ap (sum_by cells_in) c.deref.ensures.value ∙ block_cells c.self.inside.tracks c.self.inside.blocks.items c.self.invariant.0.over some)
 
 pub returns-clause-few : goal.returns-clause-few
 returns-clause-few c =
-    let d = c.self.inside.decisions.value in
-    let tracks = c.self.inside.tracks in
-    let few = few-cells d c.self.invariant.sound in
-    let some : 0 < length tracks = omega (arith, c.if-tracks-eq0.false, c.tracks.ensures.value) in
-    let short : length (sizes_in d) ≤ length tracks = omega (arith, ap length c.self.invariant.tracks, deciding-few tracks some) in
-    let bound = mul-le (length (sizes_in d)) (sum_by length (rows_in d)) (length tracks) (sum_by length (rows_in d)) short (omega arith) in
-    subst (λ (t : Rows). c.cells.result ≤ length t.sizes * sum_by length t.rows) c.self.view_is (omega (arith, few, bound, c.cells.ensures, ap cells_in c.deref.ensures))
+    let some : 0 < length c.self.inside.tracks = omega (arith, c.if-tracks-eq0.false, c.tracks.ensures.value) in
+    let few = few-block_cells c.self.inside.tracks c.self.inside.blocks.items c.self.invariant.0.over some in
+    subst (λ (t : Rows). c.count_cells.result ≤ length t.sizes * sum_by length t.rows) c.self.view_is (omega (arith, few, c.count_cells.ensures, ap (sum_by cells_in) c.deref.ensures.value))

@@ -1,9 +1,8 @@
-use Rattle.std.proofs.Common.{◌≡◌, [], List, map, get_or, subst, sym, ap, ◌∙◌}
+use Rattle.std.proofs.Common.{◌≡◌, ◌%◌, [], List, map, get_or, subst, sym, ◌∙◌}
 use Rattle.std.specs.List.{AllByRecursion}
 use Rattle.std.proofs.lemmas.Bool.{false≢true}
 use Rattle.digit_tuple.specs.Decisions.{behind, rows_in, LeadsAs}
-use Rattle.digit_tuple.specs.SparseRows.{Rows, row_at}
-use Rattle.digit_tuple.specs.declared.decisions.Decisions.{Decisions}
+use Rattle.digit_tuple.specs.SparseRows.{row_at, block_rows}
 use Rattle.digit_tuple.specs.declared.edges.Edge.{Edge}
 use Rattle.digit_tuple.proofs.JoinedReads.{map-behind_zero}
 use Rattle.digit_tuple.proofs.SameRows.{same_rows, leads-itself}
@@ -18,10 +17,10 @@ to-zero es fs all = subst (AllByRecursion (LeadsAs fs)) (sym (map-behind_zero es
 
 pub returns-then-is_within : goal.returns-then-is_within
 returns-then-is_within c =
-    let es = get_or (rows_in c.deref-one.result.now) c.args.place [] in
-    let fs = get_or (rows_in c.deref-two.result.now) c.args.at [] in
-    let e : es ≡ row_at c.args.self.now c.args.place = ap (λ (d : Decisions). get_or (rows_in d) c.args.place []) c.deref-one.ensures ∙ ap (λ (t : Rows). row_at t c.args.place) c.self.view_is in
-    let f : fs ≡ row_at c.args.other.now c.args.at = ap (λ (d : Decisions). get_or (rows_in d) c.args.at []) c.deref-two.ensures ∙ ap (λ (t : Rows). row_at t c.args.at) c.other.view_is in
+    let es = get_or (rows_in c.block_of-one.result.now) (c.args.place % block_rows) [] in
+    let fs = get_or (rows_in c.block_of-two.result.now) (c.args.at % block_rows) [] in
+    let e : es ≡ row_at c.args.self.now c.args.place = c.block_of-one.ensures.row in
+    let f : fs ≡ row_at c.args.other.now c.args.at = c.block_of-two.ensures.row in
     let first = at-zero es fs (c.is_within.ensures.0 c.if-is_within.true) in (
       (λ yes. same_rows (row_at c.args.self.now c.args.place) (row_at c.args.other.now c.args.at) c.requires.ascending c.requires.other_ascending
           (subst (λ (gs : List Edge). AllByRecursion (LeadsAs gs) (row_at c.args.self.now c.args.place)) f (subst (AllByRecursion (LeadsAs fs)) e first))
@@ -32,10 +31,10 @@ returns-then-is_within c =
 
 pub returns-else-is_within : goal.returns-else-is_within
 returns-else-is_within c =
-    let es = get_or (rows_in c.deref-one.result.now) c.args.place [] in
-    let fs = get_or (rows_in c.deref-two.result.now) c.args.at [] in
-    let e : es ≡ row_at c.args.self.now c.args.place = ap (λ (d : Decisions). get_or (rows_in d) c.args.place []) c.deref-one.ensures ∙ ap (λ (t : Rows). row_at t c.args.place) c.self.view_is in
-    let f : fs ≡ row_at c.args.other.now c.args.at = ap (λ (d : Decisions). get_or (rows_in d) c.args.at []) c.deref-two.ensures ∙ ap (λ (t : Rows). row_at t c.args.at) c.other.view_is in (
+    let es = get_or (rows_in c.block_of-one.result.now) (c.args.place % block_rows) [] in
+    let fs = get_or (rows_in c.block_of-two.result.now) (c.args.at % block_rows) [] in
+    let e : es ≡ row_at c.args.self.now c.args.place = c.block_of-one.ensures.row in
+    let f : fs ≡ row_at c.args.other.now c.args.at = c.block_of-two.ensures.row in (
       (λ yes. absurd (false≢true (sym c.if-is_within.false ∙ yes))),
       (λ same. c.is_within.ensures.1 (to-zero es fs
           (subst (λ (gs : List Edge). AllByRecursion (LeadsAs gs) es) (e ∙ same ∙ sym f) (subst (λ (gs : List Edge). AllByRecursion (LeadsAs gs) gs) (sym e) (leads-itself (row_at c.args.self.now c.args.place) c.requires.ascending))))),

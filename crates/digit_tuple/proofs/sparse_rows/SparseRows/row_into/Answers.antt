@@ -1,7 +1,6 @@
-use Rattle.std.proofs.Common.{◌++◌, [], List, map, get_or, ap, ◌∙◌}
+use Rattle.std.proofs.Common.{◌++◌, ◌%◌, [], List, map, get_or, ap, ◌∙◌}
 use Rattle.digit_tuple.specs.Decisions.{rows_in, behind}
-use Rattle.digit_tuple.specs.SparseRows.{Rows, row_at}
-use Rattle.digit_tuple.specs.declared.decisions.Decisions.{Decisions}
+use Rattle.digit_tuple.specs.SparseRows.{block_rows}
 use Rattle.digit_tuple.specs.declared.edges.Edge.{Edge}
 use Rattle.digit_tuple.proofs.DecisionLemmas.{on_ok}
 use Rattle.digit_tuple.proofs.JoinedReads.{map-behind_zero}
@@ -9,6 +8,6 @@ use Rattle.digit_tuple.proofs.sparse_rows.SparseRows.row_into.Goals as goal
 
 pub returns : goal.returns
 returns c =
-    let row : List Edge = get_or (rows_in c.deref.result.now) c.args.place [] in
+    let row : List Edge = get_or (rows_in c.block_of.result.now) (c.args.place % block_rows) [] in
     on_ok c.row_into.result _ _ _ _ c.row_into.ensures c.row_into.ensures c.row_into.ensures
-    (λ r q p. r ∙ ap (λ (es : List Edge). es ++ map (behind 0) row) c.clear.ensures.items ∙ map-behind_zero row ∙ ap (λ (d : Decisions). get_or (rows_in d) c.args.place []) c.deref.ensures ∙ ap (λ (t : Rows). row_at t c.args.place) c.self.view_is)
+    (λ r q p. r ∙ ap (λ (es : List Edge). es ++ map (behind 0) row) c.clear.ensures.items ∙ map-behind_zero row ∙ c.block_of.ensures.row)

@@ -5,7 +5,7 @@ use Rattle.digit_tuple.specs.Explored.{AreApart, IsNumbered}
 use Rattle.digit_tuple.specs.KeyHashes.{hash_of}
 use Rattle.digit_tuple.specs.Slots.{AreSlotted}
 use Rattle.digit_tuple.proofs.NumberingLemmas.{IsNumbered-new}
-use Rattle.digit_tuple.proofs.numbering.Numbering.number_of.Goals as goal
+use Rattle.digit_tuple.proofs.numbering.Numbering.number_by.Goals as goal
 
 pub invariant_of-self-in-Err : goal.invariant_of-self-in-Err
 invariant_of-self-in-Err c =
@@ -21,12 +21,12 @@ pub invariant_of-self-in_default-put : goal.invariant_of-self-in_default-put
 invariant_of-self-in_default-put c =
     let keys = c.self.inside.keys in
     let key = c.args.key.now in
-    let hash = c.key_hash-hash.result in
+    let hash = c.args.lookup.hash in
     let pushed : c.push.new.self ≡ keys ++ key ∷ [] = c.in_ok-push.ensures.ok in
     let slotted : AreSlotted c.put.new.self (map hash_of keys ++ hash ∷ []) = c.in_default-put.ensures.ok (map hash_of keys) (omega (arith, c.len-number.ensures.len, length-map keys hash_of)) c.make_room.ensures in (
       subst AreApart (sym pushed) (IsNumbered-new keys key c.len-number.result c.self.invariant.0 c.in_default.ensures (c.len-number.ensures.len)).apart,
       subst (λ (hs : List ℕ). AreSlotted c.put.new.self hs)
-          (ap (λ (h : ℕ). map hash_of keys ++ h ∷ []) c.key_hash-hash.ensures ∙ sym (map-append hash_of keys (key ∷ [])) ∙ ap (map hash_of) (sym pushed)) slotted,
+          (ap (λ (h : ℕ). map hash_of keys ++ h ∷ []) c.requires ∙ sym (map-append hash_of keys (key ∷ [])) ∙ ap (map hash_of) (sym pushed)) slotted,
     )
 
 pub returns-clause-number : goal.returns-clause-number

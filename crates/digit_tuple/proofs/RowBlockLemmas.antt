@@ -1,0 +1,122 @@
+-- Rows that are kept in blocks: blocks with one more, blocks with the same rows, and the cells of all blocks.
+use Rattle.std.proofs.Common.{◌≡◌, ℕ, ◌+◌, ◌*◌, ◌<◌, ◌≤◌, List, [], ◌∷◌, ◌++◌, map, set, suc, zero, get_or, length, refl, sym, ap, ◌∙◌, subst, arith}
+use Rattle.std.specs.List.{sum_by, AllByRecursion, flat_map}
+use Rattle.std.proofs.lemmas.Nat.{mul-le}
+use Rattle.std.proofs.Math.Seq.{map-set_same}
+use Rattle.std.proofs.lemmas.List.{map-append, flat_map_more}
+use Rattle.std.proofs.lemmas.List.Sums.{sum_by-append, sum_by-cons, sum_by_push}
+use Rattle.digit_tuple.specs.Blocks.{AreBlocks}
+use Rattle.digit_tuple.specs.CellCounts.{cells_of}
+use Rattle.digit_tuple.specs.Decisions.{rows_in, sizes_in, cells_in, IsSound}
+use Rattle.digit_tuple.specs.SparseRows.{deciding, block_rows, AreOver, IsFullOver, AreRowBlocks, HaveSameRows}
+use Rattle.digit_tuple.specs.declared.edges.Edge.{Edge}
+use Rattle.digit_tuple.specs.declared.decisions.Decisions.{Decisions}
+use Rattle.digit_tuple.proofs.BlockLemmas.{AreBlocks-push, AreBlocks-full, AreBlocks-short, flat_map-same}
+use Rattle.digit_tuple.proofs.CellLemmas.{cells-deciding}
+use Rattle.digit_tuple.proofs.DecisionLemmas.{all_push}
+use Rattle.digit_tuple.proofs.DecisionReads.{few-cells}
+use Rattle.digit_tuple.proofs.SparseRowLemmas.{deciding-few}
+
+all_before : {A : Type 0} (P : A → Type 0) (xs : List A) (x : A) → AllByRecursion P (xs ++ x ∷ []) → AllByRecursion P xs
+all_before P [] x all = tt
+all_before P (y ∷ xs) x all = (all.0, all_before P xs x all.1)
+
+at_end : {A : Type 0} (P : A → Type 0) (xs : List A) (x : A) → AllByRecursion P (xs ++ x ∷ []) → P x
+at_end P [] x all = all.0
+at_end P (y ∷ xs) x all = at_end P xs x all.1
+
+to_full : (sizes : List ℕ) (xs : List Decisions) → AllByRecursion (AreOver sizes) xs → AllByRecursion (λ x. length (rows_in x) ≡ block_rows) xs → AllByRecursion (IsFullOver sizes) xs
+to_full sizes [] over full = tt
+to_full sizes (x ∷ xs) over full = (record { over = over.0; rows = full.0 }, to_full sizes xs over.1 full.1)
+
+full-over : (sizes : List ℕ) (xs : List Decisions) → AllByRecursion (IsFullOver sizes) xs → AllByRecursion (AreOver sizes) xs
+full-over sizes [] full = tt
+full-over sizes (x ∷ xs) full = (full.0.over, full-over sizes xs full.1)
+
+full-rows : (sizes : List ℕ) (xs : List Decisions) → AllByRecursion (IsFullOver sizes) xs → AllByRecursion (λ x. length (rows_in x) ≡ block_rows) xs
+full-rows sizes [] full = tt
+full-rows sizes (x ∷ xs) full = (full.0.rows, full-rows sizes xs full.1)
+
+-- the last block has no more rows than a full one, and the blocks before it are full
+pub record AreFullBefore (sizes : List ℕ) (xs : List Decisions) (last : Decisions) : Type 0 where
+  pub full : AllByRecursion (IsFullOver sizes) xs
+  pub over : AreOver sizes last
+  pub rows : length (rows_in last) ≤ block_rows
+
+pub AreFullBefore-split : (sizes : List ℕ) (blocks xs : List Decisions) (last : Decisions) → AreRowBlocks sizes blocks → blocks ≡ xs ++ last ∷ [] → AreFullBefore sizes xs last
+AreFullBefore-split sizes blocks xs last are same =
+    let split : AreRowBlocks sizes (xs ++ last ∷ []) = subst (AreRowBlocks sizes) same are in
+    record {
+      full = to_full sizes xs (all_before (AreOver sizes) xs last split.over) (AreBlocks-full rows_in xs block_rows last split.rows);
+      over = at_end (AreOver sizes) xs last split.over;
+      rows = AreBlocks-short rows_in xs block_rows last split.rows;
+    }
+
+pub AreRowBlocks-push : (sizes : List ℕ) (xs : List Decisions) (last : Decisions) → AreFullBefore sizes xs last → AreRowBlocks sizes (xs ++ last ∷ [])
+AreRowBlocks-push sizes xs last are = record {
+  over = all_push (AreOver sizes) xs last (full-over sizes xs are.full) are.over;
+  rows = AreBlocks-push rows_in xs block_rows last (full-rows sizes xs are.full) are.rows;
+}
+
+-- blocks that are by the tracks are sound
+pub all_sound : (sizes : List ℕ) (xs : List Decisions) → AllByRecursion (AreOver sizes) xs → AllByRecursion IsSound xs
+all_sound sizes [] over = tt
+all_sound sizes (x ∷ xs) over = (over.0.sound, all_sound sizes xs over.1)
+
+over-tracks : (sizes : List ℕ) (xs : List Decisions) → AllByRecursion (AreOver sizes) xs → AllByRecursion (λ tracks. tracks ≡ deciding sizes) (map sizes_in xs)
+over-tracks sizes [] over = tt
+over-tracks sizes (x ∷ xs) over = (over.0.tracks, over-tracks sizes xs over.1)
+
+to_over : (sizes : List ℕ) (xs : List Decisions) → AllByRecursion IsSound xs → AllByRecursion (λ tracks. tracks ≡ deciding sizes) (map sizes_in xs) → AllByRecursion (AreOver sizes) xs
+to_over sizes [] sound tracks = tt
+to_over sizes (x ∷ xs) sound tracks = (record { sound = sound.0; tracks = tracks.0 }, to_over sizes xs sound.1 tracks.1)
+
+-- blocks with the same rows are blocks by the same tracks
+pub HaveSameRows-blocks : (sizes : List ℕ) (blocks others : List Decisions) → HaveSameRows blocks others → AreRowBlocks sizes blocks → AreRowBlocks sizes others
+HaveSameRows-blocks sizes blocks others same are = record {
+  over = to_over sizes others same.sound (subst (AllByRecursion (λ tracks. tracks ≡ deciding sizes)) (sym same.tracks) (over-tracks sizes blocks are.over));
+  rows = subst (AreBlocks block_rows) (sym same.rows) are.rows;
+}
+
+pub HaveSameRows-rows : (blocks others : List Decisions) → HaveSameRows blocks others → flat_map rows_in others ≡ flat_map rows_in blocks
+HaveSameRows-rows blocks others same = flat_map-same rows_in others blocks same.rows
+
+pub HaveSameRows-push : (xs ys : List Decisions) (x y : Decisions) → HaveSameRows xs ys → IsSound y → sizes_in y ≡ sizes_in x → rows_in y ≡ rows_in x → HaveSameRows (xs ++ x ∷ []) (ys ++ y ∷ [])
+HaveSameRows-push xs ys x y same sound tracks rows = record {
+  sound = all_push IsSound ys y same.sound sound;
+  tracks = map-append sizes_in ys (y ∷ []) ∙ ap (λ ts. ts ++ sizes_in y ∷ []) same.tracks ∙ ap (λ t. map sizes_in xs ++ t ∷ []) tracks ∙ sym (map-append sizes_in xs (x ∷ []));
+  rows = map-append rows_in ys (y ∷ []) ∙ ap (λ rs. rs ++ rows_in y ∷ []) same.rows ∙ ap (λ r. map rows_in xs ++ r ∷ []) rows ∙ sym (map-append rows_in xs (x ∷ []));
+}
+
+all_set : {A : Type 0} (P : A → Type 0) (xs : List A) (i : ℕ) (y : A) → AllByRecursion P xs → P y → AllByRecursion P (set xs i y)
+all_set P [] i y all here = tt
+all_set P (x ∷ xs) zero y all here = (here, all.1)
+all_set P (x ∷ xs) (suc i) y all here = (all.0, all_set P xs i y all.1 here)
+
+pub HaveSameRows-set : (xs : List Decisions) (i : ℕ) (x y : Decisions) → AllByRecursion IsSound xs → x ≡ get_or xs i x → IsSound y → sizes_in y ≡ sizes_in x → rows_in y ≡ rows_in x → HaveSameRows xs (set xs i y)
+HaveSameRows-set xs i x y all there sound tracks rows = record {
+  sound = all_set IsSound xs i y all sound;
+  tracks = map-set_same sizes_in xs i y x (tracks ∙ ap sizes_in there);
+  rows = map-set_same rows_in xs i y x (rows ∙ ap rows_in there);
+}
+
+-- the edges of blocks of which the last has one row more
+pub edges-pushed : (xs : List Decisions) (x y : Decisions) (row : List Edge) → rows_in y ≡ rows_in x ++ row ∷ [] → sum_by length (flat_map rows_in (xs ++ y ∷ [])) ≡ sum_by length (flat_map rows_in xs ++ rows_in x) + length row
+edges-pushed xs x y row rows =
+    let turned : flat_map rows_in (xs ++ y ∷ []) ≡ flat_map rows_in xs ++ (rows_in x ++ row ∷ []) = sym (flat_map_more rows_in [] xs y) ∙ ap (λ rs. flat_map rows_in xs ++ rs) rows in
+    omega (arith, ap (sum_by length) turned, sum_by-append length (flat_map rows_in xs) (rows_in x ++ row ∷ []), sum_by_push length (rows_in x) row, sum_by-append length (flat_map rows_in xs) (rows_in x))
+
+-- the digits that all blocks keep are the cells of their rows
+pub block_cells : (sizes : List ℕ) (xs : List Decisions) → AllByRecursion (AreOver sizes) xs → 0 < length sizes → sum_by cells_in xs ≡ sum_by (cells_of sizes) (flat_map rows_in xs)
+block_cells sizes [] over some = refl
+block_cells sizes (x ∷ xs) over some =
+    omega (arith, cells-deciding sizes x over.0.sound over.0.tracks some, block_cells sizes xs over.1 some, sum_by-cons cells_in x xs, sum_by-append (cells_of sizes) (rows_in x) (flat_map rows_in xs))
+
+pub few-block_cells : (sizes : List ℕ) (xs : List Decisions) → AllByRecursion (AreOver sizes) xs → 0 < length sizes → sum_by cells_in xs ≤ length sizes * sum_by length (flat_map rows_in xs)
+few-block_cells sizes [] over some = omega arith
+few-block_cells sizes (x ∷ xs) over some =
+    let few = few-cells x over.0.sound in
+    let short : length (sizes_in x) ≤ length sizes = omega (arith, ap length over.0.tracks, deciding-few sizes some) in
+    let bound = mul-le (length (sizes_in x)) (sum_by length (rows_in x)) (length sizes) (sum_by length (rows_in x)) short (omega arith) in
+    let both : length sizes * sum_by length (rows_in x ++ flat_map rows_in xs) ≡ length sizes * (sum_by length (rows_in x) + sum_by length (flat_map rows_in xs)) = ap (λ n. length sizes * n) (sum_by-append length (rows_in x) (flat_map rows_in xs)) in
+    omega (arith, few, bound, few-block_cells sizes xs over.1 some, both, sum_by-cons cells_in x xs)
