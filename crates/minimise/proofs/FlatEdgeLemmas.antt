@@ -1,9 +1,12 @@
 -- The edges of an automaton in one flat table.
-use Rattle.std.proofs.Common.{◌≡◌, ℕ, ◌+◌, ◌-◌, ◌<◌, ◌≤◌, List, [], ◌∷◌, ◌++◌, map, length, get_or, ◌⊎◌, inl, inr, refl, sym, ap, ◌∙◌, arith}
+use Rattle.std.proofs.Common.{◌≡◌, ℕ, ◌+◌, ◌-◌, ◌<◌, ◌≤◌, ◌^◌, List, [], ◌∷◌, ◌++◌, map, length, get_or, take, zero, suc, ◌⊎◌, inl, inr, refl, sym, ap, ◌∙◌, subst, arith}
+use Rattle.std.specs.List.{sum_by}
 use Rattle.std.proofs.lemmas.Bool.{cases_lt}
 use Rattle.std.proofs.lemmas.List.{length-map, length-append, length_push, get_or_push, get_or-map, get_or_default, get_or_append_left, get_or-append_right}
+use Rattle.std.proofs.lemmas.List.Sums.{sum_by_more, sum_by_more_le}
 use Rattle.digit_tuple.specs.declared.edges.Edge.{Edge}
-use Rattle.digit_tuple.specs.Deterministic.{Automaton, IsTable, edges_of, letters_of, states_of}
+use Rattle.digit_tuple.specs.Deterministic.{Automaton, State, IsTable, edges_of, letters_of, no_state, states_of}
+use Rattle.digit_tuple.specs.EdgeCounts.{edge_count}
 use Rattle.digit_tuple.proofs.DfaLemmas.{row_at}
 use Rattle.minimise.specs.Classes.{class_of, dead_class}
 use Rattle.minimise.specs.FlatEdges.{AreLaidOut, flat_edge}
@@ -15,21 +18,42 @@ use Rattle.minimise.proofs.StabilityLemmas.{alike_from_rows}
 pub AreLaidOut-none : (d : Automaton) (starts letters targets : List ℕ) → starts ≡ 0 ∷ [] → letters ≡ [] → targets ≡ [] → AreLaidOut d starts letters targets 0
 AreLaidOut-none d starts letters targets first none empty = record {
   width = ap length first;
+  begin = ap (λ (xs : List ℕ). class_of xs 0) first;
   end = ap (λ (xs : List ℕ). class_of xs 0) first ∙ sym (ap length empty);
   same = ap length none ∙ sym (ap length empty);
+  few = omega (arith, ap length empty);
   ends = λ q less. absurd (omega arith);
   within = λ q low. let is : q ≡ 0 = omega arith in omega (arith, ap (λ (n : ℕ). class_of starts n) is, ap (λ (xs : List ℕ). class_of xs 0) first);
   edges = λ q k z less inside. absurd (omega arith);
 }
 
 module _ (d : Automaton) (starts letters targets : List ℕ) (count : ℕ) (flat : AreLaidOut d starts letters targets count) where
+  -- the edges of a state stand behind those of the states before it
+  start_is : count ≤ states_of d → (q : ℕ) → q ≤ count → class_of starts q ≡ sum_by (λ (s : State). length s.edges) (take q d.states)
+  start_is low zero _ = flat.begin
+  start_is low (suc q) less =
+      let next : q + 1 ≡ suc q = omega arith in
+      subst (λ (n : ℕ). class_of starts n ≡ sum_by (λ (s : State). length s.edges) (take n d.states)) next
+      (flat.ends q (omega (arith, less)) ∙ ap (λ n. n + length (edges_of d q)) (start_is low q (omega (arith, less)))
+      ∙ sym (sum_by_more (λ (s : State). length s.edges) d.states q no_state (omega (arith, less, low))))
+
+  long_targets : (es : List Edge) → length (targets ++ map (λ (e : Edge). e.target) es) ≡ length targets + length es
+  long_targets es = length-append targets (map (λ (e : Edge). e.target) es) ∙ ap (λ n. length targets + n) (length-map es (λ (e : Edge). e.target))
+
+  -- with those of one more state they are no more than all
+  pub edges-within : (es : List Edge) → es ≡ edges_of d count → count < states_of d → length (targets ++ map (λ (e : Edge). e.target) es) ≤ edge_count d
+  edges-within es is less =
+      omega (arith, long_targets es, ap length is, flat.end, start_is (omega (arith, less)) count (omega arith), sum_by_more_le (λ (s : State). length s.edges) d.states count no_state less)
+
   -- the edges of one more state
-  pub AreLaidOut-more : (es : List Edge) → es ≡ edges_of d count
+  pub AreLaidOut-more : (es : List Edge) → es ≡ edges_of d count → length (targets ++ map (λ (e : Edge). e.target) es) < 2 ^ 32
       → AreLaidOut d (starts ++ length (targets ++ map (λ (e : Edge). e.target) es) ∷ []) (letters ++ map (λ (e : Edge). e.letter) es) (targets ++ map (λ (e : Edge). e.target) es) (count + 1)
-  AreLaidOut-more es is = record {
+  AreLaidOut-more es is few = record {
     width = length_push starts end ∙ ap (λ n. n + 1) flat.width;
+    begin = old 0 (omega arith) ∙ flat.begin;
     end = last;
-    same = omega (arith, flat.same, long_letters, long_targets);
+    same = omega (arith, flat.same, long_letters, long_targets es);
+    few = few;
     ends = λ q less. ends q (cases_lt q count) less;
     within = λ q low. within q (cases_lt q (count + 1)) low;
     edges = λ q k z less inside. edges q k z less inside (cases_lt q count);
@@ -40,9 +64,6 @@ module _ (d : Automaton) (starts letters targets : List ℕ) (count : ℕ) (flat
 
       long_letters : length (letters ++ map (λ (e : Edge). e.letter) es) ≡ length letters + length es
       long_letters = length-append letters (map (λ (e : Edge). e.letter) es) ∙ ap (λ n. length letters + n) (length-map es (λ (e : Edge). e.letter))
-
-      long_targets : length (targets ++ map (λ (e : Edge). e.target) es) ≡ length targets + length es
-      long_targets = length-append targets (map (λ (e : Edge). e.target) es) ∙ ap (λ n. length targets + n) (length-map es (λ (e : Edge). e.target))
 
       new : List ℕ
       new = starts ++ length (targets ++ map (λ (e : Edge). e.target) es) ∷ []
@@ -58,12 +79,12 @@ module _ (d : Automaton) (starts letters targets : List ℕ) (count : ℕ) (flat
       ends q (inl before) less = omega (arith, old (q + 1) (omega (arith, before)), old q (omega (arith, before)), flat.ends q before)
       ends q (inr past) less =
           let same : q ≡ count = omega arith in
-          ap (λ n. class_of (starts ++ length (targets ++ map (λ (e : Edge). e.target) es) ∷ []) (n + 1)) same ∙ last ∙ long_targets
+          ap (λ n. class_of (starts ++ length (targets ++ map (λ (e : Edge). e.target) es) ∷ []) (n + 1)) same ∙ last ∙ long_targets es
           ∙ ap (λ n. n + length es) (sym flat.end ∙ sym (old count (omega arith)) ∙ ap (class_of (starts ++ length (targets ++ map (λ (e : Edge). e.target) es) ∷ [])) (sym same))
           ∙ ap (λ n. class_of (starts ++ length (targets ++ map (λ (e : Edge). e.target) es) ∷ []) q + n) (ap length is ∙ ap (λ n. length (edges_of d n)) (sym same))
 
       within : (q : ℕ) → (q < count + 1) ⊎ (count + 1 ≤ q) → q ≤ count + 1 → class_of (starts ++ length (targets ++ map (λ (e : Edge). e.target) es) ∷ []) q ≤ length (targets ++ map (λ (e : Edge). e.target) es)
-      within q (inl before) low = omega (arith, old q (omega (arith, before)), flat.within q (omega (arith, before)), long_targets)
+      within q (inl before) low = omega (arith, old q (omega (arith, before)), flat.within q (omega (arith, before)), long_targets es)
       within q (inr past) low = let same : q ≡ count + 1 = omega arith in omega (arith, ap (class_of (starts ++ length (targets ++ map (λ (e : Edge). e.target) es) ∷ [])) same ∙ last)
 
       edges : (q k : ℕ) (z : Edge) → q < count + 1 → k < length (edges_of d q) → (q < count) ⊎ (count ≤ q)
@@ -101,7 +122,7 @@ pub record HasPlace (d : Automaton) (starts letters targets : List ℕ) (q place
 
 module _ (d : Automaton) (starts letters targets : List ℕ) (flat : AreLaidOut d starts letters targets (states_of d)) (table : IsTable (letters_of d) d.states) where
   -- the places between two starts are those of a state's edges
-  HasPlace-between : (q place : ℕ) → q < states_of d → class_of starts q ≤ place → place < class_of starts (q + 1) → HasPlace d starts letters targets q place
+  pub HasPlace-between : (q place : ℕ) → q < states_of d → class_of starts q ≤ place → place < class_of starts (q + 1) → HasPlace d starts letters targets q place
   HasPlace-between q place less after before = record {
     inside = inside;
     within = omega (arith, before, flat.within (q + 1) (omega (arith, less)));

@@ -14,6 +14,7 @@ pub mod NumberedLemmas
 pub mod RefiningLemmas
 pub mod StabilityLemmas
 pub mod FlatEdgeLemmas
+pub mod TurnedEdgeLemmas
 pub mod HashLemmas
 pub mod ResidualLemmas
 pub mod LeaderLemmas

@@ -1,32 +1,23 @@
 -- Classes that are parted by sets of states from which words lead to the same outputs.
-use Rattle.std.proofs.Common.{◌≡◌, ◌≢◌, ◌↔◌, ◌==◌, ℕ, suc, ◌+◌, ◌-◌, ◌<◌, ◌≤◌, Bool, true, false, List, [], ◌∷◌, ◌++◌, set, take, length, get_or, Option, None, Some, unwrap_or, if◌then◌else◌, ◌⊎◌, inl, inr, refl, sym, ap, ◌∙◌, subst, Vec, Global, eq-eqb, arith, get_or-set_same, get_or-set_other, length-set}
+use Rattle.std.proofs.Common.{◌≡◌, ◌≢◌, ◌↔◌, ◌==◌, ℕ, suc, ◌+◌, ◌-◌, ◌<◌, ◌≤◌, Bool, true, false, List, [], ◌∷◌, ◌++◌, set, take, length, get_or, Option, None, Some, unwrap_or, if◌then◌else◌, ◌⊎◌, inl, inr, refl, sym, ap, ◌∙◌, subst, eq-eqb, arith, get_or-set_same, get_or-set_other, length-set}
 use Rattle.std.specs.List.{All, Contains, flat_map}
-use Rattle.std.specs.Option.{IfSome, option_to_list}
 use Rattle.std.proofs.lemmas.Bool.{cases_lt, cases_eq, eqb-true}
 use Rattle.std.proofs.lemmas.Option.{none-some}
-use Rattle.std.proofs.lemmas.List.{take_more, length-map, length_push, map_push, get_or_push, get_or-map, get_or_append_left, get_or_default}
-use Rattle.std.proofs.lemmas.List.Elements.{All-push, All-map, All-pop, All-filter, All-contains, Contains-get_or, Contains-push, Contains-push_cases, Contains-append_left}
+use Rattle.std.proofs.lemmas.List.{take_more, length_push, get_or_push, get_or_append_left, get_or_default}
+use Rattle.std.proofs.lemmas.List.Elements.{All-push, All-filter, All-contains, Contains-get_or, Contains-push, Contains-push_cases, Contains-append_left}
 use Rattle.digit_tuple.specs.declared.edges.Edge.{Edge}
-use Rattle.digit_tuple.specs.Automaton as branching
-use Rattle.digit_tuple.specs.Automaton.{Branching, Leads}
 use Rattle.digit_tuple.specs.Deterministic.{Automaton, IsTable, letters_of, states_of, edges_of, step_of, target_by}
-use Rattle.digit_tuple.specs.Reversed.{IsReversal, edge_to}
+use Rattle.digit_tuple.specs.Explored.{key_at}
+use Rattle.digit_tuple.specs.Reversed.{edge_to}
 use Rattle.digit_tuple.proofs.MemberLemmas.{Contains-none, Contains-head, Contains-tail, Contains-cases, Contains-filter, Contains-from_filter, Contains-map, Contains-from_map, Contains-flat_map, Contains-from_flat_map}
 use Rattle.minimise.specs.declared.partition.ClassSize.{ClassSize}
 use Rattle.minimise.specs.Classes.{class_of, next_of}
 use Rattle.minimise.specs.Gathering.{IsGathered, edges_by_class}
 use Rattle.minimise.specs.CoarseClasses.{IsCoarse, AreCoarseClasses}
-use Rattle.minimise.specs.Partition.{IsUnion, states_with, IsGiven, IsOneOf, AreParted, list_at, lists_in}
+use Rattle.minimise.specs.TurnedEdges.{AreTurned, EdgeLists, edges_into}
+use Rattle.minimise.specs.Partition.{IsUnion, states_with, IsGiven, AreParted}
 use Rattle.minimise.proofs.SinkLemmas.{row_of, no_edges_past, next_within}
 use Rattle.minimise.proofs.ClassFromLemmas.{class_from-next}
-
--- the items of a list of the code
-pub list_at-item : (lists : List (Vec ℕ Global)) (place : ℕ) (list : Vec ℕ Global) → place < length lists → list ≡ get_or lists place list → list_at (lists_in lists) place ≡ list.items
-list_at-item lists place list within is = get_or-map (λ (v : Vec ℕ Global). v.items) lists place list [] within ∙ ap (λ (v : Vec ℕ Global). v.items) (sym is)
-
--- one more list of the code
-pub lists_in-push : (old new : List (Vec ℕ Global)) (list : Vec ℕ Global) (items : List ℕ) → new ≡ old ++ list ∷ [] → list.items ≡ items → lists_in new ≡ lists_in old ++ items ∷ []
-lists_in-push old new list items pushed are = ap lists_in pushed ∙ map_push (λ (v : Vec ℕ Global). v.items) old list ∙ ap (λ (xs : List ℕ). lists_in old ++ xs ∷ []) are
 
 -- a number stands in a list or does not
 pub cases_contains : (xs : List ℕ) (x : ℕ) → Contains xs x ⊎ (Contains xs x → ⊥)
@@ -71,10 +62,10 @@ module _ (d : Automaton) (outputs : List ℕ) (given : length outputs ≡ states
       by (inr past) = absurd (none-some t (sym (ap (λ (es : List Edge). target_by es a) (no_edges_past d q past)) ∙ leads))
 
   -- the states from which a letter leads into a union
-  module _ (n : Branching) (turned : IsReversal d n) (into : List ℕ) (union : IsUnion d outputs into) (a : ℕ) (sources : List ℕ) (gathered : IsGathered (flat_map (branching.edges_of n) into) a sources) where
+  module _ (edges : EdgeLists) (turned : AreTurned d edges) (into : List ℕ) (union : IsUnion d outputs into) (a : ℕ) (sources : List ℕ) (gathered : IsGathered (flat_map (edges_into edges) into) a sources) where
     led : (q : ℕ) → Contains sources q → (t : ℕ) × Contains into t × (q < states_of d) × (step_of d q a ≡ Some t)
     led q there =
-        let found = Contains-from_flat_map (branching.edges_of n) into (edge_to a q) ((gathered.targets q).0 there) in
+        let found = Contains-from_flat_map (edges_into edges) into (edge_to a q) ((gathered.targets q).0 there) in
         let leads = (turned.leads found.0 a q).0 found.2 in
         (found.0, found.1, leads.0, leads.1)
 
@@ -82,7 +73,7 @@ module _ (d : Automaton) (outputs : List ℕ) (given : length outputs ≡ states
     leading q there =
         let inside : next_of d q a < states_of d = All-contains (λ t. t < states_of d) into (next_of d q a) union.within there in
         let leads = step_is q a inside in
-        (gathered.targets q).1 (Contains-flat_map (branching.edges_of n) into (next_of d q a) (edge_to a q) there ((turned.leads (next_of d q a) a q).1 (from_within q a (next_of d q a) leads, leads)))
+        (gathered.targets q).1 (Contains-flat_map (edges_into edges) into (next_of d q a) (edge_to a q) there ((turned.leads (next_of d q a) a q).1 (from_within q a (next_of d q a) leads, leads)))
 
     pub IsUnion-sources : IsUnion d outputs sources
     IsUnion-sources = record {
@@ -178,34 +169,30 @@ module _ (d : Automaton) (outputs old new states : List ℕ) (class : ℕ) (unio
 
   module _ (sizes : List ClassSize) (members pending : List (List ℕ)) (parted : AreParted d outputs old sizes members pending) (count : class ≡ length members) where
     -- the states left in a class
-    pub IsUnion-left : (kept : ℕ) → 0 < kept → kept < length members → IsUnion d outputs (states_with new (list_at members kept) kept)
+    pub IsUnion-left : (kept : ℕ) → 0 < kept → kept < length members → IsUnion d outputs (states_with new (key_at members kept) kept)
     IsUnion-left kept other before = record {
-      within = All-filter (λ q. class_of new q == kept) (λ q. q < states_of d) (list_at members kept) inside;
+      within = All-filter (λ q. class_of new q == kept) (λ q. q < states_of d) (key_at members kept) inside;
       whole = λ p q small low same there.
-          let of = Contains-from_filter (λ (x : ℕ). class_of new x == kept) (list_at members kept) p there in
+          let of = Contains-from_filter (λ (x : ℕ). class_of new x == kept) (key_at members kept) p there in
           let one : class_of new q ≡ kept = sym (IsCoarse-given parted.coarse p q small low same) ∙ eqb-true (class_of new p) kept of.1 in
-          Contains-filter (λ (x : ℕ). class_of new x == kept) (list_at members kept) q (by q low one (cases_contains states q) (cases_lt q (states_of d))) (eq-eqb (class_of new q) kept one);
+          Contains-filter (λ (x : ℕ). class_of new x == kept) (key_at members kept) q (by q low one (cases_contains states q) (cases_lt q (states_of d))) (eq-eqb (class_of new q) kept one);
     }
       where
-        inside : All (λ q. q < states_of d) (list_at members kept)
+        inside : All (λ q. q < states_of d) (key_at members kept)
         inside = parted.inside kept [] before
 
-        by : (q : ℕ) → q ≤ states_of d → class_of new q ≡ kept → Contains states q ⊎ (Contains states q → ⊥) → (q < states_of d) ⊎ (states_of d ≤ q) → Contains (list_at members kept) q
+        by : (q : ℕ) → q ≤ states_of d → class_of new q ≡ kept → Contains states q ⊎ (Contains states q → ⊥) → (q < states_of d) ⊎ (states_of d ≤ q) → Contains (key_at members kept) q
         by q low one (inl there) cases = absurd (omega (arith, given.there q there, one, count, before))
         by q low one (inr none) (inl less) =
             let was : class_of old q ≡ kept = sym (given.elsewhere q none) ∙ one in
-            subst (λ (k : ℕ). Contains (list_at members k) q) was (parted.covered q less (omega (arith, was, other)))
+            subst (λ (k : ℕ). Contains (key_at members k) q) was (parted.covered q less (omega (arith, was, other)))
         by q low one (inr none) (inr past) =
             let is : q ≡ states_of d = omega arith in
             absurd (omega (arith, given.elsewhere q none, one, other, ap (class_of old) is, parted.sink))
 
-    pub IsUnion-one_of : (kept : ℕ) (set : List ℕ) → kept < length members → IsOneOf set states kept (states_with new (list_at members kept) kept) → IsUnion d outputs set
-    IsUnion-one_of kept set before (inl is) = subst (IsUnion d outputs) (sym is) union
-    IsUnion-one_of kept set before (inr left) = subst (IsUnion d outputs) (sym left.1) (IsUnion-left kept left.0 before)
-
     -- the classes with a new one
-    pub AreParted-split : (more : List ClassSize) (set : List ℕ) → length more ≡ length sizes + 1 → class ≤ states_of d → IsUnion d outputs set → AreParted d outputs new more (members ++ states ∷ []) (pending ++ set ∷ [])
-    AreParted-split more set sized room next = record {
+    split : (more : List ClassSize) (set : List ℕ) → length more ≡ length sizes + 1 → class ≤ states_of d → IsUnion d outputs set → AreParted d outputs new more (members ++ states ∷ []) (pending ++ set ∷ [])
+    split more set sized room next = record {
       table = parted.table;
       width = given.width ∙ parted.width;
       counts = omega (arith, sized, parted.counts, size);
@@ -228,38 +215,18 @@ module _ (d : Automaton) (outputs old new states : List ℕ) (class : ℕ) (unio
         below q low (inl there) = omega (arith, size, given.there q there, count)
         below q low (inr none) = omega (arith, size, given.elsewhere q none, parted.below q low)
 
-        covered : (q : ℕ) → q < states_of d → 0 < class_of new q → Contains states q ⊎ (Contains states q → ⊥) → Contains (list_at (members ++ states ∷ []) (class_of new q)) q
+        covered : (q : ℕ) → q < states_of d → 0 < class_of new q → Contains states q ⊎ (Contains states q → ⊥) → Contains (key_at (members ++ states ∷ []) (class_of new q)) q
         covered q less some (inl there) =
             subst (λ (xs : List ℕ). Contains xs q) (sym (get_or_push members states [] (class_of new q) (sym count ∙ sym (given.there q there)))) there
         covered q less some (inr none) =
             let kept = given.elsewhere q none in
-            subst (λ (k : ℕ). Contains (list_at (members ++ states ∷ []) k) q) (sym kept)
+            subst (λ (k : ℕ). Contains (key_at (members ++ states ∷ []) k) q) (sym kept)
             (subst (λ (xs : List ℕ). Contains xs q) (sym (get_or_append_left members (states ∷ []) [] (class_of old q) (parted.below q (omega arith)))) (parted.covered q less (omega (arith, kept, some))))
 
--- one set is no longer pending
-pub AreParted-pop : (d : Automaton) (outputs classes : List ℕ) (sizes : List ClassSize) (members : List (List ℕ)) (old new : List (Vec ℕ Global)) (r : Option (Vec ℕ Global)) → old ≡ new ++ option_to_list r → AreParted d outputs classes sizes members (lists_in old)
-    → AreParted d outputs classes sizes members (lists_in new) × IfSome r (λ (v : Vec ℕ Global). IsUnion d outputs v.items)
-AreParted-pop d outputs classes sizes members old new r is parted = (
-  record {
-    table = parted.table;
-    width = parted.width;
-    counts = parted.counts;
-    few = parted.few;
-    below = parted.below;
-    sink = parted.sink;
-    coarse = parted.coarse;
-    inside = parted.inside;
-    covered = parted.covered;
-    unions = All-map (IsUnion d outputs) (λ (v : Vec ℕ Global). v.items) new both.0;
-  },
-  both.1,
-)
-  where
-    all : All (λ (v : Vec ℕ Global). IsUnion d outputs v.items) old
-    all k z within = subst (IsUnion d outputs) (get_or-map (λ (v : Vec ℕ Global). v.items) old k z z.items within) (parted.unions k z.items (omega (arith, within, length-map old (λ (v : Vec ℕ Global). v.items))))
-
-    both : All (λ (v : Vec ℕ Global). IsUnion d outputs v.items) new × IfSome r (λ (v : Vec ℕ Global). IsUnion d outputs v.items)
-    both = All-pop (λ (v : Vec ℕ Global). IsUnion d outputs v.items) old new r is all
+    pub AreParted-split : (more : List ClassSize) (set : List ℕ) (all waiting : List (List ℕ)) → length more ≡ length sizes + 1 → class ≤ states_of d → IsUnion d outputs set → all ≡ members ++ states ∷ [] → waiting ≡ pending ++ set ∷ []
+        → AreParted d outputs new more all waiting
+    AreParted-split more set all waiting sized room next added pushed =
+        subst (AreParted d outputs new more all) (sym pushed) (subst (λ (ms : List (List ℕ)). AreParted d outputs new more ms (pending ++ set ∷ [])) (sym added) (split more set sized room next))
 
 -- the classes of a partition
 pub AreCoarseClasses-parted : (d : Automaton) (outputs classes : List ℕ) (sizes : List ClassSize) (members pending : List (List ℕ)) → AreParted d outputs classes sizes members pending → AreCoarseClasses d outputs classes

@@ -9,6 +9,7 @@ pub mod Signatures
 pub mod Refinement
 pub mod Hashes
 pub mod FlatEdges
+pub mod TurnedEdges
 pub mod Leaders
 pub mod Gathering
 pub mod Partition

@@ -1,11 +1,12 @@
 -- Classes of states that are being parted.
-use Rattle.std.specs.Prelude.{◌≡◌, ◌==◌, ℕ, ◌+◌, ◌<◌, ◌≤◌, List, [], map, filter, length, slice_index_or, ◌⊎◌, Vec}
+use Rattle.std.specs.Prelude.{◌≡◌, ◌==◌, ℕ, ◌+◌, ◌<◌, ◌≤◌, List, filter, length}
 use Rattle.std.specs.List.{All, Contains}
-use Rattle.std.specs.declared.alloc.Global.{Global}
 use Rattle.digit_tuple.specs.Deterministic.{Automaton, IsTable, letters_of, states_of}
+use Rattle.digit_tuple.specs.Explored.{key_at}
 use Rattle.minimise.specs.Outputs.{SameOutputs}
 use Rattle.minimise.specs.Classes.{class_of}
 use Rattle.minimise.specs.CoarseClasses.{IsCoarse}
+use Rattle.minimise.specs.TurnedEdges.{AreTurned}
 use Rattle.minimise.specs.declared.machine.Machine.{Machine}
 use Rattle.minimise.specs.declared.partition.ClassSize.{ClassSize}
 use Rattle.minimise.specs.declared.partition.Partition.{Partition}
@@ -25,14 +26,6 @@ pub record IsGiven (old new states : List ℕ) (class : ℕ) : Type 0 where
   pub there : (q : ℕ) → Contains states q → class_of new q ≡ class
   pub elsewhere : (q : ℕ) → ¬ Contains states q → class_of new q ≡ class_of old q
 
--- the set is one or the other: those that leave, or the states left in a class that is not the sink's
-abbrev pub IsOneOf : List ℕ → List ℕ → ℕ → List ℕ → Type 0
-IsOneOf set leaving class left = (set ≡ leaving) ⊎ ((0 < class) × (set ≡ left))
-
--- the list at a place
-abbrev pub list_at : List (List ℕ) → ℕ → List ℕ
-list_at lists place = slice_index_or lists place []
-
 -- the states of each class but the sink's, 0, stand in the class's list of members, and pending sets are unions of classes
 -- of states from which words lead to the same outputs, which are never parted
 pub record AreParted (d : Automaton) (outputs classes : List ℕ) (sizes : List ClassSize) (members pending : List (List ℕ)) : Type 0 where
@@ -44,11 +37,10 @@ pub record AreParted (d : Automaton) (outputs classes : List ℕ) (sizes : List 
   pub sink : class_of classes (states_of d) ≡ 0
   pub coarse : IsCoarse d outputs classes
   pub inside : All (All (λ q. q < states_of d)) members
-  pub covered : (q : ℕ) → q < states_of d → 0 < class_of classes q → Contains (list_at members (class_of classes q)) q
+  pub covered : (q : ℕ) → q < states_of d → 0 < class_of classes q → Contains (key_at members (class_of classes q)) q
   pub unions : All (IsUnion d outputs) pending
 
-abbrev pub lists_in : List (Vec ℕ Global) → List (List ℕ)
-lists_in lists = map (λ (list : Vec ℕ Global). list.items) lists
-
-abbrev pub IsPartition : Machine → Partition → Type 0
-IsPartition m p = AreParted m.dfa.now m.outputs.now p.classes.items p.sizes.items (lists_in p.members.items) (lists_in p.pending.items)
+-- the classes are parted, and the edges are the automaton's
+pub record IsPartition (m : Machine) (p : Partition) : Type 0 where
+  pub turned : AreTurned m.dfa.now p.turned
+  pub parted : AreParted m.dfa.now m.outputs.now p.classes.items p.sizes.items p.members p.pending

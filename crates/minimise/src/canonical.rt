@@ -16,7 +16,7 @@ use std::alloc::Global;
 
 /// The canonical automaton with the same language: its states are the residual languages that words
 /// lead to, the empty one only where the language is empty, numbered in the order of the first words
-/// that lead to them. OutOfMemory comes too where 2^32 - 1 of them are not enough.
+/// that lead to them. OutOfMemory comes too where 2^32 - 1 of them are not enough, or there are 2^32 edges.
 pub fn canonical(alloc: Global, d: &Dfa) -> Result<Dfa, OutOfMemory>
     ensures sizes { IfOk result (λ least. least.sizes ≡ d.now.sizes) }
     ensures language { IfOk result (λ least. SameLanguage d.now least) }

@@ -16,7 +16,7 @@ use std::alloc::Global;
 /// the class of each of its states. There is a class for each state. Class 0 says that a word has none,
 /// as a missing edge does. The states are numbered in the order of the first words that lead to them;
 /// those with a class accept. The time is that of `canonical`. OutOfMemory comes too where 2^32 - 1 of
-/// them are not enough.
+/// them are not enough, or there are 2^32 edges.
 pub fn canonical_classes(
     alloc: Global,
     d: &Dfa,

@@ -20,7 +20,7 @@ pub fn same(a: &Dfa, b: &Dfa) -> bool
 }
 
 /// Whether the automaton is the canonical one of its language. OutOfMemory comes too where 2^32 - 1
-/// residuals are not enough.
+/// residuals are not enough, or there are 2^32 edges.
 pub fn is_canonical(alloc: Global, d: &Dfa) -> Result<bool, OutOfMemory>
     ensures { IfOk result (λ is. IsTrue is ↔ IsCanonical d.now) }
 {

@@ -1,4 +1,4 @@
-//! The edges of an automaton in one flat table of six bytes an edge, for passes over all of them.
+//! The edges of an automaton in one flat table of six bytes an edge and four a state, for passes over all of them.
 
 ghost use Rattle.std.specs.Prelude.{◌≡◌, ◌<◌, ◌++◌, map, IfOk, OnOk};
 ghost use Rattle.std.specs.List.{All};
@@ -9,11 +9,11 @@ use digit_tuple::edges::Edge;
 use digit_tuple::faults::OutOfMemory;
 use std::alloc::Global;
 
-/// The edges of all states, state by state.
+/// The edges of all states, state by state, fewer than 2^32.
 #[derive(Drop)]
 pub struct FlatEdges {
     /// Where the edges of each state begin, and last where all end.
-    pub starts: Vec<usize>,
+    pub starts: Vec<u32>,
     /// The letter of each edge, of which an alphabet has 65,536 at most.
     pub letters: Vec<u16>,
     /// Where each edge leads.
@@ -21,22 +21,27 @@ pub struct FlatEdges {
 }
 
 impl FlatEdges {
-    /// The edges of the automaton.
+    /// The edges of the automaton. OutOfMemory comes too where there are 2^32, which would take 24 gigabytes.
+    /// Time and memory follow the states and the edges.
     pub fn new(alloc: Global, dfa: &Dfa) -> Result<Self, OutOfMemory>
         ensures { IfOk result (AreFlat dfa.now) }
     {
         // Letters have 16 bits, since an alphabet has no more.
         let _alphabet = dfa.alphabet().sizes();
         let states = dfa.states();
+        let count = dfa.edges() as usize;
+        if count > u32::MAX as usize {
+            return Err(OutOfMemory);
+        }
         let mut starts = Vec::with_capacity(alloc, states as usize + 1)?;
-        let mut letters = Vec::with_capacity(alloc, states as usize)?;
-        let mut targets = Vec::with_capacity(alloc, states as usize)?;
+        let mut letters = Vec::with_capacity(alloc, count)?;
+        let mut targets = Vec::with_capacity(alloc, count)?;
         let mut edges = Vec::new(alloc);
         starts.push(0)?;
         for state in 0..states {
             dfa.edges_into(state, &mut edges)?;
             add_edges(&edges, &mut letters, &mut targets)?;
-            starts.push(targets.len())?;
+            starts.push(targets.len() as u32)?;
         }
         Ok(FlatEdges {
             starts,

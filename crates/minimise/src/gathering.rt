@@ -1,30 +1,29 @@
-//! Sets of states, gathered by the letters that lead from them, and by their classes.
+//! Sets of states, gathered by the letters that lead to others, and by their classes.
 
 ghost use Rattle.std.specs.Prelude.{◌<◌, length, OnOk};
 ghost use Rattle.std.specs.List.{All, flat_map};
-ghost use Rattle.digit_tuple.specs.Automaton.{edges_of, states_of};
 ghost use Rattle.minimise.specs.Gathering.{IsGathered, edges_by_class};
+ghost use Rattle.minimise.specs.TurnedEdges.{edges_into};
 
+use crate::turned_edges::TurnedEdges;
 use digit_tuple::edges::Edge;
 use digit_tuple::faults::OutOfMemory;
 use digit_tuple::groups::group_into;
 use digit_tuple::key_edges::KeyEdges;
-use digit_tuple::nfa::Nfa;
 
-/// Writes where the edges from the states of the set lead, for each letter that one of them has. The
+/// Writes from where edges lead to the states of the set, for each letter that one of these edges has. The
 /// buffer of edges may hold anything.
-pub fn targets_by_letter(
-    nfa: &Nfa,
+pub fn sources_by_letter(
+    turned: &TurnedEdges,
     set: &[u32],
     edges: &mut Vec<Edge>,
     out: &mut KeyEdges,
 ) -> Result<(), OutOfMemory>
-    requires { All (λ q. q < states_of nfa.now) set.now }
-    ensures { OnOk result (All (λ part. IsGathered (flat_map (edges_of nfa.now) set.now) part.letter part.key) out.new) }
+    ensures { OnOk result (All (λ part. IsGathered (flat_map (edges_into turned.now) set.now) part.letter part.key) out.new) }
 {
     edges.clear();
     for state in set {
-        edges.extend_from_slice(nfa.edges(*state))?;
+        turned.add_edges_to(*state, edges)?;
     }
     gather(edges, out)
 }

@@ -35,7 +35,7 @@ fn mix_edges(start: u64, dfa: &Dfa, flat: &FlatEdges, classes: &[u32], state: u3
 {
     let dead = classes[dfa.states() as usize];
     let mut hash = start;
-    for place in flat.starts[state as usize]..flat.starts[state as usize + 1] {
+    for place in flat.starts[state as usize] as usize..flat.starts[state as usize + 1] as usize {
         let class = classes[flat.targets[place] as usize];
         if class != dead {
             let letter = u64::from(flat.letters[place]);

@@ -31,6 +31,9 @@ mod stability;
 /// The edges of all states in one table.
 mod flat_edges;
 
+/// The edges by the states that they lead to.
+mod turned_edges;
+
 /// Hashes of states.
 mod hashing;
 

@@ -14,42 +14,43 @@
 //!
 //! The time is in the order of m log m log n at most for n states. The factor log m is that of sorting,
 //! by letter and by class; counting in place of sorting would save it.
+//!
+//! The edges stand in flat buffers, and so do the states of classes and of pending sets, one list after another:
+//! no class and no state has a vector of its own.
 
-ghost use Rattle.std.specs.Prelude.{◌≡◌, ◌≢◌, ℕ, ◌-◌, ◌<◌, ◌≤◌, ◌^◌, ◌↔◌, length, map, IfOk, OnOk};
+ghost use Rattle.std.specs.Prelude.{◌≡◌, ◌≢◌, ℕ, ◌-◌, ◌<◌, ◌≤◌, ◌^◌, ◌↔◌, length, IfOk, OnOk};
 ghost use Rattle.std.specs.List.{All, Contains};
-ghost use Rattle.digit_tuple.specs.Automaton.{Branch};
-ghost use Rattle.digit_tuple.specs.Reversed.{IsReversal};
 ghost use Rattle.minimise.specs.Classes.{class_of};
 ghost use Rattle.minimise.specs.CoarseClasses.{AreCoarseClasses};
 ghost use Rattle.minimise.specs.Outputs.{HasOutputs};
-ghost use Rattle.minimise.specs.Partition.{IsUnion, IsGiven, IsOneOf, IsPartition, states_with};
+ghost use Rattle.minimise.specs.Partition.{IsUnion, IsGiven, IsPartition, states_with};
 
-use crate::gathering::{states_by_class, targets_by_letter};
+use crate::gathering::{sources_by_letter, states_by_class};
 use crate::machine::Machine;
+use crate::turned_edges::TurnedEdges;
 use digit_tuple::edges::Edge;
 use digit_tuple::faults::OutOfMemory;
+use digit_tuple::key_arena::KeyArena;
 use digit_tuple::key_edges::KeyEdges;
-use digit_tuple::nfa::Nfa;
-use digit_tuple::reversed::reversed;
 use std::alloc::Global;
 
 /// The class of each state, and last that of the sink, where missing edges lead, after the classes are
-/// parted. States from which words lead to the same outputs have one class, as they had before.
+/// parted. States from which words lead to the same outputs have one class, as they had before. OutOfMemory
+/// comes too where there are 2^32 edges.
 pub fn parted(alloc: Global, machine: &Machine, classes: &[u32]) -> Result<Vec<u32>, OutOfMemory>
     requires outputs { HasOutputs machine.now }
     requires classes { AreCoarseClasses machine.now.dfa.now machine.now.outputs.now classes.now }
     ensures { IfOk result (λ classes. AreCoarseClasses machine.now.dfa.now machine.now.outputs.now classes.items) }
 {
-    let turned = reversed(alloc, machine.dfa)?;
-    let mut partition = Partition::new(alloc, machine, &turned)?;
+    let mut partition = Partition::new(alloc, machine)?;
     let mut buffers = Buffers::new(alloc);
-    partition.part_by_class(machine, classes, &mut buffers)?;
+    partition.part_by_class(alloc, machine, classes, &mut buffers)?;
     // Each class but the sink's makes one set pending, so there are no more sets than states.
     for _ in 0..machine.dfa.states() {
-        match partition.pending.pop() {
-            Some(set) => partition.part_by(machine, &turned, &set, &mut buffers)?,
-            None => return Ok(partition.classes),
+        if partition.pending.len() == 0 {
+            return Ok(partition.classes);
         }
+        partition.part_by_last(machine, &mut buffers)?;
     }
     Ok(partition.classes)
 }
@@ -57,52 +58,55 @@ pub fn parted(alloc: Global, machine: &Machine, classes: &[u32]) -> Result<Vec<u
 /// The partition while it is refined.
 #[derive(Drop)]
 pub struct Partition {
-    alloc: Global,
+    // The edges of the automaton.
+    turned: TurnedEdges,
     // The class of each state, and last that of the sink, which is 0.
     classes: Vec<u32>,
     // How large each class is.
     sizes: Vec<ClassSize>,
     // The states of each class, and maybe some that have left it. Those of class 0 are not kept.
-    members: Vec<Vec<u32>>,
+    members: KeyArena,
     // The sets by which classes are still to be parted.
-    pending: Vec<Vec<u32>>,
-    // How many edges lead to each state.
-    entering: Vec<usize>,
+    pending: KeyArena,
+    // A buffer for the states that are left in a class.
+    left: Vec<u32>,
 }
 
-/// How many states a class has, the sink among them, and how many edges lead to them. Those to the
-/// sink's class are not counted.
+/// How many states a class has, the sink among them, and how many edges lead to them, each up to 2^32 - 1.
+/// Edges to the sink's class are not counted.
 #[derive(Clone, Copy)]
 pub struct ClassSize {
-    states: usize,
-    edges: usize,
+    states: u32,
+    edges: u32,
 }
 
 impl Partition {
     // One class of all states.
-    fn new(alloc: Global, machine: &Machine, turned: &Nfa) -> Result<Self, OutOfMemory>
+    fn new(alloc: Global, machine: &Machine) -> Result<Self, OutOfMemory>
         ensures { IfOk result (IsPartition machine.now) }
     {
-        let count = machine.dfa.states() as usize + 1;
-        let mut members = Vec::new(alloc);
-        members.push(Vec::new(alloc))?;
+        let turned = TurnedEdges::new(alloc, machine.dfa)?;
+        let states = machine.dfa.states();
+        let mut members = KeyArena::new(alloc);
+        members.push(&[])?;
         let size = ClassSize {
-            states: count,
+            states: states.saturating_add(1),
             edges: 0,
         };
         Ok(Partition {
-            alloc,
-            classes: vec![in alloc; 0; count]?,
+            turned,
+            classes: vec![in alloc; 0; states as usize + 1]?,
             sizes: vec![in alloc; size]?,
             members,
-            pending: Vec::new(alloc),
-            entering: edge_counts(alloc, turned)?,
+            pending: KeyArena::new(alloc),
+            left: Vec::new(alloc),
         })
     }
 
     // Parts the class of all states by other classes, of which the sink's stays.
     fn part_by_class(
         &mut self,
+        alloc: Global,
         machine: &Machine,
         classes: &[u32],
         buffers: &mut Buffers,
@@ -111,7 +115,7 @@ impl Partition {
         requires classes { AreCoarseClasses machine.now.dfa.now machine.now.outputs.now classes.now }
         ensures { OnOk result (IsPartition machine.now self.new) }
     {
-        let states = live_states(self.alloc, classes)?;
+        let states = live_states(alloc, classes)?;
         states_by_class(classes, &states, &mut buffers.edges, &mut buffers.parts)?;
         for place in 0..buffers.parts.len() {
             self.split(machine, 0, buffers.parts.key(place))?;
@@ -119,18 +123,11 @@ impl Partition {
         Ok(())
     }
 
-    // Parts classes by whether letters lead into the set.
-    fn part_by(
-        &mut self,
-        machine: &Machine,
-        turned: &Nfa,
-        set: &[u32],
-        buffers: &mut Buffers,
-    ) -> Result<(), OutOfMemory>
+    // Parts classes by whether letters lead into the last of the pending sets, which is then no longer pending.
+    fn part_by_last(&mut self, machine: &Machine, buffers: &mut Buffers) -> Result<(), OutOfMemory>
         requires partition { IsPartition machine.now self.old }
         requires outputs { HasOutputs machine.now }
-        requires turned { IsReversal machine.now.dfa.now turned.now }
-        requires set { IsUnion machine.now.dfa.now machine.now.outputs.now set.now }
+        requires some { 0 < length self.old.pending }
         ensures { OnOk result (IsPartition machine.now self.new) }
     {
         let Buffers {
@@ -138,7 +135,9 @@ impl Partition {
             sources,
             parts,
         } = buffers;
-        targets_by_letter(turned, set, edges, sources)?;
+        let set = self.pending.key(self.pending.len() - 1);
+        sources_by_letter(&self.turned, set, edges, sources)?;
+        self.pending.pop();
         for place in 0..sources.len() {
             self.part(machine, sources.key(place), edges, parts)?;
         }
@@ -167,40 +166,42 @@ impl Partition {
     // Gives states of a class a new one, unless the class has no others.
     fn split(&mut self, machine: &Machine, class: u32, states: &[u32]) -> Result<(), OutOfMemory>
         requires partition { IsPartition machine.now self.old }
-        requires class { class < length self.old.members.items }
+        requires class { class < length self.old.members }
         requires states { IsUnion machine.now.dfa.now machine.now.outputs.now states.now }
         ensures partition { OnOk result (IsPartition machine.now self.new) }
-        ensures grown { OnOk result (length self.old.members.items ≤ length self.new.members.items) }
+        ensures grown { OnOk result (length self.old.members ≤ length self.new.members) }
     {
         let count = self.members.len();
         let size = self.sizes[class as usize];
-        if states.len() >= size.states || count > machine.dfa.states() as usize {
+        if states.len() >= size.states as usize || count > machine.dfa.states() as usize {
             return Ok(());
         }
-        let edges = edges_to(&self.entering, states);
-        let rest = size.edges.saturating_sub(edges);
-        give(&mut self.classes, states, count as u32);
-        self.sizes[class as usize] = ClassSize {
-            states: size.states - states.len(),
-            edges: rest,
+        let leaving = ClassSize {
+            states: states.len() as u32,
+            edges: edges_to(&self.turned, states),
         };
-        self.sizes.push(ClassSize {
-            states: states.len(),
-            edges,
-        })?;
-        let members = &self.members[class as usize];
-        let is_smaller = edges <= rest;
-        let set = smaller(
-            self.alloc,
-            &self.classes,
-            class,
-            members,
-            states,
-            is_smaller,
-        )?;
-        self.members.push(Vec::from_slice(self.alloc, states)?)?;
-        self.pending.push(set)?;
-        Ok(())
+        let rest = size.without(leaving);
+        give(&mut self.classes, states, count as u32);
+        self.sizes[class as usize] = rest;
+        self.sizes.push(leaving)?;
+        self.members.push(states)?;
+        // Of the sink's class those that leave are pending, and of others the smaller part.
+        if class == 0 || leaving.edges <= rest.edges {
+            return self.pending.push(states);
+        }
+        let members = self.members.key(class as usize);
+        states_left(&self.classes, class, members, &mut self.left)?;
+        self.pending.push(&self.left)
+    }
+}
+
+impl ClassSize {
+    // What is left where so many leave.
+    fn without(self, leaving: ClassSize) -> Self {
+        ClassSize {
+            states: self.states.saturating_sub(leaving.states),
+            edges: self.edges.saturating_sub(leaving.edges),
+        }
     }
 }
 
@@ -249,48 +250,30 @@ fn give(classes: &mut Vec<u32>, states: &[u32], class: u32)
     }
 }
 
-// How many edges of the turned automaton begin at each state.
-fn edge_counts(alloc: Global, turned: &Nfa) -> Result<Vec<usize>, OutOfMemory>
-    ensures { IfOk result (λ counts. counts.items ≡ map (λ (state : Branch). length state.edges) turned.now.states) }
-{
-    let states = turned.states();
-    let mut counts = Vec::with_capacity(alloc, states as usize)?;
-    for state in 0..states {
-        counts.push(turned.edges(state).len())?;
-    }
-    Ok(counts)
-}
-
-// How many edges lead to the states. A state past the counts has none.
-fn edges_to(entering: &[usize], states: &[u32]) -> usize {
+// How many edges lead to the states.
+fn edges_to(turned: &TurnedEdges, states: &[u32]) -> u32 {
     let mut edges: usize = 0;
     for state in states {
-        let count = entering.get(*state as usize).copied().unwrap_or(0);
-        edges = edges.saturating_add(count);
+        edges = edges.saturating_add(turned.count_to(*state));
     }
-    edges
+    u32::try_from(edges).unwrap_or(u32::MAX)
 }
 
-// The states that leave a class if they are the smaller part or it is the sink's, or else those left in it.
-fn smaller(
-    alloc: Global,
+// Writes the members that still have the class in place of what the buffer held.
+fn states_left(
     classes: &[u32],
     class: u32,
     members: &[u32],
-    leaving: &[u32],
-    is_smaller: bool,
-) -> Result<Vec<u32>, OutOfMemory>
+    left: &mut Vec<u32>,
+) -> Result<(), OutOfMemory>
     requires { All (λ q. q < length classes.now) members.now }
-    ensures { IfOk result (λ set. IsOneOf set.items leaving.now class (states_with classes.now members.now class)) }
+    ensures { OnOk result (left.new.items ≡ states_with classes.now members.now class) }
 {
-    if class == 0 || is_smaller {
-        return Ok(Vec::from_slice(alloc, leaving)?);
-    }
-    let mut states = Vec::new(alloc);
+    left.clear();
     for state in members {
         if classes[*state as usize] == class {
-            states.push(*state)?;
+            left.push(*state)?;
         }
     }
-    Ok(states)
+    Ok(())
 }

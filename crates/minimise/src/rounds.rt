@@ -47,9 +47,13 @@ pub fn classes_by_rounds(alloc: Global, machine: &Machine) -> Result<RoundClasse
                 stable: true,
             });
         }
-        let largest = largest_class(alloc, &classes[..states as usize])?;
-        if 2 * (round + 2) + binary_digits(largest) > 2 * digits {
-            break;
+        let half_looks = 2 * (round + 2);
+        // No class is larger than all states together, so that its size does not matter at first.
+        if half_looks > digits {
+            let largest = largest_class(alloc, &classes[..states as usize])?;
+            if half_looks + binary_digits(largest) > 2 * digits {
+                break;
+            }
         }
         classes = rehashed(alloc, machine.dfa, &flat, &classes)?;
     }

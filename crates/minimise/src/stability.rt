@@ -61,10 +61,10 @@ fn lead_alike(dfa: &Dfa, flat: &FlatEdges, classes: &[u32], p: u32, q: u32) -> b
     if p >= states || q >= states {
         return false;
     }
-    let start = flat.starts[p as usize];
-    let other = flat.starts[q as usize];
-    let count = flat.starts[p as usize + 1] - start;
-    if flat.starts[q as usize + 1] - other != count {
+    let start = flat.starts[p as usize] as usize;
+    let other = flat.starts[q as usize] as usize;
+    let count = flat.starts[p as usize + 1] as usize - start;
+    if flat.starts[q as usize + 1] as usize - other != count {
         return false;
     }
     for place in 0..count {

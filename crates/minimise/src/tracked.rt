@@ -32,7 +32,8 @@ impl Model for Tracked {
 
 impl Tracked {
     /// The canonical automaton with the same language, its tracks under these names: one for each
-    /// track, no two the same. OutOfMemory comes too where 2^32 - 1 states are not enough.
+    /// track, no two the same. OutOfMemory comes too where 2^32 - 1 states are not enough, or there are
+    /// 2^32 edges.
     pub fn new(alloc: Global, d: &Dfa, names: &[Name]) -> Result<Self, OutOfMemory>
         requires count { length names.now ≡ length d.now.sizes }
         requires distinct { AreDistinct names.now }

@@ -15,9 +15,9 @@ pub bounds-classes-index : goal.bounds-classes-index
 bounds-classes-index c =
     let flat = c.args.flat.now in
     let place = c.loop-place.place in
-    let there = HasPlace-read c.args.dfa.now flat.starts.items flat.letters.items flat.targets.items c.requires.flat c.states.ensures.table c.args.state place c.index-place.result.now c.index-place-end.result.now c.requires.state
-    c.index-place.ensures c.index-place-end.ensures c.loop-place.auto.place c.loop-place-test.true in
-    omega (arith, c.index.ensures ∙ get_or_default flat.targets.items place c.index.result.now 0 there.within, there.target, c.requires.width)
+    let there = HasPlace-read c.args.dfa.now flat.starts.items flat.letters.items flat.targets.items c.requires.flat c.states.ensures.table c.args.state place c.index.result.now c.index-2.result.now c.requires.state
+    c.index.ensures c.index-2.ensures c.loop-place.auto.place c.loop-place-test.true in
+    omega (arith, c.index-in-loop-place.ensures ∙ get_or_default flat.targets.items place c.index-in-loop-place.result.now 0 there.within, there.target, c.requires.width)
 
 pub loop-place-preserved : goal.loop-place-preserved
 loop-place-preserved c =
@@ -26,17 +26,17 @@ loop-place-preserved c =
     let classes = c.args.classes.now in
     let q = c.args.state in
     let place = c.loop-place.place in
-    let first = start_read d flat.starts.items flat.letters.items flat.targets.items c.requires.flat c.states.ensures.table q c.index-place.result.now (omega (arith, c.requires.state)) c.index-place.ensures in
-    let there = HasPlace-read d flat.starts.items flat.letters.items flat.targets.items c.requires.flat c.states.ensures.table q place c.index-place.result.now c.index-place-end.result.now c.requires.state
-    c.index-place.ensures c.index-place-end.ensures c.loop-place.auto.place c.loop-place-test.true in
+    let first = start_read d flat.starts.items flat.letters.items flat.targets.items c.requires.flat c.states.ensures.table q c.index.result.now (omega (arith, c.requires.state)) c.index.ensures in
+    let there = HasPlace-read d flat.starts.items flat.letters.items flat.targets.items c.requires.flat c.states.ensures.table q place c.index.result.now c.index-2.result.now c.requires.state
+    c.index.ensures c.index-2.ensures c.loop-place.auto.place c.loop-place-test.true in
     let es = edges_of d q in
     let k = place - class_of flat.starts.items q in
     let z : Edge = record { letter = 0; target = 0 } in
     let before = c.loop-place.hash in
     let dead = dead_class d classes in
-    let read : c.index.result.now ≡ class_of flat.targets.items place = c.index.ensures ∙ get_or_default flat.targets.items place c.index.result.now 0 there.within in
-    let target : c.index.result.now ≡ (get_or es k z).target = read ∙ sym (ap (λ (e : Edge). e.target) (there.edge z)) in
-    let own : class_of classes c.index.result.now ≡ class_of classes (get_or es k z).target = ap (class_of classes) target in
+    let read : c.index-in-loop-place.result.now ≡ class_of flat.targets.items place = c.index-in-loop-place.ensures ∙ get_or_default flat.targets.items place c.index-in-loop-place.result.now 0 there.within in
+    let target : c.index-in-loop-place.result.now ≡ (get_or es k z).target = read ∙ sym (ap (λ (e : Edge). e.target) (there.edge z)) in
+    let own : class_of classes c.index-in-loop-place.result.now ≡ class_of classes (get_or es k z).target = ap (class_of classes) target in
     let none : class_of classes c.states.result ≡ dead = ap (class_of classes) c.states.ensures.value in
     let next : k + 1 ≡ place + 1 - class_of flat.starts.items q = omega (arith, c.loop-place.auto.place, first) in
     elim c.if-class-dead.branch [
@@ -55,6 +55,6 @@ returns c =
     let d = c.args.dfa.now in
     let flat = c.args.flat.now in
     let q = c.args.state in
-    let last = start_read d flat.starts.items flat.letters.items flat.targets.items c.requires.flat c.states.ensures.table (q + 1) c.index-place-end.result.now (omega (arith, c.requires.state)) c.index-place-end.ensures in
+    let last = start_read d flat.starts.items flat.letters.items flat.targets.items c.requires.flat c.states.ensures.table (q + 1) c.index-2.result.now (omega (arith, c.requires.state)) c.index-2.ensures in
     let all : length (edges_of d q) ≤ c.loop-place.place - class_of flat.starts.items q = omega (arith, c.loop-place-test.false, c.requires.flat.ends q c.requires.state, last) in
     c.loop-place.invariant ∙ ap (λ es. hash_edges c.args.start (class_edges c.args.classes.now (dead_class d c.args.classes.now) es)) (take_all (c.loop-place.place - class_of flat.starts.items q) (edges_of d q) all)

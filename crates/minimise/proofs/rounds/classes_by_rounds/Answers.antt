@@ -13,5 +13,5 @@ loop-round-init c =
 pub loop-round-preserved : goal.loop-round-preserved
 loop-round-preserved c =
     let d = c.args.machine.now.dfa.now in
-    let kept = subst (λ (cs : List ℕ). KeepAlike d cs c.in_ok-classes-2.classes.items) c.deref-in-loop-round-2.ensures.value c.in_ok-classes-2.ensures in
+    let kept = subst (λ (cs : List ℕ). KeepAlike d cs c.in_ok-classes-2.classes.items) c.deref-in-loop-round.ensures.value c.in_ok-classes-2.ensures in
     AreCoarseClasses-kept d c.args.machine.now.outputs.now c.requires c.states-states.ensures.table c.loop-round.classes.items c.in_ok-classes-2.classes.items c.loop-round.invariant kept

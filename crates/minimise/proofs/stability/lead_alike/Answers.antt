@@ -12,19 +12,19 @@ read_at xs start first k x is read within = ap (λ n. class_of xs (n + k)) (sym 
 pub bounds-classes-index : goal.bounds-classes-index
 bounds-classes-index c =
     let flat = c.args.flat.now in
-    let start = c.index-start.result.now in
+    let start = c.index.result.now in
     let place = c.loop-place.place in
-    let there = HasPlace-read c.args.dfa.now flat.starts.items flat.letters.items flat.targets.items c.requires.flat c.states-states.ensures.table c.args.p (start + place) start c.index.result.now (omega (arith, c.if-p-states.false, c.states-states.ensures.value))
-    c.index-start.ensures c.index.ensures (omega arith) (omega (arith, c.loop-place-test.true)) in
+    let there = HasPlace-read c.args.dfa.now flat.starts.items flat.letters.items flat.targets.items c.requires.flat c.states-states.ensures.table c.args.p (start + place) start c.index-3.result.now (omega (arith, c.if-p-states.false, c.states-states.ensures.value))
+    c.index.ensures c.index-3.ensures (omega arith) (omega (arith, c.loop-place-test.true)) in
     omega (arith, c.index-in-loop-place-3.ensures ∙ get_or_default flat.targets.items (start + place) c.index-in-loop-place-3.result.now 0 there.within, there.target, c.requires.width)
 
 pub bounds-classes-index-in-loop-place : goal.bounds-classes-index-in-loop-place
 bounds-classes-index-in-loop-place c =
     let flat = c.args.flat.now in
-    let start = c.index-other.result.now in
+    let start = c.index-2.result.now in
     let place = c.loop-place.place in
-    let there = HasPlace-read c.args.dfa.now flat.starts.items flat.letters.items flat.targets.items c.requires.flat c.states-states.ensures.table c.args.q (start + place) start c.index-2.result.now (omega (arith, c.if-q-states.false, c.states-states.ensures.value))
-    c.index-other.ensures c.index-2.ensures (omega arith) (omega (arith, c.loop-place-test.true, c.if-index-other.false)) in
+    let there = HasPlace-read c.args.dfa.now flat.starts.items flat.letters.items flat.targets.items c.requires.flat c.states-states.ensures.table c.args.q (start + place) start c.index-4.result.now (omega (arith, c.if-q-states.false, c.states-states.ensures.value))
+    c.index-2.ensures c.index-4.ensures (omega arith) (omega (arith, c.loop-place-test.true, c.if-index-other.false)) in
     omega (arith, c.index-in-loop-place-4.ensures ∙ get_or_default flat.targets.items (start + place) c.index-in-loop-place-4.result.now 0 there.within, there.target, c.requires.width)
 
 pub loop-place-preserved : goal.loop-place-preserved
@@ -36,15 +36,15 @@ loop-place-preserved c =
     let targets = flat.targets.items in
     let p = c.args.p in
     let q = c.args.q in
-    let start = c.index-start.result.now in
-    let other = c.index-other.result.now in
+    let start = c.index.result.now in
+    let other = c.index-2.result.now in
     let place = c.loop-place.place in
     let less : p < states_of d = omega (arith, c.if-p-states.false, c.states-states.ensures.value) in
     let low : q < states_of d = omega (arith, c.if-q-states.false, c.states-states.ensures.value) in
-    let first = start_read d starts letters targets c.requires.flat c.states-states.ensures.table p start (omega (arith, less)) c.index-start.ensures in
-    let second = start_read d starts letters targets c.requires.flat c.states-states.ensures.table q other (omega (arith, low)) c.index-other.ensures in
-    let one = HasPlace-read d starts letters targets c.requires.flat c.states-states.ensures.table p (start + place) start c.index.result.now less c.index-start.ensures c.index.ensures (omega arith) (omega (arith, c.loop-place-test.true)) in
-    let two = HasPlace-read d starts letters targets c.requires.flat c.states-states.ensures.table q (other + place) other c.index-2.result.now low c.index-other.ensures c.index-2.ensures (omega arith) (omega (arith, c.loop-place-test.true, c.if-index-other.false)) in
+    let first = start_read d starts letters targets c.requires.flat c.states-states.ensures.table p start (omega (arith, less)) c.index.ensures in
+    let second = start_read d starts letters targets c.requires.flat c.states-states.ensures.table q other (omega (arith, low)) c.index-2.ensures in
+    let one = HasPlace-read d starts letters targets c.requires.flat c.states-states.ensures.table p (start + place) start c.index-3.result.now less c.index.ensures c.index-3.ensures (omega arith) (omega (arith, c.loop-place-test.true)) in
+    let two = HasPlace-read d starts letters targets c.requires.flat c.states-states.ensures.table q (other + place) other c.index-4.result.now low c.index-2.ensures c.index-4.ensures (omega arith) (omega (arith, c.loop-place-test.true, c.if-index-other.false)) in
     record {
       letters = below_more _ _ c.loop-place.invariant.letters
           (read_at letters start (class_of starts p) place c.index-in-loop-place.result.now first c.index-in-loop-place.ensures (omega (arith, one.within, c.requires.flat.same)) ∙ c.if-index.false
@@ -61,14 +61,14 @@ returns c _ =
     let starts = flat.starts.items in
     let p = c.args.p in
     let q = c.args.q in
-    let count = c.index.result.now - c.index-start.result.now in
+    let count = c.index-3.result.now - c.index.result.now in
     let less : p < states_of d = omega (arith, c.if-p-states.false, c.states-states.ensures.value) in
     let low : q < states_of d = omega (arith, c.if-q-states.false, c.states-states.ensures.value) in
     let read = start_read d starts flat.letters.items flat.targets.items c.requires.flat c.states-states.ensures.table in
-    let first = read p c.index-start.result.now (omega (arith, less)) c.index-start.ensures in
-    let second = read q c.index-other.result.now (omega (arith, low)) c.index-other.ensures in
-    let third = read (p + 1) c.index.result.now (omega (arith, less)) c.index.ensures in
-    let fourth = read (q + 1) c.index-2.result.now (omega (arith, low)) c.index-2.ensures in
+    let first = read p c.index.result.now (omega (arith, less)) c.index.ensures in
+    let second = read q c.index-2.result.now (omega (arith, low)) c.index-2.ensures in
+    let third = read (p + 1) c.index-3.result.now (omega (arith, less)) c.index-3.ensures in
+    let fourth = read (q + 1) c.index-4.result.now (omega (arith, low)) c.index-4.ensures in
     AreAlike-flat d starts flat.letters.items flat.targets.items c.requires.flat c.states-states.ensures.table c.args.classes.now p q count less low c.requires.own
     (omega (arith, first, third, c.requires.flat.ends p less)) (omega (arith, second, fourth, c.requires.flat.ends q low, c.if-index-other.false))
     (λ k inside. c.loop-place.invariant.letters k (omega (arith, inside, c.loop-place-test.false))) (λ k inside. c.loop-place.invariant.targets k (omega (arith, inside, c.loop-place-test.false)))

@@ -1,8 +1,7 @@
 use Rattle.std.proofs.Common.{◌<◌, List, ℕ, length, sym, subst, arith}
-use Rattle.std.proofs.lemmas.List.{length-map}
 use Rattle.digit_tuple.specs.Keys.{edge_at, no_edge}
 use Rattle.minimise.specs.Gathering.{IsGathered, edges_by_class}
-use Rattle.minimise.specs.Partition.{IsUnion, lists_in}
+use Rattle.minimise.specs.Partition.{IsUnion}
 use Rattle.minimise.proofs.PartitionLemmas.{IsUnion-class, class_below}
 use Rattle.minimise.proofs.partition.Partition.part.Goals as goal
 
@@ -18,7 +17,7 @@ split-requires-clause-states c =
     let d = c.args.machine.now.dfa.now in
     let outputs = c.args.machine.now.outputs.now in
     let part = edge_at c.states_by_class.new.out c.loop-place.place in
-    subst (IsUnion d outputs) (sym c.key.ensures) (IsUnion-class d outputs c.args.self.now.classes.items c.requires.partition.coarse c.args.set.now c.requires.set part.letter part.key (gathered c))
+    subst (IsUnion d outputs) (sym c.key.ensures) (IsUnion-class d outputs c.args.self.now.classes.items c.requires.partition.parted.coarse c.args.set.now c.requires.set part.letter part.key (gathered c))
 
 pub split-requires-clause-class : goal.split-requires-clause-class
 split-requires-clause-class c =
@@ -26,5 +25,5 @@ split-requires-clause-class c =
     let outputs = c.args.machine.now.outputs.now in
     let p = c.args.self.now in
     let part = edge_at c.states_by_class.new.out c.loop-place.place in
-    let low = class_below d outputs p.classes.items c.requires.partition.coarse c.args.set.now c.requires.set part.letter part.key (gathered c) (length (lists_in p.members.items)) c.requires.partition.below in
-    omega (arith, low, c.letter.ensures, length-map p.members.items (λ v. v.items), c.loop-place.invariant.grown)
+    let low = class_below d outputs p.classes.items c.requires.partition.parted.coarse c.args.set.now c.requires.set part.letter part.key (gathered c) (length p.members) c.requires.partition.parted.below in
+    omega (arith, low, c.letter.ensures, c.loop-place.invariant.grown)

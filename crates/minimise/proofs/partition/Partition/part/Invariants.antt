@@ -5,5 +5,5 @@ use Rattle.minimise.proofs.partition.Partition.part.Given as goal
 abbrev pub invariant-loop-place : goal.invariant-loop-place
 invariant-loop-place l = record {
   partition : IsPartition l.machine l.self;
-  grown : length l.fn.self.members.items ≤ length l.self.members.items;
+  grown : length l.fn.self.members ≤ length l.self.members;
 }

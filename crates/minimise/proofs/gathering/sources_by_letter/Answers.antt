@@ -2,11 +2,11 @@ use Rattle.std.proofs.Common.{◌≡◌, List, OnOk, ap, ◌∙◌, subst, arith
 use Rattle.std.specs.List.{All, flat_map}
 use Rattle.std.proofs.lemmas.List.{take_all}
 use Rattle.digit_tuple.specs.declared.edges.Edge.{Edge}
-use Rattle.digit_tuple.specs.Automaton.{edges_of}
 use Rattle.minimise.specs.Gathering.{IsGathered}
-use Rattle.minimise.proofs.gathering.targets_by_letter.Goals as goal
+use Rattle.minimise.specs.TurnedEdges.{edges_into}
+use Rattle.minimise.proofs.gathering.sources_by_letter.Goals as goal
 
 pub returns : goal.returns
 returns c =
-    let all : c.loop-state.edges.items ≡ flat_map (edges_of c.args.nfa.now) c.args.set.now = c.loop-state.invariant ∙ ap (flat_map (edges_of c.args.nfa.now)) (take_all c.loop-state.state-index c.args.set.now (omega arith)) in
+    let all : c.loop-state.edges.items ≡ flat_map (edges_into c.args.turned.now) c.args.set.now = c.loop-state.invariant ∙ ap (flat_map (edges_into c.args.turned.now)) (take_all c.loop-state.state-index c.args.set.now (omega arith)) in
     subst (λ (es : List Edge). OnOk c.gather.result (All (λ part. IsGathered es part.letter part.key) c.gather.new.out)) all c.gather.ensures
