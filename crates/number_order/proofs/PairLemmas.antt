@@ -4,6 +4,7 @@ use Rattle.std.specs.Ordering.{ordering_index}
 use Rattle.std.specs.Cmp.Lexicographic.{slice_cmp}
 use Rattle.std.proofs.lemmas.Bool.{and_parts, and_from}
 use Rattle.std.proofs.lemmas.List.{length-map}
+use Rattle.std.proofs.lemmas.List.FromFn.{length-map-range_with_len, get_or-map-range_with_len}
 use Rattle.std.proofs.lemmas.Nat.{div_below, mod_below}
 use Rattle.digit_tuple.specs.Letters.{IsWord, product}
 use Rattle.digit_tuple.specs.Paddings.{in_order}
@@ -21,10 +22,23 @@ use Rattle.numeration.specs.Systems.{System, IsSystem}
 use Rattle.numeration.specs.Spelling.{Spells, first_track, other_tracks, letters_in}
 use Rattle.numeration.specs.Relations.{IsLanguageOf, HoldsOf, IsPairOf, IsCompared}
 use Rattle.number_order.specs.Orders.{pair_letters, pair_track, comparison, OrderAlike}
-use Rattle.number_order.specs.PairKeys.{ordering_at, compared_more, at, first_pair, next_pair, is_compared_pair}
+use Rattle.number_order.specs.PairKeys.{ordering_at, compared_more, at, first_pair, next_states_of, next_pair, is_compared_pair}
 use Rattle.digit_tuple.proofs.PaddingLemmas.{length-in_order, in_order-map}
 use Rattle.numeration.proofs.ConstantLemmas.{one_track}
 use Rattle.number_order.proofs.OrderLemmas.{ordering_at-index, comparison-ranks, wanted_is, joined, joined-nil, joined-step, joined-all}
+
+-- in the list of where each digit leads a digit has a place, which holds where it leads
+pub at-next_states : (d : Automaton) (q digits digit : ℕ) (states : List ℕ) → states ≡ next_states_of d q digits → digit < digits → (digit < length states) × (at states digit ≡ next_of d q digit)
+at-next_states d q digits digit states are small = subst (λ (s : List ℕ). (digit < length s) × (at s digit ≡ next_of d q digit)) (sym are) (within, get_or-map-range_with_len (next_of d q) 0 digits digit digit 0 small (omega arith))
+  where
+    within : digit < length (next_states_of d q digits)
+    within = omega (arith, small, length-map-range_with_len (next_of d q) 0 digits)
+
+-- the digits of a letter of two tracks
+pub letter_digits : (n a : ℕ) → a < n * n → (a / n < n) × (a % n < n)
+letter_digits n a small =
+    let some : 0 < n = positive_right n n (omega (arith, small)) in
+    (div_below a n n some small, mod_below a n some)
 
 some_value : (a b : List ℕ) → Some a ≡ Some b → a ≡ b
 some_value a b same = cc
@@ -142,16 +156,11 @@ module _ (way : Direction) (d : Automaton) (n : ℕ) where
 
     IsWord-firsts : (w : List ℕ) → IsWord (n * n) w → IsWord (letters_of d) (firsts n w)
     IsWord-firsts [] over = tt
-    IsWord-firsts (a ∷ w) over =
-        let some : 0 < n = positive_right n n (omega (arith, over.0)) in
-        let within : a / n < n = div_below a n n some over.0 in
-        (subst (λ m. a / n < m) (letters_are) within, IsWord-firsts w over.1)
+    IsWord-firsts (a ∷ w) over = (subst (λ m. a / n < m) (letters_are) (letter_digits n a over.0).0, IsWord-firsts w over.1)
 
     IsWord-seconds : (w : List ℕ) → IsWord (n * n) w → IsWord (letters_of d) (seconds n w)
     IsWord-seconds [] over = tt
-    IsWord-seconds (a ∷ w) over =
-        let some : 0 < n = positive_right n n (omega (arith, over.0)) in
-        (subst (λ m. a % n < m) (letters_are) (mod_below a n some), IsWord-seconds w over.1)
+    IsWord-seconds (a ∷ w) over = (subst (λ m. a % n < m) (letters_are) (letter_digits n a over.0).1, IsWord-seconds w over.1)
 
     -- and words that are alike lead to one key
     pub keys_from_alike : (w v : List ℕ) → IsCanonical d → IsWord (n * n) w → IsWord (n * n) v → OrderAlike way d w v → LeadAlike pair_after (first_pair d) w v

@@ -1,5 +1,6 @@
 -- Keys of two words that are read side by side: where each leads in the language's automaton, and how they compare so far.
-use Rattle.std.specs.Prelude.{◌==◌, ℕ, zero, suc, ◌/◌, ◌%◌, Bool, ◌&&◌, List, [], ◌∷◌, slice_index_or}
+use Rattle.std.specs.Prelude.{◌==◌, ℕ, zero, suc, ◌/◌, ◌%◌, Bool, ◌&&◌, List, [], ◌∷◌, map, slice_index_or}
+use Rattle.std.specs.List.{range_with_len}
 use Rattle.std.specs.declared.cmp.Ordering.{Ordering}
 use Rattle.std.specs.declared.cmp.Ordering.TheVariants.{Less, Equal, Greater}
 use Rattle.std.specs.Ordering.{nat_cmp, ordering_then, ordering_index}
@@ -24,6 +25,10 @@ at key place = slice_index_or key place 0
 
 abbrev pub first_pair : Automaton → List ℕ
 first_pair d = first_of d ∷ first_of d ∷ ordering_index Equal ∷ []
+
+-- where each of so many digits leads from a state or the sink
+abbrev pub next_states_of : Automaton → ℕ → ℕ → List ℕ
+next_states_of d q digits = map (next_of d q) (range_with_len 0 digits)
 
 -- where a letter of so many digits on each track leads from a key
 abbrev pub next_pair : Direction → Automaton → ℕ → List ℕ → ℕ → List ℕ

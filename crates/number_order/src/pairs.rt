@@ -1,6 +1,6 @@
 //! Pairs of numbers that compare in one way, told from words that are read side by side.
 
-ghost use Rattle.std.specs.Prelude.{◌≡◌, ◌+◌, ◌*◌, ◌<◌, ◌≤◌, ◌↔◌, ℕ, Some, [], ◌∷◌, length, IfOk, OnOk};
+ghost use Rattle.std.specs.Prelude.{◌≡◌, ◌+◌, ◌*◌, ◌<◌, ◌≤◌, ◌↔◌, ℕ, Some, [], ◌∷◌, length, slice_index, IfOk, OnOk};
 ghost use Rattle.std.proofs.Common.{refl};
 ghost use Rattle.std.specs.Ordering.{ordering_index};
 ghost use Rattle.std.specs.Result.{IsErrOf};
@@ -11,7 +11,7 @@ ghost use Rattle.minimise.specs.Canonical.{IsCanonical};
 ghost use Rattle.numeration.specs.Systems.{System, IsSystem};
 ghost use Rattle.numeration.specs.Relations.{IsLanguageOf, HoldsOf, IsPairOf, IsCompared};
 ghost use Rattle.number_order.specs.Orders.{OrderAlike, pair_sizes, pair_letters};
-ghost use Rattle.number_order.specs.PairKeys.{ordering_at, compared_more, first_pair, next_pair, is_compared_pair};
+ghost use Rattle.number_order.specs.PairKeys.{ordering_at, compared_more, first_pair, next_states_of, next_pair, is_compared_pair};
 
 use digit_tuple::alphabet::Alphabet;
 use digit_tuple::dfa::Dfa;
@@ -57,9 +57,11 @@ impl KeyGraph for Pairs<'_> {
         Ok(Vec::from_slice(alloc, &[first, first, number_of(Ordering::Equal)])?)
     }
 
-    fn edges(&self, _alloc: Global, key: &[u32], out: &mut KeyEdges) -> Result<(), OutOfMemory> {
+    fn edges(&self, alloc: Global, key: &[u32], out: &mut KeyEdges) -> Result<(), OutOfMemory> {
+        let firsts = next_states(alloc, self.language, key[0], self.digits)?;
+        let seconds = next_states(alloc, self.language, key[1], self.digits)?;
         for letter in 0..self.digits * self.digits {
-            let next = next_key(self, key, letter);
+            let next = next_key(self, key, &firsts, &seconds, letter);
             out.push(letter, &next)?;
         }
         Ok(())
@@ -94,9 +96,32 @@ fn ordering_of(number: u32) -> Ordering
     }
 }
 
-// Where a letter leads from a key.
-fn next_key(pairs: &Pairs<'_>, key: &[u32], letter: u32) -> [u32; 3]
+// Where each of so many digits leads from a state or the sink.
+fn next_states(
+    alloc: Global,
+    language: &Dfa,
+    state: u32,
+    digits: u32,
+) -> Result<Vec<u32>, OutOfMemory>
+    ensures { IfOk result (λ states. states.items ≡ next_states_of language.now state digits) }
+{
+    let states = (0..digits)
+        .map(|digit| next_state(language, state, digit))
+        .collect(alloc)?;
+    Ok(states)
+}
+
+// Where a letter leads from a key, told from where each digit leads from the key's two states.
+fn next_key(
+    pairs: &Pairs<'_>,
+    key: &[u32],
+    firsts: &[u32],
+    seconds: &[u32],
+    letter: u32,
+) -> [u32; 3]
     requires key { length key.now ≡ 3 }
+    requires firsts { firsts.now ≡ next_states_of pairs.now.language.now (slice_index key.now 0) pairs.now.digits }
+    requires seconds { seconds.now ≡ next_states_of pairs.now.language.now (slice_index key.now 1) pairs.now.digits }
     requires letter { letter < pairs.now.digits * pairs.now.digits }
     ensures { result ≡ next_pair pairs.now.direction pairs.now.language.now pairs.now.digits key.now letter }
 {
@@ -104,8 +129,8 @@ fn next_key(pairs: &Pairs<'_>, key: &[u32], letter: u32) -> [u32; 3]
     let second = letter % pairs.digits;
     let order = compare(pairs.direction, ordering_of(key[2]), first, second);
     [
-        next_state(pairs.language, key[0], first),
-        next_state(pairs.language, key[1], second),
+        firsts[first as usize],
+        seconds[second as usize],
         number_of(order),
     ]
 }

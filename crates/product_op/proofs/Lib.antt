@@ -7,6 +7,7 @@ pub mod LanguageLemmas
 pub mod SinkKeyLemmas
 pub mod LeadingLemmas
 pub mod FoundLetters
+pub mod NextRowLemmas
 pub mod RuleLemmas
 pub mod WidthLaws
 pub mod TupleLemmas

@@ -8,4 +8,5 @@ pub mod ReadingLaws
 pub mod TrackReadings
 pub mod SinkKeys
 pub mod LeadingLetters
+pub mod NextRows
 pub mod Tuples

@@ -16,6 +16,9 @@ pub mod reader;
 /// Readers of automata on some of the tracks.
 pub mod argument_readers;
 
+/// Where the parts of letters lead from states of readers.
+pub mod next_row;
+
 /// The numbers below a number.
 mod numbers_below;
 

@@ -8,10 +8,12 @@ ghost use Rattle.product_op.specs.ReadingLaws.{first_is_key, live_key_is_key};
 ghost use Rattle.product_op.specs.SinkKeys.{is_dead_key, live_key, live_key_after};
 ghost use Rattle.product_op.specs.LeadingLetters.{AreLeading, key_edge};
 
+use crate::next_row::next_rows;
 use crate::numbers_below::numbers_below;
 use crate::reader::Reader;
 use crate::reader_states::{all_accept, are_sinks, first_states, next_states};
 use crate::rule::Rule;
+use digit_tuple::edges::Edge;
 use digit_tuple::faults::OutOfMemory;
 use digit_tuple::key_edges::KeyEdges;
 use digit_tuple::key_graph::KeyGraph;
@@ -48,11 +50,13 @@ impl KeyGraph for SideBySide<'_> {
     }
 
     fn edges(&self, alloc: Global, key: &[u32], out: &mut KeyEdges) -> Result<(), OutOfMemory> {
-        let letters = self.leading_letters(alloc, key)?;
+        let mut edges = Vec::new(alloc);
+        let letters = self.leading_letters(alloc, key, &mut edges)?;
+        let rows = next_rows(alloc, self.readers, key, letters.len(), &mut edges)?;
         let mut states = vec![in alloc; 0; self.readers.len()]?;
         let next = states.as_mut_slice();
         for letter in &letters {
-            next_states(self.readers, key, *letter, next);
+            next_states(self.readers, key, &rows, *letter, next);
             self.push_live(*letter, next, out)?;
         }
         Ok(())
@@ -81,8 +85,14 @@ impl SideBySide<'_> {
     }
 
     // Letters in order, such that each other leads to no key: those by whose parts an edge leads on
-    // from some state, or all where these are not fewer, or where there is a key of sinks.
-    fn leading_letters(&self, alloc: Global, key: &[u32]) -> Result<Vec<u32>, OutOfMemory>
+    // from some state, or all where these are not fewer, or where there is a key of sinks. The edges
+    // are written over.
+    fn leading_letters(
+        &self,
+        alloc: Global,
+        key: &[u32],
+        edges: &mut Vec<Edge>,
+    ) -> Result<Vec<u32>, OutOfMemory>
         requires graph { AreSideBySide self.now.letters (readings_in self.now.readers.now) self.now.rule }
         requires key { AreStates (readings_in self.now.readers.now) key.now }
         ensures { IfOk result (λ letters. AreLeading self.now.letters (live_key_after self.now.rule (readings_in self.now.readers.now) key.now) letters.items) }
@@ -91,9 +101,8 @@ impl SideBySide<'_> {
             return numbers_below(alloc, self.letters);
         }
         let mut letters = Vec::new(alloc);
-        let mut row = Vec::new(alloc);
         for (place, reader) in self.readers.iter().enumerate() {
-            reader.add_letters(key[place], &mut row, &mut letters)?;
+            reader.add_letters(key[place], edges, &mut letters)?;
             if letters.len() >= self.letters as usize {
                 return numbers_below(alloc, self.letters);
             }

@@ -1,17 +1,37 @@
-use Rattle.std.proofs.Common.{◌≡◌, ℕ, ◌+◌, ◌<◌, List, length, set, ap, sym, ◌∙◌, subst, arith, below_more, get_or-set_same, get_or-set_other}
+use Rattle.std.proofs.Common.{◌≡◌, ℕ, ◌+◌, ◌<◌, List, length, get_or, set, ap, sym, ◌∙◌, subst, arith, below_more, get_or-set_same, get_or-set_other}
 use Rattle.std.proofs.lemmas.List.FromFn.{fill_by_all}
 use Rattle.minimise.specs.Classes.{next_of}
-use Rattle.product_op.specs.Readings.{Reading, readings_in, reading_at, part_read, state_at, no_reading}
+use Rattle.product_op.specs.declared.reader.Reader.{Reader}
+use Rattle.product_op.specs.NextRows.{IsNextRow}
+use Rattle.product_op.specs.Readings.{Reading, IsReading, AreReadings, reading_in, readings_in, reading_at, part_read, state_at, no_reading}
 use Rattle.product_op.proofs.ReaderLemmas.{length-readings, reading_at-reader}
 use Rattle.product_op.proofs.reader_states.next_states.Goals as goal
 
-pub next-requires : goal.next-requires
-next-requires c =
+-- what is known of the reader at a place
+is_reading_at : (letters : ℕ) (readers : List Reader) (place : ℕ) (r : Reader) → AreReadings letters (readings_in readers) → place < length readers → r ≡ get_or readers place r → IsReading letters (reading_in r)
+is_reading_at letters readers place r are within is =
+    subst (IsReading letters) (reading_at-reader readers place r within is) (are place no_reading (omega (arith, length-readings readers, within)))
+
+pub next-requires-clause-letter : goal.next-requires-clause-letter
+next-requires-clause-letter c =
+    let reading = is_reading_at c.requires.readers.0 c.args.readers.now c.loop-place.place c.index-readers-place.result c.requires.readers.1 c.loop-place-test.true c.index-readers-place.is in
+    omega (arith, reading.count, c.requires.readers.2)
+
+pub next-requires-clause-part : goal.next-requires-clause-part
+next-requires-clause-part c =
+    let reading = is_reading_at c.requires.readers.0 c.args.readers.now c.loop-place.place c.index-readers-place.result c.requires.readers.1 c.loop-place-test.true c.index-readers-place.is in
+    reading.within c.args.letter 0 (omega (arith, reading.count, c.requires.readers.2))
+
+pub next-requires-clause-row : goal.next-requires-clause-row
+next-requires-clause-row c =
     let readers = c.args.readers.now in
     let place = c.loop-place.place in
-    let count = (c.requires.readers.1 place no_reading (omega (arith, length-readings readers, c.loop-place-test.true))).count in
-    let long = subst (λ (r : Reading). length r.parts ≡ c.requires.readers.0) (reading_at-reader readers place c.index-readers-place.result c.loop-place-test.true c.index-readers-place.is) count in
-    omega (arith, long, c.requires.readers.2)
+    let state = state_at c.args.key.now place in
+    let here = reading_at-reader readers place c.index-readers-place.result c.loop-place-test.true c.index-readers-place.is in
+    let row = c.index-rows-place.result in
+    subst (λ (r : Reading). IsNextRow r.automaton state row) here
+    (subst (IsNextRow (reading_at (readings_in readers) place).automaton state) (sym c.index-rows-place.is)
+    (c.requires.rows.each place (omega (arith, length-readings readers, c.loop-place-test.true)) row))
 
 -- where the letter leads from the states of the first so many
 abbrev LeadTo : List Reading → List ℕ → ℕ → List ℕ → ℕ → Type 0
