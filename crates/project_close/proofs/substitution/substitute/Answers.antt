@@ -22,6 +22,22 @@ read_parts-requires-clause-sizes c =
     ∙ ap (picked (places_of c.args.names.now c.args.under.now)) made
     ∙ picked_under c.args.dfa.now.sizes c.args.under.now c.args.names.now c.requires
 
+pub returns-clause-language : goal.returns-clause-language
+returns-clause-language c =
+    let d = c.args.dfa.now in
+    let under = c.args.under.now in
+    let names = c.args.names.now in
+    let made : c.in_ok-alphabet.alphabet ≡ sizes_under d.sizes under names = c.in_ok-alphabet.ensures.sizes ∙ ap (λ ss. sizes_under ss under names) c.alphabet.ensures.sizes in
+    let places : c.deref.result.now ≡ places_of names under = c.deref.ensures.value ∙ c.in_ok-places.ensures in
+    IfOk-weaker c.new.result _ _
+    (λ tracked same w over.
+    let inside : IsWord (product c.in_ok-alphabet.alphabet) w = subst (λ ss. IsWord (product ss) w) (sym made) over in
+    sym (same w (subst (λ ss. IsWord (product ss) w) (sym c.in_ok-reader.ensures.sizes) inside))
+    ∙ c.in_ok-reader.ensures.language w inside
+    ∙ ap (λ ps. accepts_of d (part c.in_ok-alphabet.alphabet ps w)) places
+    ∙ ap (λ ss. accepts_of d (part ss (places_of names under) w)) made)
+    c.new.ensures.language
+
 pub returns-clause-read : goal.returns-clause-read
 returns-clause-read c =
     let d = c.args.dfa.now in
