@@ -85,3 +85,18 @@ module _ (way : Direction) (adder next : Automaton) (a b c made : NamedAutomaton
       let here : IsJoin And [] (sum_on adder name_x name_y name_w) (order_on next name_w name_z) c =
       subst (λ (t : NamedAutomaton). IsJoin And [] t (order_on next name_w name_z) c) first (subst (λ (t : NamedAutomaton). IsJoin And [] a t c) second join) in
       projection.sizes ∙ staying c d name_w name_x name_y name_z refl here.names (here.sizes ∙ of_sums_sizes adder next d sums pairs) ∙ sym sums
+
+-- the track that is projected away is one of the four
+pub with_next_there : (adder next : Automaton) (a b c : NamedAutomaton) → a ≡ order_on next name_y name_v → b ≡ sum_on adder name_x name_v name_z → IsJoin And [] a b c → Contains c.names name_v
+with_next_there adder next a b c first second join =
+    let here : IsJoin And [] (order_on next name_y name_v) (sum_on adder name_x name_v name_z) c =
+    subst (λ (t : NamedAutomaton). IsJoin And [] t (sum_on adder name_x name_v name_z) c) first (subst (λ (t : NamedAutomaton). IsJoin And [] a t c) second join) in
+    let names : c.names ≡ name_v ∷ name_x ∷ name_y ∷ name_z ∷ [] = here.names in
+    subst (λ (ns : List (List ℕ)). Contains ns name_v) (sym names) (0, omega arith, refl)
+
+pub of_sums_there : (adder next : Automaton) (a b c : NamedAutomaton) → a ≡ sum_on adder name_x name_y name_w → b ≡ order_on next name_w name_z → IsJoin And [] a b c → Contains c.names name_w
+of_sums_there adder next a b c first second join =
+    let here : IsJoin And [] (sum_on adder name_x name_y name_w) (order_on next name_w name_z) c =
+    subst (λ (t : NamedAutomaton). IsJoin And [] t (order_on next name_w name_z) c) first (subst (λ (t : NamedAutomaton). IsJoin And [] a t c) second join) in
+    let names : c.names ≡ name_w ∷ name_x ∷ name_y ∷ name_z ∷ [] = here.names in
+    subst (λ (ns : List (List ℕ)). Contains ns name_w) (sym names) (0, omega arith, refl)

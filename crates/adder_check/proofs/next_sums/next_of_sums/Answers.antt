@@ -1,15 +1,22 @@
-use Rattle.std.proofs.Common.{List, ℕ, subst}
+use Rattle.std.proofs.Common.{List, ℕ, subst, sym}
+use Rattle.std.specs.List.{Contains}
 use Rattle.std.proofs.lemmas.Result.{IfOk-weaker}
 use Rattle.automaton_steps.specs.ProjectSteps.{DoesProject}
 use Rattle.adder_check.specs.NextSums.{name_w}
 use Rattle.adder_check.proofs.PlanLemmas.{projected}
-use Rattle.adder_check.proofs.NextSumSizes.{of_sums_agree, of_sums_projected}
+use Rattle.adder_check.proofs.NextSumSizes.{of_sums_agree, of_sums_projected, of_sums_there}
 use Rattle.adder_check.proofs.NextSumLemmas.{of_sums_holds}
 use Rattle.adder_check.proofs.next_sums.next_of_sums.Goals as goal
 
 pub join_step-requires-clause-agree : goal.join_step-requires-clause-agree
 join_step-requires-clause-agree c =
     of_sums_agree c.args.adder.now c.args.next.now c.requires.tracks.0 c.requires.tracks.1 c.requires.tracks.2 c.in_ok-sum.sum c.in_ok-following.following c.in_ok-sum.ensures c.in_ok-following.ensures
+
+pub project_step-requires : goal.project_step-requires
+project_step-requires c = record {
+  there = subst (Contains c.in_ok-joined.joined.names) (sym c.in_ok-w.ensures)
+      (of_sums_there c.args.adder.now c.args.next.now c.in_ok-sum.sum c.in_ok-following.following c.in_ok-joined.joined c.in_ok-sum.ensures c.in_ok-following.ensures c.in_ok-joined.ensures.step.join);
+}
 
 pub returns-clause-sizes : goal.returns-clause-sizes
 returns-clause-sizes c =
