@@ -1,18 +1,15 @@
 -- One more digit on a track, at the end of the last list or in a list of its own.
-use Rattle.std.proofs.Common.{◌≡◌, ℕ, zero, suc, ◌+◌, ◌*◌, ◌/◌, ◌%◌, ◌<◌, ◌≤◌, ◌⊎◌, inl, inr, List, [], ◌∷◌, ◌++◌, map, length, get_or, Option, None, Some, Result, Ok, Err, refl, sym, ap, ◌∙◌, subst, length-append, arith}
+use Rattle.std.proofs.Common.{◌≡◌, ℕ, zero, suc, ◌+◌, ◌<◌, ◌≤◌, ◌⊎◌, inl, inr, List, [], ◌∷◌, ◌++◌, length, get_or, Some, Result, Ok, Err, refl, length-append, arith}
 use Rattle.std.specs.List.{sum_by, AllPairs, AllByRecursion}
 use Rattle.std.specs.Result.{OnOk}
 use Rattle.std.proofs.lemmas.Bool.{cases_order}
-use Rattle.std.proofs.lemmas.Nat.{div-add-mod'}
 use Rattle.std.proofs.lemmas.List.Elements.{All-push}
 use Rattle.std.proofs.lemmas.List.Quantifiers.{all_pairs_push}
 use Rattle.std.proofs.lemmas.List.Sums.{sum_by-cons, sum_by_push}
 use Rattle.digit_tuple.specs.NumberLists.{extended, last_of, last_number}
-use Rattle.digit_tuple.specs.Reversed.{edge_to}
-use Rattle.digit_tuple.specs.Decisions.{behind, AreDigitsBelow, HasEdge, IsTrack, GoesOn}
+use Rattle.digit_tuple.specs.Decisions.{AreDigitsBelow, HasEdge, IsTrack}
 use Rattle.digit_tuple.specs.declared.edges.Edge.{Edge}
 use Rattle.digit_tuple.specs.declared.decisions.Track.{Track}
-use Rattle.digit_tuple.proofs.JoinedRows.{last_of-le, length-extended}
 
 pub all_push : {A : Type 0} (P : A → Type 0) (xs : List A) (x : A) → AllByRecursion P xs → P x → AllByRecursion P (xs ++ x ∷ [])
 all_push P [] x all here = (here, tt)
@@ -68,44 +65,6 @@ AreDigitsBelow-more size d (n ∷ ns) are less above = record {
   ascending = all_pairs_push (λ e f. e < f) (n ∷ ns) d are.ascending (λ k z within. let low = below_last n ns are.ascending k z within in let high = above (last_of ns n) refl in omega (arith, low, high));
 }
 
--- what is above the last where it goes on, and not by the last itself
-pub above_last : (o : Option ℕ) (d : ℕ) (Rest : Type 0) → GoesOn o d Rest → (o ≡ Some d → ⊥) → (l : ℕ) → o ≡ Some l → l < d
-above_last None d Rest goes other l same = absurd (let none : ⊥ = cc in none)
-above_last (Some last) d Rest (inl less) other l same = let is : last ≡ l = cc in omega (arith, is, less)
-above_last (Some last) d Rest (inr rest) other l same = absurd (other (ap (λ n. Some n) rest.0))
-
--- where it goes on by the last itself
-pub goes_down : (o : Option ℕ) (d : ℕ) (Rest : Type 0) → GoesOn o d Rest → o ≡ Some d → Rest
-goes_down None d Rest goes same = absurd (let none : ⊥ = cc in none)
-goes_down (Some last) d Rest (inl less) same = let is : last ≡ d = cc in absurd (omega (arith, is, less))
-goes_down (Some last) d Rest (inr rest) same = rest.1
-
--- a last number stands at the end of a list that has one
-pub last_cell : (ns : List ℕ) (d : ℕ) → last_number ns ≡ Some d → (n : ℕ) × (rest : List ℕ) × (ns ≡ n ∷ rest) × (last_of rest n ≡ d)
-last_cell [] d is = absurd (let none : ⊥ = cc in none)
-last_cell (n ∷ rest) d is = (n, rest, refl, (let same : last_of rest n ≡ d = cc in same))
-
--- so there is a digit
-pub some_digit : (xs : List (List ℕ)) (d : ℕ) → last_number (last_of xs []) ≡ Some d → 0 < sum_by length xs
-some_digit xs d is = let cell = last_cell (last_of xs []) d is in omega (arith, last_of-le xs [], ap length cell.2)
-
--- the edge behind the digit of its letter
-pub behind-split : (letter w target : ℕ) → map (behind (letter / w * w)) (edge_to (letter % w) target ∷ []) ≡ edge_to letter target ∷ []
-behind-split letter w target = ap (λ n. edge_to n target ∷ []) (div-add-mod' letter w)
-
-HasEdge-more : (row : List Edge) (e : Edge) → HasEdge (row ++ e ∷ [])
-HasEdge-more row e = omega (arith, length-append row (e ∷ []))
-
--- one more list of one digit on a track
-pub IsTrack-push : (track : Track) (letters d : ℕ) (rows : List (List Edge)) (e : Edge) → IsTrack track letters rows → d < track.size
-    → IsTrack (record { size = track.size; weight = track.weight; digits = track.digits ++ (d ∷ []) ∷ [] }) letters (rows ++ (e ∷ []) ∷ [])
-IsTrack-push track letters d rows e is less = record {
-  weight = is.weight;
-  count = omega (arith, is.count, sum_by_push length track.digits (d ∷ []), length-append rows ((e ∷ []) ∷ []));
-  digits = all_push (AreDigitsBelow track.size) track.digits (d ∷ []) is.digits (AreDigitsBelow-one track.size d less);
-  filled = all_push HasEdge rows (e ∷ []) is.filled (omega arith);
-}
-
 -- one more empty list
 pub IsTrack-begin : (track : Track) (letters : ℕ) (rows : List (List Edge)) → IsTrack track letters rows → IsTrack (record { size = track.size; weight = track.weight; digits = track.digits ++ [] ∷ [] }) letters rows
 IsTrack-begin track letters rows is = record {
@@ -115,35 +74,16 @@ IsTrack-begin track letters rows is = record {
   filled = is.filled;
 }
 
--- one more digit at the end of the last list
-pub IsTrack-more : (track : Track) (letters d : ℕ) (rows : List (List Edge)) (e : Edge) → IsTrack track letters rows → d < track.size → 0 < length track.digits
+-- one more digit at the end of the last list, and a row behind it
+pub IsTrack-more : (track : Track) (letters d : ℕ) (rows : List (List Edge)) (row : List Edge) → IsTrack track letters rows → d < track.size → 0 < length track.digits → HasEdge row
     → ((l : ℕ) → last_number (last_of track.digits []) ≡ Some l → l < d)
-    → IsTrack (record { size = track.size; weight = track.weight; digits = extended track.digits (d ∷ []) }) letters (rows ++ (e ∷ []) ∷ [])
-IsTrack-more track letters d rows e is less some above = record {
+    → IsTrack (record { size = track.size; weight = track.weight; digits = extended track.digits (d ∷ []) }) letters (rows ++ row ∷ [])
+IsTrack-more track letters d rows row is less some edge above = record {
   weight = is.weight;
-  count = omega (arith, is.count, sum-extended track.digits d some, length-append rows ((e ∷ []) ∷ []));
+  count = omega (arith, is.count, sum-extended track.digits d some, length-append rows (row ∷ []));
   digits = all_extended (AreDigitsBelow track.size) track.digits (d ∷ []) is.digits
       (AreDigitsBelow-more track.size d (last_of track.digits []) (all_last (AreDigitsBelow track.size) track.digits [] is.digits (record { below = λ k z within. absurd (omega arith); ascending = λ i j z before within. absurd (omega arith) })) less above);
-  filled = all_push HasEdge rows (e ∷ []) is.filled (omega arith);
-}
-
--- one more edge in the row behind the last digit
-pub IsTrack-extended : (track : Track) (letters : ℕ) (rows : List (List Edge)) (e : Edge) → IsTrack track letters rows → IsTrack track letters (extended rows (e ∷ []))
-IsTrack-extended track letters rows e is = record {
-  weight = is.weight;
-  count = is.count ∙ sym (length-extended rows (e ∷ []));
-  digits = is.digits;
-  filled = all_extended HasEdge rows (e ∷ []) is.filled (HasEdge-more (last_of rows []) e);
-}
-
--- the same digits before the same rows
-pub IsTrack-same : (size weight letters letters' : ℕ) (ds ds' : List (List ℕ)) (rows rows' : List (List Edge)) → ds' ≡ ds → letters' ≡ letters → rows' ≡ rows
-    → IsTrack (record { size = size; weight = weight; digits = ds }) letters rows → IsTrack (record { size = size; weight = weight; digits = ds' }) letters' rows'
-IsTrack-same size weight letters letters' ds ds' rows rows' d l r is = record {
-  weight = is.weight ∙ sym l;
-  count = ap (λ (xs : List (List ℕ)). sum_by length xs) d ∙ is.count ∙ ap length (sym r);
-  digits = subst (AllByRecursion (AreDigitsBelow size)) (sym d) is.digits;
-  filled = subst (AllByRecursion HasEdge) (sym r) is.filled;
+  filled = all_push HasEdge rows row is.filled edge;
 }
 
 pub on_any : {T E : Type 0} (r : Result T E) (P : Type 0) → P → OnOk r P

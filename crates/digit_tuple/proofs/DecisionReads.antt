@@ -1,8 +1,8 @@
 -- What rows that are kept as decisions tell: their letters are in range, and they have few digits.
-use Rattle.std.proofs.Common.{◌≡◌, ◌≢◌, ℕ, suc, zero, ◌+◌, ◌*◌, ◌/◌, ◌%◌, ◌<◌, ◌≤◌, ◌⊎◌, inl, inr, List, [], ◌∷◌, ◌++◌, map, take, drop, length, get_or, refl, sym, ap, ◌∙◌, subst, add-one, length-drop, Box, Global, arith}
+use Rattle.std.proofs.Common.{◌≡◌, ◌≢◌, ℕ, suc, zero, ◌+◌, ◌*◌, ◌<◌, ◌≤◌, ◌⊎◌, inl, inr, List, [], ◌∷◌, ◌++◌, map, take, drop, length, get_or, refl, sym, ap, ◌∙◌, subst, add-one, length-drop, Box, Global, arith}
 use Rattle.std.specs.List.{sum_by, All, AllPairs, AllByRecursion}
 use Rattle.std.proofs.lemmas.Bool.{cases_lt, cases_order}
-use Rattle.std.proofs.lemmas.Nat.{mul-le, div_below, mod_below}
+use Rattle.std.proofs.lemmas.Nat.{mul-le}
 use Rattle.std.proofs.lemmas.List.{get_or_default, get_or-drop, map-append}
 use Rattle.std.proofs.lemmas.List.Sums.{sum_by-cons}
 use Rattle.digit_tuple.specs.Letters.{product}
@@ -11,7 +11,6 @@ use Rattle.digit_tuple.specs.declared.edges.Edge.{Edge}
 use Rattle.digit_tuple.specs.declared.decisions.Track.{Track}
 use Rattle.digit_tuple.specs.declared.decisions.Decisions.{Decisions}
 use Rattle.digit_tuple.specs.declared.decisions.Decisions.TheVariants.{Targets, OnTrack'}
-use Rattle.digit_tuple.proofs.LetterLemmas.{positive_right}
 use Rattle.digit_tuple.proofs.JoinedRows.{length-joined_rows}
 use Rattle.digit_tuple.proofs.JoinedReads.{AreBelow, AreBelow-rows, sum-joined_rows, rows-le-edges, places_within, joined_rows-at, joined_more, map-behind, all_at, all_drop}
 
@@ -124,27 +123,6 @@ not_found ns n at before after k z within same = by (cases_lt k at)
     by : (k < at) ⊎ (at ≤ k) → ⊥
     by (inl less) = omega (arith, read, before k less)
     by (inr more) = omega (arith, read, after k more within)
-
--- what sound decisions say of a letter where there is a track: its digit is of the track, and the rest a letter of the later ones
-pub record IsLetterOn (track : Track) (below : Decisions) (letter : ℕ) : Type 0 where
-  pub track_is : IsTrack track (product (sizes_in below)) (rows_in below)
-  pub below_is : IsSound below
-  pub digit : letter / track.weight < track.size
-  pub rest : letter % track.weight < product (sizes_in below)
-
-pub IsLetterOn-sound : (d : Decisions) (track : Track) (p : Box (Unit {0}) Global) (below : Decisions) (letter : ℕ) → d ≡ OnTrack' track p below → IsSound d → letter < product (sizes_in d) → IsLetterOn track below letter
-IsLetterOn-sound d track p below letter is sound within =
-    let both : IsTrack track (product (sizes_in below)) (rows_in below) × IsSound below = subst IsSound is sound in
-    let whole : letter < track.size * product (sizes_in below) = subst (λ (d : Decisions). letter < product (sizes_in d)) is within in
-    let weight : product (sizes_in below) ≡ track.weight = sym both.0.weight in
-    let less : letter < track.size * track.weight = subst (λ n. letter < track.size * n) weight whole in
-    let positive : 0 < track.weight = positive_right track.size track.weight (omega (arith, less)) in
-    record {
-      track_is = both.0;
-      below_is = both.1;
-      digit = div_below letter track.weight track.size positive less;
-      rest = omega (arith, mod_below letter track.weight positive, weight);
-    }
 
 -- the rows behind its digits have letters of the later tracks, and have edges
 pub letters-behind : (track : Track) (below : Decisions) (place : ℕ) → IsRowOn track below place → AllByRecursion (AreBelow track.weight) (drop (start_at track place) (rows_in below))

@@ -17,7 +17,7 @@ joined-take w [] rows = refl
 joined-take w (d ∷ ds) [] = refl
 joined-take w (d ∷ ds) (r ∷ rows) = ap (λ es. map (behind (d * w)) r ++ es) (joined-take w ds rows)
 
-drop-drop : {A : Type 0} (m n : ℕ) (xs : List A) → drop n (drop m xs) ≡ drop (m + n) xs
+pub drop-drop : {A : Type 0} (m n : ℕ) (xs : List A) → drop n (drop m xs) ≡ drop (m + n) xs
 drop-drop zero n xs = let same : 0 + n ≡ n = omega arith in ap (λ k. drop k xs) (sym same)
 drop-drop (suc m) zero [] = let same : suc m + 0 ≡ suc m = omega arith in ap (λ k. drop k []) (sym same)
 drop-drop (suc m) (suc n) [] = let same : suc m + suc n ≡ suc (m + suc n) = omega arith in ap (λ k. drop k []) (sym same)

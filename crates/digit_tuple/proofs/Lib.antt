@@ -51,6 +51,7 @@ pub mod JoinedRows
 pub mod DecisionLemmas
 pub mod JoinedReads
 pub mod DecisionReads
+pub mod RowGrowthLemmas
 pub mod BlockLemmas
 pub mod SparseRowLemmas
 pub mod CellLemmas

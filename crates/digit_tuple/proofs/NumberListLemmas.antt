@@ -1,11 +1,11 @@
 -- Lists that stand one behind another in one list of numbers.
-use Rattle.std.proofs.Common.{◌≡◌, ℕ, zero, suc, ◌+◌, ◌-◌, ◌*◌, ◌<◌, ◌≤◌, List, [], ◌∷◌, ◌++◌, take, drop, replicate, length, get_or, refl, sym, ap, ◌∙◌, length-append, length-drop, length-take, arith, Some}
-use Rattle.std.specs.List.{slice_range, slice_get, sum_by}
+use Rattle.std.proofs.Common.{◌≡◌, ℕ, zero, suc, ◌+◌, ◌-◌, ◌*◌, ◌<◌, ◌≤◌, List, [], ◌∷◌, ◌++◌, take, drop, replicate, length, get_or, refl, sym, ap, ◌∙◌, length-append, length-drop, length-take, arith}
+use Rattle.std.specs.List.{slice_range, sum_by}
 use Rattle.std.proofs.Math.Seq.{take-append-add}
 use Rattle.std.proofs.lemmas.List.{append_assoc, drop-append-le, get_or_append_left, get_or-append_right, get_or-replicate, length-replicate, take-append-le, take-replicate, take_all}
 use Rattle.std.proofs.lemmas.List.Folds.{sum_by-replicate}
 use Rattle.std.proofs.lemmas.List.Sums.{sum_by-append, sum_by-cons}
-use Rattle.digit_tuple.specs.NumberLists.{first_place, lists_at, lists_of, AreAscendingPlaces, AreStarts, AreLists, extended, last_of, last_number}
+use Rattle.digit_tuple.specs.NumberLists.{first_place, lists_at, lists_of, AreAscendingPlaces, AreStarts, AreLists, extended}
 use Rattle.digit_tuple.proofs.KeySpanLemmas.{slice_range-append}
 
 pub length-lists_at : (starts numbers : List ℕ) → length (lists_at starts numbers) ≡ length starts
@@ -103,28 +103,6 @@ pub AreAscendingPlaces-next : (starts : List ℕ) (end q d : ℕ) → AreAscendi
 AreAscendingPlaces-next [] end q d are within = absurd (omega arith)
 AreAscendingPlaces-next (s ∷ ss) end zero d are within = are.0
 AreAscendingPlaces-next (s ∷ ss) end (suc q) d are within = AreAscendingPlaces-next ss end q d are.1 (omega arith)
-
--- the last list
-pub last-list : (xs : List (List ℕ)) (n : ℕ) (x : List ℕ) → n ≡ length xs → get_or (x ∷ xs) n [] ≡ last_of xs x
-last-list [] zero x same = refl
-last-list [] (suc n) x same = absurd (omega arith)
-last-list (y ∷ xs) zero x same = absurd (omega arith)
-last-list (y ∷ xs) (suc n) x same = last-list xs n y (omega arith)
-
-pub last-list-at : (xs : List (List ℕ)) (n : ℕ) → suc n ≡ length xs → get_or xs n [] ≡ last_of xs []
-last-list-at [] n same = absurd (omega arith)
-last-list-at (x ∷ xs) n same = last-list xs n x (omega arith)
-
--- the last number
-last-number : (ns : List ℕ) (k n : ℕ) → k ≡ length ns → slice_get (n ∷ ns) k ≡ Some (last_of ns n)
-last-number [] zero n same = refl
-last-number [] (suc k) n same = absurd (omega arith)
-last-number (m ∷ ns) zero n same = absurd (omega arith)
-last-number (m ∷ ns) (suc k) n same = last-number ns k m (omega arith)
-
-pub last-number-at : (ns : List ℕ) → slice_get ns (length ns - 1) ≡ last_number ns
-last-number-at [] = refl
-last-number-at (n ∷ ns) = last-number ns (length (n ∷ ns) - 1) n (omega arith)
 
 -- how many lists there are
 pub length-lists_of : (same width : ℕ) (starts numbers : List ℕ) → length (lists_of same width starts numbers) ≡ same + length starts

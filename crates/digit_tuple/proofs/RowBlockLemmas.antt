@@ -1,5 +1,5 @@
 -- Rows that are kept in blocks: blocks with one more, blocks with the same rows, and the cells of all blocks.
-use Rattle.std.proofs.Common.{◌≡◌, ℕ, ◌+◌, ◌*◌, ◌<◌, ◌≤◌, List, [], ◌∷◌, ◌++◌, map, set, suc, zero, get_or, length, refl, sym, ap, ◌∙◌, subst, arith}
+use Rattle.std.proofs.Common.{◌≡◌, ℕ, ◌+◌, ◌*◌, ◌<◌, ◌≤◌, List, [], ◌∷◌, ◌++◌, map, set, suc, zero, get_or, length, refl, sym, ap, ◌∙◌, subst, append_assoc, arith}
 use Rattle.std.specs.List.{sum_by, AllByRecursion, flat_map}
 use Rattle.std.proofs.lemmas.Nat.{mul-le}
 use Rattle.std.proofs.Math.Seq.{map-set_same}
@@ -100,11 +100,12 @@ HaveSameRows-set xs i x y all there sound tracks rows = record {
   rows = map-set_same rows_in xs i y x (rows ∙ ap rows_in there);
 }
 
--- the edges of blocks of which the last has one row more
+-- the rows of blocks of which the last has one row more, and how many edges they have
+pub rows-pushed : (xs : List Decisions) (x y : Decisions) (row : List Edge) → rows_in y ≡ rows_in x ++ row ∷ [] → flat_map rows_in (xs ++ y ∷ []) ≡ (flat_map rows_in xs ++ rows_in x) ++ row ∷ []
+rows-pushed xs x y row rows = sym (flat_map_more rows_in [] xs y) ∙ ap (λ rs. flat_map rows_in xs ++ rs) rows ∙ sym (append_assoc (flat_map rows_in xs) (rows_in x) (row ∷ []))
+
 pub edges-pushed : (xs : List Decisions) (x y : Decisions) (row : List Edge) → rows_in y ≡ rows_in x ++ row ∷ [] → sum_by length (flat_map rows_in (xs ++ y ∷ [])) ≡ sum_by length (flat_map rows_in xs ++ rows_in x) + length row
-edges-pushed xs x y row rows =
-    let turned : flat_map rows_in (xs ++ y ∷ []) ≡ flat_map rows_in xs ++ (rows_in x ++ row ∷ []) = sym (flat_map_more rows_in [] xs y) ∙ ap (λ rs. flat_map rows_in xs ++ rs) rows in
-    omega (arith, ap (sum_by length) turned, sum_by-append length (flat_map rows_in xs) (rows_in x ++ row ∷ []), sum_by_push length (rows_in x) row, sum_by-append length (flat_map rows_in xs) (rows_in x))
+edges-pushed xs x y row rows = ap (sum_by length) (rows-pushed xs x y row rows) ∙ sum_by_push length (flat_map rows_in xs ++ rows_in x) row
 
 -- the digits that all blocks keep are the cells of their rows
 pub block_cells : (sizes : List ℕ) (xs : List Decisions) → AllByRecursion (AreOver sizes) xs → 0 < length sizes → sum_by cells_in xs ≡ sum_by (cells_of sizes) (flat_map rows_in xs)

@@ -1,9 +1,8 @@
 -- Rows of edges kept as decisions by tracks: on each track the digits that go on, and behind each its row on the later tracks.
-use Rattle.std.specs.Prelude.{◌≡◌, ℕ, ◌+◌, ◌*◌, ◌/◌, ◌%◌, ◌<◌, ◌⊎◌, List, [], ◌∷◌, ◌++◌, length, map, take, drop, sum_by, Option, None, Some, ⊤}
+use Rattle.std.specs.Prelude.{◌≡◌, ℕ, ◌+◌, ◌-◌, ◌*◌, ◌<◌, ◌≤◌, List, [], ◌∷◌, ◌++◌, length, map, take, drop, sum_by, Some, ⊤}
 use Rattle.std.specs.List.{All, AllPairs, AllByRecursion}
 use Rattle.digit_tuple.specs.Letters.{product}
 use Rattle.digit_tuple.specs.Deterministic.{target_by}
-use Rattle.digit_tuple.specs.NumberLists.{last_of, last_number}
 use Rattle.digit_tuple.specs.Reversed.{edge_to}
 use Rattle.digit_tuple.specs.declared.edges.Edge.{Edge}
 use Rattle.digit_tuple.specs.declared.decisions.Track.{Track}
@@ -13,6 +12,14 @@ use Rattle.digit_tuple.specs.declared.decisions.Decisions.TheVariants.{Targets, 
 -- the edge with so much added to its letter
 abbrev pub behind : ℕ → Edge → Edge
 behind base edge = edge_to (base + edge.letter) edge.target
+
+-- the edge with so much taken from its letter
+abbrev pub ahead : ℕ → Edge → Edge
+ahead base edge = edge_to (edge.letter - base) edge.target
+
+-- the edge is by one of so many letters from the base on
+abbrev pub IsFrom : ℕ → ℕ → Edge → Type 0
+IsFrom base letters edge = (base ≤ edge.letter) × (edge.letter < base + letters)
 
 -- the edges behind the digits of a track, in turn: each digit counts as so many letters, and has its row on the later tracks
 abbrev pub joined : ℕ → List ℕ → List (List Edge) → List Edge
@@ -62,21 +69,6 @@ pub record IsTrack (track : Track) (letters : ℕ) (rows : List (List Edge)) : T
 abbrev pub IsSound : Decisions → Type 0
 IsSound (Targets targets) = ⊤
 IsSound (OnTrack' track p below) = IsTrack track (product (sizes_in below)) (rows_in below) × IsSound below
-
--- the last row ends in an edge by the letter
-abbrev pub EndsIn : Decisions → ℕ → Type 0
-EndsIn (Targets targets) letter = letter ≡ 0
-EndsIn (OnTrack' track p below) letter = (last_number (last_of track.digits []) ≡ Some (letter / track.weight)) × EndsIn below (letter % track.weight)
-
--- the digit is above the last, or it is the last and the rest goes on
-abbrev pub GoesOn : Option ℕ → ℕ → Type 0 → Type 0
-GoesOn None digit Rest = ⊤
-GoesOn (Some last) digit Rest = (last < digit) ⊎ ((last ≡ digit) × Rest)
-
--- an edge by the letter may follow at the end of the last row
-abbrev pub CanFollow : Decisions → ℕ → Type 0
-CanFollow (Targets targets) letter = ⊥
-CanFollow (OnTrack' track p below) letter = GoesOn (last_number (last_of track.digits [])) (letter / track.weight) (CanFollow below (letter % track.weight))
 
 -- the row leads by the letter of the edge to where this leads
 abbrev pub LeadsAs : List Edge → Edge → Type 0

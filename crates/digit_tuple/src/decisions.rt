@@ -1,12 +1,10 @@
 //! Rows of edges as decisions by tracks.
 
-ghost use Rattle.std.specs.Prelude.{◌≡◌, ◌≢◌, ℕ, ◌+◌, ◌*◌, ◌<◌, ◌↔◌, ◌^◌, ◌++◌, ◌∷◌, [], List, length, map, Some, IfOk, OnOk, IfSome, IfNone, IsTrue, slice_index, slice_index_or, sum_by};
-ghost use Rattle.digit_tuple.specs.Decisions.{rows_in, sizes_in, cells_in, joined_rows, only_edge, IsSound, IsTrack, EndsIn, CanFollow, LeadsAs, behind};
+ghost use Rattle.std.specs.Prelude.{◌≡◌, ◌≢◌, ℕ, ◌+◌, ◌*◌, ◌<◌, ◌≤◌, ◌↔◌, ◌^◌, ◌++◌, ◌∷◌, [], List, length, map, Some, IfOk, OnOk, IfSome, IfNone, IsTrue, slice_index, slice_index_or, sum_by, take, drop};
+ghost use Rattle.digit_tuple.specs.Decisions.{rows_in, sizes_in, cells_in, joined_rows, only_edge, IsFrom, IsSound, IsTrack, LeadsAs, ahead, behind};
 ghost use Rattle.std.specs.List.{All, AllPairs, AllByRecursion};
-ghost use Rattle.digit_tuple.specs.Deterministic.{target_by};
+ghost use Rattle.digit_tuple.specs.Deterministic.{IsByEarlier, target_by};
 ghost use Rattle.digit_tuple.specs.Letters.{product};
-ghost use Rattle.digit_tuple.specs.NumberLists.{extended};
-ghost use Rattle.digit_tuple.specs.Reversed.{edge_to};
 
 use crate::edges::Edge;
 use crate::faults::OutOfMemory;
@@ -34,53 +32,25 @@ pub(crate) struct Track {
 }
 
 impl Decisions {
-    /// Adds a row of one edge. What a refused call leaves is of no use.
-    pub(crate) fn add_row(&mut self, letter: u32, target: u32) -> Result<(), OutOfMemory>
+    /// Adds a row of the edges, each letter with the base taken from it. On no track there is one edge. What a
+    /// refused call leaves is of no use.
+    #[cycle(row)]
+    pub(crate) fn add_row(&mut self, base: u32, edges: &[Edge]) -> Result<(), OutOfMemory>
         requires sound { IsSound self.old }
-        requires letter { letter < product (sizes_in self.old) }
-        requires narrow { letter < 2 ^ 16 }
+        requires some { 0 < length (sizes_in self.old) + length edges.now }
+        requires letters { All (IsFrom base (product (sizes_in self.old))) edges.now }
+        requires ascending { AllPairs IsByEarlier edges.now }
+        requires narrow { base + product (sizes_in self.old) ≤ 2 ^ 16 }
         ensures sound { OnOk result (IsSound self.new) }
         ensures sizes { OnOk result (sizes_in self.new ≡ sizes_in self.old) }
-        ensures rows { OnOk result (rows_in self.new ≡ rows_in self.old ++ (edge_to letter target ∷ []) ∷ []) }
-        ensures ends { OnOk result (EndsIn self.new letter) }
+        ensures rows { OnOk result (rows_in self.new ≡ rows_in self.old ++ map (ahead base) edges.now ∷ []) }
     {
         match self {
             Decisions::Targets(targets) => {
-                targets.push(target)?;
+                targets.push(edges[0].target)?;
                 Ok(())
             }
-            Decisions::OnTrack(track, below) => {
-                track.digits.begin()?;
-                track.digits.add(letter / track.weight)?;
-                below.add_row(letter % track.weight, target)
-            }
-        }
-    }
-
-    /// Adds an edge at the end of the last row. What a refused call leaves is of no use.
-    pub(crate) fn extend_row(&mut self, letter: u32, target: u32) -> Result<(), OutOfMemory>
-        requires sound { IsSound self.old }
-        requires letter { letter < product (sizes_in self.old) }
-        requires narrow { letter < 2 ^ 16 }
-        requires some { 0 < length (rows_in self.old) }
-        requires follows { CanFollow self.old letter }
-        ensures sound { OnOk result (IsSound self.new) }
-        ensures sizes { OnOk result (sizes_in self.new ≡ sizes_in self.old) }
-        ensures rows { OnOk result (rows_in self.new ≡ extended (rows_in self.old) (edge_to letter target ∷ [])) }
-        ensures ends { OnOk result (EndsIn self.new letter) }
-    {
-        match self {
-            Decisions::Targets(_) => Ok(()),
-            Decisions::OnTrack(track, below) => {
-                let digit = letter / track.weight;
-                let rest = letter % track.weight;
-                if track.digits.ends_in(digit) {
-                    below.extend_row(rest, target)
-                } else {
-                    track.digits.add(digit)?;
-                    below.add_row(rest, target)
-                }
-            }
+            Decisions::OnTrack(track, below) => track.add_row(below, base, edges),
         }
     }
 
@@ -120,21 +90,6 @@ impl Decisions {
         };
         let targets = Decisions::Targets(Vec::with_capacity(alloc, FIRST_ROWS)?);
         Ok(Decisions::OnTrack(track, Box::new(alloc, targets)?))
-    }
-
-    /// Adds an empty row. There is a track. What a refused call leaves is of no use.
-    pub(crate) fn begin_row(&mut self) -> Result<(), OutOfMemory>
-        requires sound { IsSound self.old }
-        requires track { 0 < length (sizes_in self.old) }
-        ensures sound { OnOk result (IsSound self.new) }
-        ensures sizes { OnOk result (sizes_in self.new ≡ sizes_in self.old) }
-        ensures rows { OnOk result (rows_in self.new ≡ rows_in self.old ++ [] ∷ []) }
-        ensures follows { OnOk result ((letter : ℕ) → CanFollow self.new letter) }
-    {
-        match self {
-            Decisions::Targets(_) => Ok(()),
-            Decisions::OnTrack(track, _) => track.digits.begin(),
-        }
     }
 
     /// Writes the edges of a row at the end of others, each letter with so much added.
@@ -320,6 +275,67 @@ impl Decisions {
 }
 
 impl Track {
+    // Adds a row of the edges, each letter with the base taken from it: a digit for each run of edges that have it,
+    // and behind it the row of the run. What a refused call leaves is of no use.
+    #[cycle(row)]
+    fn add_row(
+        &mut self,
+        below: &mut Decisions,
+        base: u32,
+        edges: &[Edge],
+    ) -> Result<(), OutOfMemory>
+        requires track { IsTrack self.old (product (sizes_in below.old)) (rows_in below.old) }
+        requires below { IsSound below.old }
+        requires letters { All (IsFrom base (self.old.size * self.old.weight)) edges.now }
+        requires ascending { AllPairs IsByEarlier edges.now }
+        requires narrow { base + self.old.size * self.old.weight ≤ 2 ^ 16 }
+        ensures track { OnOk result (IsTrack self.new (product (sizes_in below.new)) (rows_in below.new)) }
+        ensures below { OnOk result (IsSound below.new) }
+        ensures size { OnOk result (self.new.size ≡ self.old.size) }
+        ensures sizes { OnOk result (sizes_in below.new ≡ sizes_in below.old) }
+        ensures rows { OnOk result (joined_rows self.new.weight self.new.digits (rows_in below.new) ≡ joined_rows self.old.weight self.old.digits (rows_in below.old) ++ map (ahead base) edges.now ∷ []) }
+    {
+        if let Decisions::Targets(targets) = below {
+            return self.add_last_row(targets, base, edges);
+        }
+        self.digits.begin()?;
+        let mut start = 0;
+        while start < edges.len() {
+            let rest = &edges[start..];
+            let digit = (rest[0].letter - base) / self.weight;
+            let low = base + digit * self.weight;
+            let count = run_length(rest, low + self.weight);
+            self.digits.add(digit)?;
+            below.add_row(low, &rest[..count])?;
+            start += count;
+        }
+        Ok(())
+    }
+
+    // Adds a row of the edges, each letter with the base taken from it, where no track is later: behind each digit
+    // is a target. What a refused call leaves is of no use.
+    fn add_last_row(
+        &mut self,
+        targets: &mut Vec<u32>,
+        base: u32,
+        edges: &[Edge],
+    ) -> Result<(), OutOfMemory>
+        requires track { IsTrack self.old 1 (map only_edge targets.old.items) }
+        requires letters { All (IsFrom base self.old.size) edges.now }
+        requires ascending { AllPairs IsByEarlier edges.now }
+        requires narrow { base + self.old.size ≤ 2 ^ 16 }
+        ensures track { OnOk result (IsTrack self.new 1 (map only_edge targets.new.items)) }
+        ensures size { OnOk result (self.new.size ≡ self.old.size) }
+        ensures rows { OnOk result (joined_rows self.new.weight self.new.digits (map only_edge targets.new.items) ≡ joined_rows self.old.weight self.old.digits (map only_edge targets.old.items) ++ map (ahead base) edges.now ∷ []) }
+    {
+        self.digits.begin()?;
+        for edge in edges {
+            self.digits.add(edge.letter - base)?;
+            targets.push(edge.target)?;
+        }
+        Ok(())
+    }
+
     // Writes the edges of a row at the end of others, where no track is later: behind each digit is a target.
     fn last_row_into(
         &self,
@@ -342,6 +358,21 @@ impl Track {
         }
         Ok(())
     }
+}
+
+// How many of the first edges are by letters below the bound.
+fn run_length(edges: &[Edge], bound: u32) -> usize
+    requires { AllPairs IsByEarlier edges.now }
+    ensures within { result ≤ length edges.now }
+    ensures below { All (λ edge. edge.letter < bound) (take result edges.now) }
+    ensures later { All (λ edge. bound ≤ edge.letter) (drop result edges.now) }
+{
+    for place in 0..edges.len() {
+        if edges[place].letter >= bound {
+            return place;
+        }
+    }
+    edges.len()
 }
 
 // The index of a digit among ascending ones, if it is one of them.

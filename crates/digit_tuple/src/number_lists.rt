@@ -1,7 +1,7 @@
 //! Lists of numbers in one buffer, of which the last one grows.
 
 ghost use Rattle.std.specs.Prelude.{◌≡◌, ℕ, ◌+◌, ◌^◌, ◌<◌, ◌≤◌, ◌↔◌, ◌++◌, ◌∷◌, [], List, length, take, sum_by, slice_index_or, slice_range, drop, Some, IsTrue, IfOk, OnOk};
-ghost use Rattle.digit_tuple.specs.NumberLists.{AreStarts, lists_at, extended, first_place, last_of, last_number};
+ghost use Rattle.digit_tuple.specs.NumberLists.{AreStarts, lists_at, extended, first_place};
 
 use crate::faults::OutOfMemory;
 use crate::starts::Starts;
@@ -81,19 +81,6 @@ impl NumberLists {
             &self.numbers[..self.width]
         } else {
             list_at(&self.starts, &self.numbers[self.width..], place - self.same)
-        }
-    }
-
-    /// Whether the last list ends in the number.
-    pub(crate) fn ends_in(&self, number: u32) -> bool
-        ensures { IsTrue result ↔ (last_number (last_of self.now []) ≡ Some number) }
-    {
-        if self.len() == 0 {
-            return false;
-        }
-        match self.list(self.len() - 1).last() {
-            Some(last) => u32::from(*last) == number,
-            None => false,
         }
     }
 

@@ -81,7 +81,7 @@ impl SparseRows {
             return Err(OutOfMemory);
         };
         let mut block = take_open_block(&tracks, &mut blocks)?;
-        add_edges(&mut block, edges)?;
+        block.add_row(0, edges)?;
         blocks.push(block)?;
         Ok(SparseRows {
             tracks,
@@ -255,22 +255,4 @@ fn no_decisions(alloc: Global, alphabet: &Alphabet) -> Result<Decisions, OutOfMe
         return Decisions::on_one_track(alloc, 1);
     }
     Decisions::bare(alloc, alphabet.sizes(), alphabet.letters())
-}
-
-// Adds a row of the edges. What a refused call leaves is of no use.
-fn add_edges(decisions: &mut Decisions, edges: &[Edge]) -> Result<(), OutOfMemory>
-    requires sound { IsSound decisions.old }
-    requires track { 0 < length (sizes_in decisions.old) }
-    requires in_range { All (λ edge. edge.letter < product (sizes_in decisions.old)) edges.now }
-    requires narrow { product (sizes_in decisions.old) ≤ 2 ^ 16 }
-    requires ascending { AllPairs IsByEarlier edges.now }
-    ensures sound { OnOk result (IsSound decisions.new) }
-    ensures sizes { OnOk result (sizes_in decisions.new ≡ sizes_in decisions.old) }
-    ensures rows { OnOk result (rows_in decisions.new ≡ rows_in decisions.old ++ edges.now ∷ []) }
-{
-    decisions.begin_row()?;
-    for edge in edges {
-        decisions.extend_row(edge.letter, edge.target)?;
-    }
-    Ok(())
 }
