@@ -14,6 +14,7 @@ pub mod NumberedLemmas
 pub mod RefiningLemmas
 pub mod StabilityLemmas
 pub mod FlatEdgeLemmas
+pub mod CountingSortLemmas
 pub mod TurnedEdgeLemmas
 pub mod HashLemmas
 pub mod ResidualLemmas
@@ -22,6 +23,8 @@ pub mod QuotientLemmas
 pub mod LeastLemmas
 pub mod SameLemmas
 pub mod GatheringLemmas
+pub mod StateOrderLemmas
+pub mod SpanLemmas
 pub mod PartitionLemmas
 pub mod PlaceLemmas
 pub mod LeadLemmas

@@ -1,23 +1,25 @@
 -- Classes that are parted by sets of states from which words lead to the same outputs.
-use Rattle.std.proofs.Common.{◌≡◌, ◌≢◌, ◌↔◌, ◌==◌, ℕ, suc, ◌+◌, ◌-◌, ◌<◌, ◌≤◌, Bool, true, false, List, [], ◌∷◌, ◌++◌, set, take, length, get_or, Option, None, Some, unwrap_or, if◌then◌else◌, ◌⊎◌, inl, inr, refl, sym, ap, ◌∙◌, subst, eq-eqb, arith, get_or-set_same, get_or-set_other, length-set}
-use Rattle.std.specs.List.{All, Contains, flat_map}
+use Rattle.std.proofs.Common.{◌≡◌, ◌≢◌, ◌↔◌, ◌==◌, ℕ, suc, ◌+◌, ◌-◌, ◌<◌, ◌≤◌, Bool, true, false, List, [], ◌∷◌, ◌++◌, set, take, length, get_or, Option, None, Some, unwrap_or, if◌then◌else◌, ◌⊎◌, inl, inr, refl, sym, ap, ◌∙◌, subst, arith, get_or-set_same, get_or-set_other, length-set, replicate}
+use Rattle.std.specs.List.{All, Contains, flat_map, range_with_len, slice_range}
 use Rattle.std.proofs.lemmas.Bool.{cases_lt, cases_eq, eqb-true}
 use Rattle.std.proofs.lemmas.Option.{none-some}
-use Rattle.std.proofs.lemmas.List.{take_more, length_push, get_or_push, get_or_append_left, get_or_default}
-use Rattle.std.proofs.lemmas.List.Elements.{All-push, All-filter, All-contains, Contains-get_or, Contains-push, Contains-push_cases, Contains-append_left}
+use Rattle.std.proofs.lemmas.List.{take_more, get_or_default, get_or_past, get_or-replicate, length-replicate}
+use Rattle.std.proofs.lemmas.List.FromFn.{get_or-range_with_len, length-range_with_len}
+use Rattle.std.proofs.lemmas.List.Elements.{All-push, All-contains, Contains-get_or, Contains-push, Contains-push_cases, Contains-append_left}
 use Rattle.digit_tuple.specs.declared.edges.Edge.{Edge}
 use Rattle.digit_tuple.specs.Deterministic.{Automaton, IsTable, letters_of, states_of, edges_of, step_of, target_by}
-use Rattle.digit_tuple.specs.Explored.{key_at}
 use Rattle.digit_tuple.specs.Reversed.{edge_to}
-use Rattle.digit_tuple.proofs.MemberLemmas.{Contains-none, Contains-head, Contains-tail, Contains-cases, Contains-filter, Contains-from_filter, Contains-map, Contains-from_map, Contains-flat_map, Contains-from_flat_map}
-use Rattle.minimise.specs.declared.partition.ClassSize.{ClassSize}
+use Rattle.digit_tuple.proofs.MemberLemmas.{Contains-none, Contains-head, Contains-tail, Contains-cases, Contains-map, Contains-from_map, Contains-flat_map, Contains-from_flat_map}
+use Rattle.minimise.specs.declared.partition.ClassSpan.{ClassSpan}
 use Rattle.minimise.specs.Classes.{class_of, next_of}
 use Rattle.minimise.specs.Gathering.{IsGathered, edges_by_class}
 use Rattle.minimise.specs.CoarseClasses.{IsCoarse, AreCoarseClasses}
 use Rattle.minimise.specs.TurnedEdges.{AreTurned, EdgeLists, edges_into}
-use Rattle.minimise.specs.Partition.{IsUnion, states_with, IsGiven, AreParted}
+use Rattle.minimise.specs.StateOrder.{AreAtEnd, AreInverse}
+use Rattle.minimise.specs.Partition.{IsUnion, IsGiven, IsCut, AreParted, span_of}
 use Rattle.minimise.proofs.SinkLemmas.{row_of, no_edges_past, next_within}
 use Rattle.minimise.proofs.ClassFromLemmas.{class_from-next}
+use Rattle.minimise.proofs.SpanLemmas.{Contains-slice, Contains-from_slice, AreSpans-moved, AreSpans-cut}
 
 -- a number stands in a list or does not
 pub cases_contains : (xs : List ℕ) (x : ℕ) → Contains xs x ⊎ (Contains xs x → ⊥)
@@ -167,73 +169,211 @@ module _ (d : Automaton) (outputs old new states : List ℕ) (class : ℕ) (unio
       by (inl there) = given.there p there ∙ sym (given.there q (union.whole p q small low same there))
       by (inr none) = given.elsewhere p none ∙ coarse p q small low same ∙ sym (given.elsewhere q (λ there. none (union.whole q p low small (λ w over. sym (same w over)) there)))
 
-  module _ (sizes : List ClassSize) (members pending : List (List ℕ)) (parted : AreParted d outputs old sizes members pending) (count : class ≡ length members) where
-    -- the states left in a class
-    pub IsUnion-left : (kept : ℕ) → 0 < kept → kept < length members → IsUnion d outputs (states_with new (key_at members kept) kept)
-    IsUnion-left kept other before = record {
-      within = All-filter (λ q. class_of new q == kept) (λ q. q < states_of d) (key_at members kept) inside;
+module _ (d : Automaton) (outputs classes states places : List ℕ) (spans : List ClassSpan) (pending : List ℕ) (parted : AreParted d outputs classes states places spans pending) where
+  -- the classes of a partition
+  pub AreCoarseClasses-parted : AreCoarseClasses d outputs classes
+  AreCoarseClasses-parted = record {
+    width = parted.width;
+    below = λ k z within.
+        let low = parted.below k (omega (arith, within, parted.width)) in
+        omega (arith, low, parted.few, get_or_default classes k z 0 within);
+    coarse = parted.coarse;
+  }
+
+  -- the state at a place
+  state_within : (place : ℕ) → place < length states → get_or states place 0 < states_of d
+  state_within place small = omega (arith, parted.order.states_within place small, parted.count)
+
+  module _ (class : ℕ) (made : class < length spans) where
+    abbrev start : ℕ
+    start = (span_of spans class).start
+
+    abbrev end : ℕ
+    end = (span_of spans class).end
+
+    fits : end ≤ length states
+    fits = parted.spanned.within class made
+
+    -- a state of the class stands in its span
+    place_of : (q : ℕ) → q < states_of d → class_of classes q ≡ class → (place : ℕ) × (start ≤ place) × (place < end) × (get_or states place 0 ≡ q)
+    place_of q small is =
+        let place = get_or places q 0 in
+        let low : place < length states = parted.order.places_within q (omega (arith, small, parted.count)) in
+        let stands : get_or states place 0 ≡ q = parted.order.standing q (omega (arith, small, parted.count)) in
+        let one : class_of classes (get_or states place 0) ≡ class = ap (class_of classes) stands ∙ is in (
+          place,
+          subst (λ (k : ℕ). (span_of spans k).start ≤ place) one (parted.spanned.from_start place low),
+          subst (λ (k : ℕ). place < (span_of spans k).end) one (parted.spanned.to_end place low),
+          stands,
+        )
+
+    -- the states of a class but the sink's
+    pub IsUnion-span : 0 < class → IsUnion d outputs (slice_range states start end)
+    IsUnion-span live = record {
+      within = λ k z inside.
+          let found = Contains-from_slice states start end (get_or (slice_range states start end) k z) fits (Contains-get_or (slice_range states start end) k z inside) in
+          omega (arith, state_within found.0 (omega (arith, found.2, fits)), found.3);
       whole = λ p q small low same there.
-          let of = Contains-from_filter (λ (x : ℕ). class_of new x == kept) (key_at members kept) p there in
-          let one : class_of new q ≡ kept = sym (IsCoarse-given parted.coarse p q small low same) ∙ eqb-true (class_of new p) kept of.1 in
-          Contains-filter (λ (x : ℕ). class_of new x == kept) (key_at members kept) q (by q low one (cases_contains states q) (cases_lt q (states_of d))) (eq-eqb (class_of new q) kept one);
+          let found = Contains-from_slice states start end p fits there in
+          let one : class_of classes q ≡ class = sym (parted.coarse p q small low same) ∙ ap (class_of classes) (sym found.3) ∙ parted.spanned.inside class found.0 made found.1 found.2 in
+          stands q one (cases_lt q (states_of d)) low;
     }
       where
-        inside : All (λ q. q < states_of d) (key_at members kept)
-        inside = parted.inside kept [] before
+        stands : (q : ℕ) → class_of classes q ≡ class → (q < states_of d) ⊎ (states_of d ≤ q) → q ≤ states_of d → Contains (slice_range states start end) q
+        stands q one (inl less) low =
+            let at = place_of q less one in
+            subst (Contains (slice_range states start end)) at.3 (Contains-slice states start end at.0 fits at.1 at.2)
+        stands q one (inr past) low =
+            let sink : q ≡ states_of d = omega arith in
+            absurd (omega (arith, one, ap (class_of classes) sink, parted.sink, live))
 
-        by : (q : ℕ) → q ≤ states_of d → class_of new q ≡ kept → Contains states q ⊎ (Contains states q → ⊥) → (q < states_of d) ⊎ (states_of d ≤ q) → Contains (key_at members kept) q
-        by q low one (inl there) cases = absurd (omega (arith, given.there q there, one, count, before))
-        by q low one (inr none) (inl less) =
-            let was : class_of old q ≡ kept = sym (given.elsewhere q none) ∙ one in
-            subst (λ (k : ℕ). Contains (key_at members k) q) was (parted.covered q less (omega (arith, was, other)))
-        by q low one (inr none) (inr past) =
-            let is : q ≡ states_of d = omega arith in
-            absurd (omega (arith, given.elsewhere q none, one, other, ap (class_of old) is, parted.sink))
+    -- states of a class are moved to the end of its span
+    module _ (new new_places set : List ℕ) (middle : ℕ) (order : AreInverse new new_places) (moved : AreAtEnd states new set start middle end) where
+      pub AreParted-moved : AreParted d outputs classes new new_places spans pending
+      AreParted-moved = record {
+        table = parted.table;
+        width = parted.width;
+        count = moved.width ∙ parted.count;
+        few = parted.few;
+        below = parted.below;
+        sink = parted.sink;
+        coarse = parted.coarse;
+        order = order;
+        spanned = AreSpans-moved classes states spans parted.spanned class made new set middle moved;
+        live = parted.live;
+        made = parted.made;
+      }
 
-    -- the classes with a new one
-    split : (more : List ClassSize) (set : List ℕ) → length more ≡ length sizes + 1 → class ≤ states_of d → IsUnion d outputs set → AreParted d outputs new more (members ++ states ∷ []) (pending ++ set ∷ [])
-    split more set sized room next = record {
+module _ (d : Automaton) (outputs classes states places : List ℕ) (spans : List ClassSpan) (pending : List ℕ) (parted : AreParted d outputs classes states places spans pending) (class : ℕ) (made : class < length spans)
+    (was set : List ℕ) (middle : ℕ) (moved : AreAtEnd was states set (span_of spans class).start middle (span_of spans class).end) (union : IsUnion d outputs set) where
+  abbrev first : ℕ
+  first = (span_of spans class).start
+
+  abbrev last : ℕ
+  last = (span_of spans class).end
+
+  room : last ≤ length states
+  room = parted.spanned.within class made
+
+  -- the states of the class that leave it
+  pub IsUnion-leaving : IsUnion d outputs (slice_range states middle last)
+  IsUnion-leaving = record {
+    within = λ k z inside.
+        let found = Contains-from_slice states middle last (get_or (slice_range states middle last) k z) room (Contains-get_or (slice_range states middle last) k z inside) in
+        omega (arith, state_within d outputs classes states places spans pending parted found.0 (omega (arith, found.2, room)), found.3);
+    whole = λ p q small low same there.
+        let found = Contains-from_slice states middle last p room there in
+        let one : class_of classes q ≡ class =
+        sym (parted.coarse p q small low same) ∙ ap (class_of classes) (sym found.3) ∙ parted.spanned.inside class found.0 made (omega (arith, found.1, moved.after_start)) found.2 in
+        let leaves : Contains set q = union.whole p q small low same (subst (Contains set) found.3 (moved.moved found.0 found.1 found.2)) in
+        let at = place_of d outputs classes states places spans pending parted class made q (All-contains (λ (x : ℕ). x < states_of d) set q union.within leaves) one in
+        stands q leaves at.0 at.1 at.2 at.3 (cases_lt at.0 middle);
+  }
+    where
+      stands : (q : ℕ) → Contains set q → (place : ℕ) → first ≤ place → place < last → get_or states place 0 ≡ q → (place < middle) ⊎ (middle ≤ place) → Contains (slice_range states middle last) q
+      stands q leaves place from to is (inl less) = absurd (moved.left place from less (subst (Contains set) (sym is) leaves))
+      stands q leaves place from to is (inr more) = subst (Contains (slice_range states middle last)) is (Contains-slice states middle last place room more to)
+
+  -- they get a new class
+  module _ (new_classes : List ℕ) (new_spans : List ClassSpan) (given : IsGiven classes new_classes (slice_range states middle last) (length spans)) (few : length spans ≤ states_of d) (cut : IsCut spans new_spans class middle) where
+    outside : Contains (slice_range states middle last) (states_of d) → ⊥
+    outside there = omega (arith, All-contains (λ q. q < states_of d) (slice_range states middle last) (states_of d) IsUnion-leaving.within there)
+
+    below : (q : ℕ) → q ≤ states_of d → Contains (slice_range states middle last) q ⊎ (Contains (slice_range states middle last) q → ⊥) → class_of new_classes q < length new_spans
+    below q low (inl there) = omega (arith, cut.width, given.there q there)
+    below q low (inr none) = omega (arith, cut.width, given.elsewhere q none, parted.below q low)
+
+    -- one more class is pending
+    pub AreParted-cut : (next : ℕ) (waiting : List ℕ) → 0 < next → next < length new_spans → waiting ≡ pending ++ next ∷ [] → AreParted d outputs new_classes states places new_spans waiting
+    AreParted-cut next waiting live small pushed = record {
       table = parted.table;
       width = given.width ∙ parted.width;
-      counts = omega (arith, sized, parted.counts, size);
-      few = omega (arith, size, count, room);
-      below = λ q low. below q low (cases_contains states q);
+      count = parted.count;
+      few = omega (arith, cut.width, few);
+      below = λ q low. below q low (cases_contains (slice_range states middle last) q);
       sink = given.elsewhere (states_of d) outside ∙ parted.sink;
-      coarse = IsCoarse-given parted.coarse;
-      inside = All-push (All (λ q. q < states_of d)) members states parted.inside union.within;
-      covered = λ q less some. covered q less some (cases_contains states q);
-      unions = All-push (IsUnion d outputs) pending set parted.unions next;
+      coarse = IsCoarse-given d outputs classes new_classes (slice_range states middle last) (length spans) IsUnion-leaving given parted.coarse;
+      order = parted.order;
+      spanned = AreSpans-cut classes states spans parted.spanned class made new_classes places new_spans middle parted.order moved.after_start moved.before_end cut given
+          (λ place low. parted.below (get_or states place 0) (omega (arith, state_within d outputs classes states places spans pending parted place low)));
+      live = subst (All (λ c. 0 < c)) (sym pushed) (All-push (λ c. 0 < c) pending next parted.live live);
+      made = subst (All (λ c. c < length new_spans)) (sym pushed)
+          (All-push (λ c. c < length new_spans) pending next (λ k z within. omega (arith, parted.made k z within, cut.width)) small);
     }
-      where
-        size : length (members ++ states ∷ []) ≡ length members + 1
-        size = length_push members states
 
-        outside : Contains states (states_of d) → ⊥
-        outside there = omega (arith, All-contains (λ q. q < states_of d) states (states_of d) union.within there)
-
-        below : (q : ℕ) → q ≤ states_of d → Contains states q ⊎ (Contains states q → ⊥) → class_of new q < length (members ++ states ∷ [])
-        below q low (inl there) = omega (arith, size, given.there q there, count)
-        below q low (inr none) = omega (arith, size, given.elsewhere q none, parted.below q low)
-
-        covered : (q : ℕ) → q < states_of d → 0 < class_of new q → Contains states q ⊎ (Contains states q → ⊥) → Contains (key_at (members ++ states ∷ []) (class_of new q)) q
-        covered q less some (inl there) =
-            subst (λ (xs : List ℕ). Contains xs q) (sym (get_or_push members states [] (class_of new q) (sym count ∙ sym (given.there q there)))) there
-        covered q less some (inr none) =
-            let kept = given.elsewhere q none in
-            subst (λ (k : ℕ). Contains (key_at (members ++ states ∷ []) k) q) (sym kept)
-            (subst (λ (xs : List ℕ). Contains xs q) (sym (get_or_append_left members (states ∷ []) [] (class_of old q) (parted.below q (omega arith)))) (parted.covered q less (omega (arith, kept, some))))
-
-    pub AreParted-split : (more : List ClassSize) (set : List ℕ) (all waiting : List (List ℕ)) → length more ≡ length sizes + 1 → class ≤ states_of d → IsUnion d outputs set → all ≡ members ++ states ∷ [] → waiting ≡ pending ++ set ∷ []
-        → AreParted d outputs new more all waiting
-    AreParted-split more set all waiting sized room next added pushed =
-        subst (AreParted d outputs new more all) (sym pushed) (subst (λ (ms : List (List ℕ)). AreParted d outputs new more ms (pending ++ set ∷ [])) (sym added) (split more set sized room next))
-
--- the classes of a partition
-pub AreCoarseClasses-parted : (d : Automaton) (outputs classes : List ℕ) (sizes : List ClassSize) (members pending : List (List ℕ)) → AreParted d outputs classes sizes members pending → AreCoarseClasses d outputs classes
-AreCoarseClasses-parted d outputs classes sizes members pending parted = record {
-  width = parted.width;
-  below = λ k z within.
-      let low = parted.below k (omega (arith, within, parted.width)) in
-      omega (arith, low, parted.few, get_or_default classes k z 0 within);
-  coarse = parted.coarse;
+-- one class of all states
+pub AreParted-one : (d : Automaton) (outputs : List ℕ) (span : ClassSpan) → IsTable (letters_of d) d.states → span.start ≡ 0 → span.end ≡ states_of d
+    → AreParted d outputs (replicate (states_of d + 1) 0) (range_with_len 0 (states_of d)) (range_with_len 0 (states_of d)) (span ∷ []) []
+AreParted-one d outputs span table from to = record {
+  table = table;
+  width = length-replicate (states_of d + 1) 0;
+  count = size;
+  few = omega arith;
+  below = λ q low. omega (arith, alike q);
+  sink = alike (states_of d);
+  coarse = λ p q small low same. alike p ∙ sym (alike q);
+  order = record {
+    width = refl;
+    states_within = λ place small. omega (arith, stands place (omega (arith, small, size)), small);
+    places_within = λ q small. omega (arith, stands q (omega (arith, small, size)), small);
+    placed = λ place small. twice place (omega (arith, small, size));
+    standing = λ q small. twice q (omega (arith, small, size));
+  };
+  spanned = record {
+    ordered = λ class made. omega (arith, from, ap (λ (s : ClassSpan). s.start) (is class made));
+    within = λ class made. omega (arith, size, to, ap (λ (s : ClassSpan). s.end) (is class made));
+    inside = λ class place made low high. omega (arith, alike (get_or (range_with_len 0 (states_of d)) place 0), made);
+    from_start = λ place low. omega (arith, from, ap (λ (k : ℕ). (span_of (span ∷ []) k).start) (alike (get_or (range_with_len 0 (states_of d)) place 0)));
+    to_end = λ place low. omega (arith, low, size, to, ap (λ (k : ℕ). (span_of (span ∷ []) k).end) (alike (get_or (range_with_len 0 (states_of d)) place 0)));
+  };
+  live = λ k z within. absurd (omega arith);
+  made = λ k z within. absurd (omega arith);
 }
+  where
+    size : length (range_with_len 0 (states_of d)) ≡ states_of d
+    size = length-range_with_len 0 (states_of d)
+
+    stands : (q : ℕ) → q < states_of d → get_or (range_with_len 0 (states_of d)) q 0 ≡ q
+    stands q small = omega (arith, get_or-range_with_len 0 (states_of d) q 0 small)
+
+    twice : (q : ℕ) → q < states_of d → get_or (range_with_len 0 (states_of d)) (get_or (range_with_len 0 (states_of d)) q 0) 0 ≡ q
+    twice q small = ap (λ (k : ℕ). get_or (range_with_len 0 (states_of d)) k 0) (stands q small) ∙ stands q small
+
+    alike : (q : ℕ) → class_of (replicate (states_of d + 1) 0) q ≡ 0
+    alike q = by (cases_lt q (states_of d + 1))
+      where
+        by : (q < states_of d + 1) ⊎ (states_of d + 1 ≤ q) → class_of (replicate (states_of d + 1) 0) q ≡ 0
+        by (inl less) = get_or-replicate (states_of d + 1) q 0 0 less
+        by (inr past) = get_or_past (replicate (states_of d + 1) 0) q 0 (omega (arith, length-replicate {A = ℕ} (states_of d + 1) 0))
+
+    is : (class : ℕ) → class < 1 → span_of (span ∷ []) class ≡ span
+    is class small = let first : class ≡ 0 = omega arith in ap (span_of (span ∷ [])) first
+
+-- the last pending class is taken
+module _ (d : Automaton) (outputs classes states places : List ℕ) (spans : List ClassSpan) (pending rest : List ℕ) (class : ℕ) (parted : AreParted d outputs classes states places spans pending) (last : pending ≡ rest ++ class ∷ []) where
+  there : Contains pending class
+  there = subst (λ (xs : List ℕ). Contains xs class) (sym last) (Contains-push rest class)
+
+  among : (k z : ℕ) → k < length rest → Contains pending (get_or rest k z)
+  among k z within = subst (λ (xs : List ℕ). Contains xs (get_or rest k z)) (sym last) (Contains-append_left rest (class ∷ []) (get_or rest k z) (Contains-get_or rest k z within))
+
+  pub pending_live : 0 < class
+  pending_live = All-contains (λ c. 0 < c) pending class parted.live there
+
+  pub pending_made : class < length spans
+  pending_made = All-contains (λ c. c < length spans) pending class parted.made there
+
+  pub AreParted-rest : AreParted d outputs classes states places spans rest
+  AreParted-rest = record {
+    table = parted.table;
+    width = parted.width;
+    count = parted.count;
+    few = parted.few;
+    below = parted.below;
+    sink = parted.sink;
+    coarse = parted.coarse;
+    order = parted.order;
+    spanned = parted.spanned;
+    live = λ k z within. All-contains (λ c. 0 < c) pending (get_or rest k z) parted.live (among k z within);
+    made = λ k z within. All-contains (λ c. c < length spans) pending (get_or rest k z) parted.made (among k z within);
+  }

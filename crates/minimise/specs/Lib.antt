@@ -9,9 +9,11 @@ pub mod Signatures
 pub mod Refinement
 pub mod Hashes
 pub mod FlatEdges
+pub mod CountingSort
 pub mod TurnedEdges
 pub mod Leaders
 pub mod Gathering
+pub mod StateOrder
 pub mod Partition
 pub mod Quotient
 pub mod QuotientLaws

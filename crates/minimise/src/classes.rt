@@ -27,7 +27,7 @@ pub fn residual_classes(alloc: Global, machine: &Machine) -> Result<Vec<u32>, Ou
     if rounds.stable {
         return Ok(rounds.classes);
     }
-    let classes = parted(alloc, machine, &rounds.classes)?;
+    let classes = parted(alloc, machine, rounds.classes)?;
     let flat = FlatEdges::new(alloc, machine.dfa)?;
     if is_stable(alloc, machine, &flat, &classes)? {
         return Ok(classes);

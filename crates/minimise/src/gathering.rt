@@ -53,7 +53,7 @@ pub fn states_by_class(
 fn gather(edges: &mut Vec<Edge>, out: &mut KeyEdges) -> Result<(), OutOfMemory>
     ensures { OnOk result (All (λ part. IsGathered edges.old.items part.letter part.key) out.new) }
 {
-    edges.sort()?;
+    edges.sort_unstable();
     edges.dedup();
     group_into(edges, out)
 }

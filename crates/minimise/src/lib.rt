@@ -13,6 +13,12 @@ mod output_classes;
 /// Sets of states, gathered by the letters that lead from them, and by their classes.
 mod gathering;
 
+/// States in an order, and where each stands in it.
+mod state_order;
+
+/// The classes by which others are still to be parted.
+mod pending_classes;
+
 /// Classes of states, parted by Hopcroft's algorithm.
 mod partition;
 

@@ -2,10 +2,12 @@
 //! minimizing states in a finite automaton") over the edges that are there, as in Antti Valmari and
 //! Petri Lehtinen, "Efficient minimization of DFAs with partial transition functions".
 //!
-//! One pending set after the other is taken, and for each letter each class is parted into the
-//! states from which the letter leads into the set, and the others. Of two parts the smaller is
-//! pending then: the one that fewer edges lead to. Of the sink's class it is the states that leave,
-//! however many: no edges are kept that lead to the sink.
+//! The states stand in one list, those of one class one after another, and the classes by which others are still
+//! to be parted are pending. One pending class after the other is taken, and for each letter each class is parted
+//! into the states from which the letter leads into the taken one, and the others: the states that leave are
+//! swapped to the end of their class's span, which is cut there. Of two parts the smaller is pending then, the
+//! one that fewer edges lead to, and of a class that was pending both are. Of the sink's class it is the states
+//! that leave, however many: no edges are kept that lead to the sink.
 //!
 //! So each edge is looked at once, and once more each time that its target goes with a smaller part. For
 //! m edges, and classes of s states at most to begin with, these are m + (m / 2) log s looks at most: where
@@ -15,42 +17,42 @@
 //! The time is in the order of m log m log n at most for n states. The factor log m is that of sorting,
 //! by letter and by class; counting in place of sorting would save it.
 //!
-//! The edges stand in flat buffers, and so do the states of classes and of pending sets, one list after another:
-//! no class and no state has a vector of its own.
+//! Besides the edges these lists take 13 bytes a state, and up to 16 bytes a class in vectors that grow.
 
-ghost use Rattle.std.specs.Prelude.{◌≡◌, ◌≢◌, ℕ, ◌-◌, ◌<◌, ◌≤◌, ◌^◌, ◌↔◌, length, IfOk, OnOk};
+ghost use Rattle.std.specs.Prelude.{◌≡◌, ◌≢◌, ℕ, ◌+◌, ◌-◌, ◌<◌, ◌≤◌, ◌^◌, ◌↔◌, length, IfOk, OnOk};
 ghost use Rattle.std.specs.List.{All, Contains};
 ghost use Rattle.minimise.specs.Classes.{class_of};
 ghost use Rattle.minimise.specs.CoarseClasses.{AreCoarseClasses};
 ghost use Rattle.minimise.specs.Outputs.{HasOutputs};
-ghost use Rattle.minimise.specs.Partition.{IsUnion, IsGiven, IsPartition, states_with};
+ghost use Rattle.minimise.specs.Partition.{HasGrown, IsCut, IsGiven, IsPartition, IsUnion};
 
 use crate::gathering::{sources_by_letter, states_by_class};
 use crate::machine::Machine;
+use crate::pending_classes::PendingClasses;
+use crate::state_order::{move_to_end, numbered_states};
 use crate::turned_edges::TurnedEdges;
 use digit_tuple::edges::Edge;
 use digit_tuple::faults::OutOfMemory;
-use digit_tuple::key_arena::KeyArena;
 use digit_tuple::key_edges::KeyEdges;
 use std::alloc::Global;
 
 /// The class of each state, and last that of the sink, where missing edges lead, after the classes are
 /// parted. States from which words lead to the same outputs have one class, as they had before. OutOfMemory
 /// comes too where there are 2^32 edges.
-pub fn parted(alloc: Global, machine: &Machine, classes: &[u32]) -> Result<Vec<u32>, OutOfMemory>
+pub fn parted(alloc: Global, machine: &Machine, classes: Vec<u32>) -> Result<Vec<u32>, OutOfMemory>
     requires outputs { HasOutputs machine.now }
-    requires classes { AreCoarseClasses machine.now.dfa.now machine.now.outputs.now classes.now }
+    requires classes { AreCoarseClasses machine.now.dfa.now machine.now.outputs.now classes.items }
     ensures { IfOk result (λ classes. AreCoarseClasses machine.now.dfa.now machine.now.outputs.now classes.items) }
 {
+    let parts = live_parts(alloc, machine, &classes)?;
+    // Memory goes before more is taken.
+    drop(classes);
     let mut partition = Partition::new(alloc, machine)?;
+    partition.part_by_class(machine, &parts)?;
+    drop(parts);
     let mut buffers = Buffers::new(alloc);
-    partition.part_by_class(alloc, machine, classes, &mut buffers)?;
-    // Each class but the sink's makes one set pending, so there are no more sets than states.
-    for _ in 0..machine.dfa.states() {
-        if partition.pending.len() == 0 {
-            return Ok(partition.classes);
-        }
-        partition.part_by_last(machine, &mut buffers)?;
+    'part: while let Some(class) = partition.pending.pop() {
+        partition.part_by_letters(machine, class, &mut buffers)?;
     }
     Ok(partition.classes)
 }
@@ -62,21 +64,22 @@ pub struct Partition {
     turned: TurnedEdges,
     // The class of each state, and last that of the sink, which is 0.
     classes: Vec<u32>,
-    // How large each class is.
-    sizes: Vec<ClassSize>,
-    // The states of each class, and maybe some that have left it. Those of class 0 are not kept.
-    members: KeyArena,
-    // The sets by which classes are still to be parted.
-    pending: KeyArena,
-    // A buffer for the states that are left in a class.
-    left: Vec<u32>,
+    // The states, those of one class one after another.
+    states: Vec<u32>,
+    // Where each state stands among them.
+    places: Vec<u32>,
+    // Where the states of each class stand.
+    spans: Vec<ClassSpan>,
+    // The classes by which others are still to be parted, none of them the sink's.
+    pending: PendingClasses,
 }
 
-/// How many states a class has, the sink among them, and how many edges lead to them, each up to 2^32 - 1.
-/// Edges to the sink's class are not counted.
+/// Where the states of a class stand, from the start to before the end, and how many edges lead to them, up to
+/// 2^32 - 1. Edges to the sink's class are not counted.
 #[derive(Clone, Copy)]
-pub struct ClassSize {
-    states: u32,
+pub struct ClassSpan {
+    start: u32,
+    end: u32,
     edges: u32,
 }
 
@@ -87,57 +90,56 @@ impl Partition {
     {
         let turned = TurnedEdges::new(alloc, machine.dfa)?;
         let states = machine.dfa.states();
-        let mut members = KeyArena::new(alloc);
-        members.push(&[])?;
-        let size = ClassSize {
-            states: states.saturating_add(1),
+        let most_classes = states as usize + 1;
+        let span = ClassSpan {
+            start: 0,
+            end: states,
             edges: 0,
         };
         Ok(Partition {
             turned,
-            classes: vec![in alloc; 0; states as usize + 1]?,
-            sizes: vec![in alloc; size]?,
-            members,
-            pending: KeyArena::new(alloc),
-            left: Vec::new(alloc),
+            classes: vec![in alloc; 0; most_classes]?,
+            states: numbered_states(alloc, states)?,
+            places: numbered_states(alloc, states)?,
+            spans: vec![in alloc; span]?,
+            pending: PendingClasses::new(alloc, most_classes)?,
         })
     }
 
-    // Parts the class of all states by other classes, of which the sink's stays.
-    fn part_by_class(
-        &mut self,
-        alloc: Global,
-        machine: &Machine,
-        classes: &[u32],
-        buffers: &mut Buffers,
-    ) -> Result<(), OutOfMemory>
+    // Parts the class of all states by the parts, so that what is left of it is the sink's class.
+    fn part_by_class(&mut self, machine: &Machine, parts: &KeyEdges) -> Result<(), OutOfMemory>
         requires partition { IsPartition machine.now self.old }
-        requires classes { AreCoarseClasses machine.now.dfa.now machine.now.outputs.now classes.now }
+        requires parts { All (λ part. IsUnion machine.now.dfa.now machine.now.outputs.now part.key) parts.now }
         ensures { OnOk result (IsPartition machine.now self.new) }
     {
-        let states = live_states(alloc, classes)?;
-        states_by_class(classes, &states, &mut buffers.edges, &mut buffers.parts)?;
-        for place in 0..buffers.parts.len() {
-            self.split(machine, 0, buffers.parts.key(place))?;
+        for place in 0..parts.len() {
+            self.split(machine, 0, parts.key(place))?;
         }
         Ok(())
     }
 
-    // Parts classes by whether letters lead into the last of the pending sets, which is then no longer pending.
-    fn part_by_last(&mut self, machine: &Machine, buffers: &mut Buffers) -> Result<(), OutOfMemory>
+    // Parts classes by whether letters lead into a class, which is no longer pending.
+    fn part_by_letters(
+        &mut self,
+        machine: &Machine,
+        class: u32,
+        buffers: &mut Buffers,
+    ) -> Result<(), OutOfMemory>
         requires partition { IsPartition machine.now self.old }
         requires outputs { HasOutputs machine.now }
-        requires some { 0 < length self.old.pending }
-        ensures { OnOk result (IsPartition machine.now self.new) }
+        requires live { 0 < class }
+        requires class { class < length self.old.spans.items }
+        ensures partition { OnOk result (IsPartition machine.now self.new) }
+        ensures grown { OnOk result (HasGrown self.old self.new) }
     {
         let Buffers {
             edges,
             sources,
             parts,
         } = buffers;
-        let set = self.pending.key(self.pending.len() - 1);
-        sources_by_letter(&self.turned, set, edges, sources)?;
-        self.pending.pop();
+        let span = self.spans[class as usize];
+        let states = &self.states[span.start as usize..span.end as usize];
+        sources_by_letter(&self.turned, states, edges, sources)?;
         for place in 0..sources.len() {
             self.part(machine, sources.key(place), edges, parts)?;
         }
@@ -154,7 +156,8 @@ impl Partition {
     ) -> Result<(), OutOfMemory>
         requires partition { IsPartition machine.now self.old }
         requires set { IsUnion machine.now.dfa.now machine.now.outputs.now set.now }
-        ensures { OnOk result (IsPartition machine.now self.new) }
+        ensures partition { OnOk result (IsPartition machine.now self.new) }
+        ensures grown { OnOk result (HasGrown self.old self.new) }
     {
         states_by_class(&self.classes, set, edges, parts)?;
         for place in 0..parts.len() {
@@ -163,46 +166,52 @@ impl Partition {
         Ok(())
     }
 
-    // Gives states of a class a new one, unless the class has no others.
+    // Gives those of the states that have the class a new one, unless the class has no others.
     fn split(&mut self, machine: &Machine, class: u32, states: &[u32]) -> Result<(), OutOfMemory>
         requires partition { IsPartition machine.now self.old }
-        requires class { class < length self.old.members }
+        requires class { class < length self.old.spans.items }
         requires states { IsUnion machine.now.dfa.now machine.now.outputs.now states.now }
         ensures partition { OnOk result (IsPartition machine.now self.new) }
-        ensures grown { OnOk result (length self.old.members ≤ length self.new.members) }
+        ensures grown { OnOk result (HasGrown self.old self.new) }
     {
-        let count = self.members.len();
-        let size = self.sizes[class as usize];
-        if states.len() >= size.states as usize || count > machine.dfa.states() as usize {
+        let count = self.spans.len();
+        let ClassSpan { start, end, .. } = self.spans[class as usize];
+        let middle = move_to_end(&mut self.states, &mut self.places, start, end, states);
+        // None leaves, or all of a class do. All may leave the sink's class, as the sink stays. There are never more
+        // classes than states and the sink.
+        let stays = middle == end || (middle == start && class > 0);
+        if stays || count > machine.dfa.states() as usize {
             return Ok(());
         }
-        let leaving = ClassSize {
-            states: states.len() as u32,
-            edges: edges_to(&self.turned, states),
-        };
-        let rest = size.without(leaving);
-        give(&mut self.classes, states, count as u32);
-        self.sizes[class as usize] = rest;
-        self.sizes.push(leaving)?;
-        self.members.push(states)?;
-        // Of the sink's class those that leave are pending, and of others the smaller part.
-        if class == 0 || leaving.edges <= rest.edges {
-            return self.pending.push(states);
-        }
-        let members = self.members.key(class as usize);
-        states_left(&self.classes, class, members, &mut self.left)?;
-        self.pending.push(&self.left)
+        let leaving = &self.states[middle as usize..end as usize];
+        give(&mut self.classes, leaving, count as u32);
+        let edges = edges_to(&self.turned, leaving);
+        let rest = cut(&mut self.spans, class, middle, edges)?;
+        // Of the sink's class those that leave are pending, of a pending one both parts, and of others the smaller.
+        let leave = class == 0 || self.pending.has(class) || edges <= rest;
+        self.pending.push(if leave { count as u32 } else { class })
     }
 }
 
-impl ClassSize {
-    // What is left where so many leave.
-    fn without(self, leaving: ClassSize) -> Self {
-        ClassSize {
-            states: self.states.saturating_sub(leaving.states),
-            edges: self.edges.saturating_sub(leaving.edges),
-        }
-    }
+// Cuts a class's span at a place, where one more class begins to which so many of the edges lead, and gives how
+// many are left.
+fn cut(spans: &mut Vec<ClassSpan>, class: u32, middle: u32, edges: u32) -> Result<u32, OutOfMemory>
+    requires { class < length spans.old.items }
+    ensures { OnOk result (IsCut spans.old.items spans.new.items class middle) }
+{
+    let span = spans[class as usize];
+    let rest = span.edges.saturating_sub(edges);
+    spans[class as usize] = ClassSpan {
+        start: span.start,
+        end: middle,
+        edges: rest,
+    };
+    spans.push(ClassSpan {
+        start: middle,
+        end: span.end,
+        edges,
+    })?;
+    Ok(rest)
 }
 
 // Buffers that are used again.
@@ -222,6 +231,20 @@ impl Buffers {
             parts: KeyEdges::new(alloc),
         }
     }
+}
+
+// The states of each class but the sink's.
+fn live_parts(alloc: Global, machine: &Machine, classes: &[u32]) -> Result<KeyEdges, OutOfMemory>
+    requires { AreCoarseClasses machine.now.dfa.now machine.now.outputs.now classes.now }
+    ensures { IfOk result (λ parts. All (λ part. IsUnion machine.now.dfa.now machine.now.outputs.now part.key) parts) }
+{
+    // That there are fewer than 2^32 states.
+    let _states = machine.dfa.states();
+    let states = live_states(alloc, classes)?;
+    let mut edges = Vec::new(alloc);
+    let mut parts = KeyEdges::new(alloc);
+    states_by_class(classes, &states, &mut edges, &mut parts)?;
+    Ok(parts)
 }
 
 // The states that are not of the sink's class, the last.
@@ -257,23 +280,4 @@ fn edges_to(turned: &TurnedEdges, states: &[u32]) -> u32 {
         edges = edges.saturating_add(turned.count_to(*state));
     }
     u32::try_from(edges).unwrap_or(u32::MAX)
-}
-
-// Writes the members that still have the class in place of what the buffer held.
-fn states_left(
-    classes: &[u32],
-    class: u32,
-    members: &[u32],
-    left: &mut Vec<u32>,
-) -> Result<(), OutOfMemory>
-    requires { All (λ q. q < length classes.now) members.now }
-    ensures { OnOk result (left.new.items ≡ states_with classes.now members.now class) }
-{
-    left.clear();
-    for state in members {
-        if classes[*state as usize] == class {
-            left.push(*state)?;
-        }
-    }
-    Ok(())
 }

@@ -17,15 +17,15 @@ same e f = (e.letter == f.letter) && (e.target == f.target)
 pub group_into-requires : goal.group_into-requires
 group_into-requires c =
     subst (AllPairs IsBefore) (sym c.deref.ensures.value)
-    (subst (AllPairs IsBefore) (sym (dedup_is same c.sort.new.self.items c.dedup.new.self.items c.dedup.ensures.filtered))
-    (AllPairs-dedup same edges_tell c.sort.new.self.items c.in_ok-sort.ensures.sorted))
+    (subst (AllPairs IsBefore) (sym (dedup_is same c.sort_unstable.new.self.items c.dedup.new.self.items c.dedup.ensures.filtered))
+    (AllPairs-dedup same edges_tell c.sort_unstable.new.self.items c.sort_unstable.ensures.sorted))
 
 pub returns : goal.returns
 returns c =
     let edges = c.args.edges.now.items in
-    let sorted = c.sort.new.self.items in
+    let sorted = c.sort_unstable.new.self.items in
     let left : c.dedup.new.self.items ≡ dedup same sorted = dedup_is same sorted c.dedup.new.self.items c.dedup.ensures.filtered in
-    let moved = c.in_ok-sort.ensures.permutation in
+    let moved = c.sort_unstable.ensures.permutation in
     let equal : (e : Edge) → Contains c.dedup.new.self.items e ↔ Contains edges e = λ e. (
       (λ there. Contains-permutation sorted edges e (IsPermutation-sym edges sorted moved) (Contains-from_dedup same sorted e (subst (λ (es : List Edge). Contains es e) left there))),
       (λ there. subst (λ (es : List Edge). Contains es e) (sym left) (Contains-dedup same edges_tell sorted e (Contains-permutation edges sorted e moved there))),

@@ -25,5 +25,5 @@ split-requires-clause-class c =
     let outputs = c.args.machine.now.outputs.now in
     let p = c.args.self.now in
     let part = edge_at c.states_by_class.new.out c.loop-place.place in
-    let low = class_below d outputs p.classes.items c.requires.partition.parted.coarse c.args.set.now c.requires.set part.letter part.key (gathered c) (length p.members) c.requires.partition.parted.below in
-    omega (arith, low, c.letter.ensures, c.loop-place.invariant.grown)
+    let low = class_below d outputs p.classes.items c.requires.partition.parted.coarse c.args.set.now c.requires.set part.letter part.key (gathered c) (length p.spans.items) c.requires.partition.parted.below in
+    omega (arith, low, c.letter.ensures, c.loop-place.invariant.grown.classes)

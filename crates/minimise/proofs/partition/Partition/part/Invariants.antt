@@ -1,9 +1,8 @@
-use Rattle.std.proofs.Common.{◌≤◌, length}
-use Rattle.minimise.specs.Partition.{IsPartition}
+use Rattle.minimise.specs.Partition.{HasGrown, IsPartition}
 use Rattle.minimise.proofs.partition.Partition.part.Given as goal
 
 abbrev pub invariant-loop-place : goal.invariant-loop-place
 invariant-loop-place l = record {
   partition : IsPartition l.machine l.self;
-  grown : length l.fn.self.members ≤ length l.self.members;
+  grown : HasGrown l.fn.self l.self;
 }

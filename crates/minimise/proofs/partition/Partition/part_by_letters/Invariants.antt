@@ -1,0 +1,8 @@
+use Rattle.minimise.specs.Partition.{HasGrown, IsPartition}
+use Rattle.minimise.proofs.partition.Partition.part_by_letters.Given as goal
+
+abbrev pub invariant-loop-place : goal.invariant-loop-place
+invariant-loop-place l = record {
+  partition : IsPartition l.machine l.self;
+  grown : HasGrown l.fn.self l.self;
+}
