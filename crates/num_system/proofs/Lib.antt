@@ -12,5 +12,7 @@ pub mod ValidityLinks
 pub mod SentenceLinks
 pub mod SuccessorLemmas
 pub mod StepLemmas
+pub mod SuccessorSumTracks
+pub mod SuccessorSumLemmas
 pub mod SealingLemmas
 pub mod LinkLemmas

@@ -1,13 +1,14 @@
 -- What a system's automata tell of the sealed system.
 use Rattle.std.proofs.Common.{◌≡◌, ℕ, List, ap, sym, ◌∙◌, subst}
 use Rattle.digit_tuple.specs.Paddings.{in_order}
-use Rattle.digit_tuple.specs.Deterministic.{accepts_of}
+use Rattle.digit_tuple.specs.Deterministic.{Automaton, accepts_of}
 use Rattle.digit_tuple.specs.declared.direction.Direction.{Direction}
 use Rattle.minimise.specs.Canonical.{IsCanonical}
 use Rattle.numeration.specs.Systems.{System, IsSystem}
 use Rattle.numeration.specs.Relations.{IsLanguageOf, IsAdderOf}
-use Rattle.num_system.specs.Sealed.{SystemValue, system_of, AreRelationsOf, IsSealed}
+use Rattle.num_system.specs.Sealed.{SystemValue, system_of, AreOrderRelationsOf, AreRelationsOf, IsSealed}
 use Rattle.num_system.specs.Sealing.{IsLeastLanguage}
+use Rattle.num_system.specs.Successor.{IsSuccessorOf}
 use Rattle.digit_tuple.proofs.PaddingLemmas.{in_order-twice}
 
 -- the system whose language the automaton accepts is the one
@@ -15,6 +16,19 @@ pub same_system : (s : System) (v : SystemValue) → v.digits ≡ s.digits → I
 same_system s v digits language =
     let test : (w : List ℕ) → accepts_of v.language (in_order v.way w) ≡ s.test w = λ w. language.accepts (in_order v.way w) ∙ ap s.test (in_order-twice v.way w) in
     λ i. record { digits = digits i; test = λ w. test w i }
+
+-- the relations with that of the next number
+pub with_next : (way : Direction) (s : System) (equal less next zero : Automaton) → AreOrderRelationsOf way s equal less zero → IsSuccessorOf way s next → IsCanonical next → AreRelationsOf way s equal less next zero
+with_next way s equal less next zero are follows canonical = record {
+  equality = are.equality;
+  equality_canonical = are.equality_canonical;
+  order = are.order;
+  order_canonical = are.order_canonical;
+  next = follows;
+  next_canonical = canonical;
+  zeros = are.zeros;
+  zeros_canonical = are.zeros_canonical;
+}
 
 -- the automata of a system in a direction are sealed
 pub sealed_from : (s : System) (way : Direction) (v : SystemValue) → v.way ≡ way → v.digits ≡ s.digits → IsSystem s

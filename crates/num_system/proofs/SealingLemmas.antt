@@ -1,16 +1,14 @@
 -- What the steps of sealing a system tell.
-use Rattle.std.proofs.Common.{◌≡◌, ℕ, ◌+◌, ◌<◌, List, [], ◌∷◌, ◌++◌, length, Err, ap, subst, arith}
+use Rattle.std.proofs.Common.{◌≡◌, ℕ, ◌+◌, ◌<◌, List, [], ◌∷◌, length, Err, ap, arith}
 use Rattle.std.specs.Result.{IsErrOf}
-use Rattle.digit_tuple.specs.Letters.{IsWord, IsAlphabet, IsTooLarge, product}
+use Rattle.digit_tuple.specs.Letters.{IsWord, product}
 use Rattle.digit_tuple.specs.Width.{HasApart}
 use Rattle.digit_tuple.specs.Deterministic.{Automaton, letters_of}
 use Rattle.digit_tuple.specs.declared.direction.Direction.{Direction}
 use Rattle.numeration.specs.Systems.{System, IsSystem}
-use Rattle.number_order.specs.Orders.{OrderAlike, pair_sizes, pair_letters}
+use Rattle.number_order.specs.Orders.{OrderAlike, pair_letters}
 use Rattle.number_order.proofs.OrderWidthLemmas.{order_width_excludes}
-use Rattle.num_system.specs.Sealing.{IsOrderWithin, ExceedsByLetters, letters_at_order, letters_at_successor}
-use Rattle.num_system.proofs.StepLemmas.{two_fit, not_too_large}
-use Rattle.num_system.proofs.SuccessorLemmas.{chain_sizes_are}
+use Rattle.num_system.specs.Sealing.{IsOrderWithin}
 
 -- a fault is the same whatever else a call gives
 pub same_fault : {T U E : Type 0} (e f : E) → IsErrOf {T = T} (Err e) f → IsErrOf {T = U} (Err e) f
@@ -32,11 +30,3 @@ pub has_letter : (s : System) (d : Automaton) → IsSystem s → d.sizes ≡ s.d
 has_letter s d is sizes =
     let letters : letters_of d ≡ product (s.digits ∷ []) = ap product sizes in
     omega (arith, letters, has_digit s is)
-
--- where three tracks over the digits have an alphabet, no step has too many letters
-pub few_letters : (way : Direction) (s : System) (limit : ℕ) → IsAlphabet (s.digits ∷ s.digits ∷ s.digits ∷ []) → ¬ ExceedsByLetters way s limit
-few_letters way s limit fits (letters_at_order language least large) =
-    let sizes : pair_sizes language ≡ s.digits ∷ s.digits ∷ [] = ap (λ (ss : List ℕ). ss ++ ss) least.accepts.sizes in
-    not_too_large (s.digits ∷ s.digits ∷ []) (two_fit s.digits fits) (subst IsTooLarge sizes large)
-few_letters way s limit fits (letters_at_successor language less least within order large) =
-    not_too_large (s.digits ∷ s.digits ∷ s.digits ∷ []) fits (subst IsTooLarge (chain_sizes_are less s.digits order.holds.sizes) large)

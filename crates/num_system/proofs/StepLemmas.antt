@@ -1,14 +1,21 @@
 -- What the three steps from the order to the successor ask for.
-use Rattle.std.proofs.Common.{◌≡◌, ℕ, zero, suc, ◌*◌, ◌<◌, ◌≤◌, List, [], ◌∷◌, get_or, length, inl, inr, Result, Ok, Err, refl, ap, sym, ◌∙◌, arith}
+use Rattle.std.proofs.Common.{◌≡◌, ℕ, zero, suc, ◌*◌, ◌<◌, ◌≤◌, List, [], ◌∷◌, get_or, length, inl, inr, Result, Ok, Err, refl, ap, sym, ◌∙◌, arith, IsTrue, ◌↔◌}
 use Rattle.std.specs.List.{Contains}
 use Rattle.std.specs.Result.{IfOk}
-use Rattle.digit_tuple.specs.Letters.{IsAlphabet, IsTooLarge}
-use Rattle.digit_tuple.specs.Names.{place_of}
+use Rattle.digit_tuple.specs.Deterministic.{Automaton, accepts_of}
+use Rattle.digit_tuple.specs.Letters.{product, IsAlphabet, IsTooLarge, IsWord}
+use Rattle.digit_tuple.specs.Names.{joint_names, names_without, place_of}
 use Rattle.digit_tuple.specs.Parts.{picked}
+use Rattle.digit_tuple.specs.declared.direction.Direction.{Direction}
 use Rattle.digit_tuple.proofs.NameLemmas.{place_of-contained}
+use Rattle.minimise.specs.Canonical.{IsCanonical}
 use Rattle.minimise.specs.Tracked.{NamedAutomaton, size_of}
-use Rattle.product_op.specs.Tracks.{AgreeOnShared}
-use Rattle.project_close.specs.StayingTracks.{staying_sizes}
+use Rattle.product_op.specs.declared.op.Op.{Op}
+use Rattle.product_op.specs.Products.{in_product}
+use Rattle.product_op.specs.Tracks.{AgreeOnShared, joint_sizes}
+use Rattle.project_close.specs.Projection.{InProjection}
+use Rattle.project_close.specs.StayingTracks.{staying_places, staying_sizes}
+use Rattle.num_system.specs.Operations.{IsProduct, IsProjection}
 use Rattle.num_system.specs.SuccessorSteps.{name_u, name_x, name_y}
 use Rattle.num_system.proofs.SuccessorLemmas.{under_names}
 
@@ -17,10 +24,19 @@ pub IfOk-three : {X E : Type 0} (r : Result X E) (P Q R S : X → Type 0) → ((
 IfOk-three (Ok x) P Q R S f p q r = f x p q r
 IfOk-three (Err e) P Q R S f p q r = tt
 
--- by four
-pub IfOk-four : {X E : Type 0} (r : Result X E) (P Q R S T : X → Type 0) → ((x : X) → P x → Q x → R x → S x → T x) → IfOk r P → IfOk r Q → IfOk r R → IfOk r S → IfOk r T
-IfOk-four (Ok x) P Q R S T f p q r s = f x p q r s
-IfOk-four (Err e) P Q R S T f p q r s = tt
+-- what a call gave is a product
+pub product_made : {X E : Type 0} (op : Op) (a b : NamedAutomaton) (languages : List Automaton) (given : X → NamedAutomaton) (r : Result X E)
+    → IfOk r (λ x. (given x).names ≡ joint_names a.names b.names) → IfOk r (λ x. (given x).automaton.sizes ≡ joint_sizes a b) → IfOk r (λ x. IsCanonical (given x).automaton)
+    → IfOk r (λ x. (w : List ℕ) → IsWord (product (joint_sizes a b)) w → accepts_of (given x).automaton w ≡ in_product op a b languages w) → IfOk r (λ x. IsProduct op a b languages (given x))
+product_made op a b languages given (Ok x) names sizes canonical language = record { names = names; sizes = sizes; canonical = canonical; language = language }
+product_made op a b languages given (Err e) names sizes canonical language = tt
+
+-- and a projection
+pub projection_made : {X E : Type 0} (way : Direction) (a : NamedAutomaton) (track : List ℕ) (given : X → NamedAutomaton) (r : Result X E)
+    → IfOk r (λ x. (given x).names ≡ names_without a.names track) → IfOk r (λ x. (given x).automaton.sizes ≡ staying_sizes a track) → IfOk r (λ x. IsCanonical (given x).automaton)
+    → IfOk r (λ x. (w : List ℕ) → IsWord (product (staying_sizes a track)) w → IsTrue (accepts_of (given x).automaton w) ↔ InProjection a.automaton (staying_places a track) way w) → IfOk r (λ x. IsProjection way a track (given x))
+projection_made way a track given (Ok x) names sizes canonical language = record { names = names; sizes = sizes; canonical = canonical; language = language }
+projection_made way a track given (Err e) names sizes canonical language = tt
 
 -- on two tracks of one size each name has that size
 size_is : (t : NamedAutomaton) (d : ℕ) (name : List ℕ) → t.automaton.sizes ≡ d ∷ d ∷ [] → length t.names ≡ 2 → Contains t.names name → size_of t name ≡ d

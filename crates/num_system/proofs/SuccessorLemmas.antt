@@ -38,7 +38,7 @@ pub under_names : (c : NamedAutomaton) (ns : List (List ℕ)) → c.names ≡ ns
 under_names c ns same = λ i. record { names = same i; automaton = c.automaton }
 
 -- a pair of numbers of which the first is less
-less_first : (a b : ℕ) → IsLess (a ∷ b ∷ []) → a < b
+pub less_first : (a b : ℕ) → IsLess (a ∷ b ∷ []) → a < b
 less_first a b is =
     let first : a ≡ is.0 = ap (λ (ns : List ℕ). get_or ns 0 0) is.2 in
     let second : b ≡ is.1 = ap (λ (ns : List ℕ). get_or ns 1 0) is.2 in

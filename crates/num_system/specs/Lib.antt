@@ -9,6 +9,7 @@ pub mod Operations
 pub mod Spellings
 pub mod Successor
 pub mod SuccessorSteps
+pub mod SuccessorSums
 pub mod Sealed
 pub mod Tracks
 pub mod Sealing

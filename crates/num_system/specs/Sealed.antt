@@ -35,6 +35,15 @@ pub record AreRelationsOf (way : Direction) (s : System) (equal less successor z
   pub zeros : IsZeroOf way s zero
   pub zeros_canonical : IsCanonical zero
 
+-- the automata but that of the next number
+pub record AreOrderRelationsOf (way : Direction) (s : System) (equal less zero : Automaton) : Type 0 where
+  pub equality : IsEqualityOf way s equal
+  pub equality_canonical : IsCanonical equal
+  pub order : IsOrderOf way s less
+  pub order_canonical : IsCanonical less
+  pub zeros : IsZeroOf way s zero
+  pub zeros_canonical : IsCanonical zero
+
 -- what is sealed of these parts
 abbrev pub sealed_of : ℕ → Direction → Automaton → Automaton → Relations → SystemValue
 sealed_of digits way language adder relations = record {

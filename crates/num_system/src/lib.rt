@@ -7,7 +7,13 @@ pub use numeration::num_system;
 /// The successor of a system's numbers.
 pub mod successor;
 
-/// The relations of a system's numbers that its language alone tells.
+/// The successor of a system's numbers, from their adder.
+mod successor_sums;
+
+/// Steps without a limit.
+mod without_limit;
+
+/// The relations of a system's numbers.
 mod relations;
 
 /// Sealed systems.

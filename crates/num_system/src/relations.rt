@@ -1,14 +1,19 @@
-//! The relations of a system's numbers that its language alone tells.
+//! The relations of a system's numbers.
 
-ghost use Rattle.std.specs.Prelude.{◌≡◌, length, IfOk};
+ghost use Rattle.std.specs.Prelude.{◌≡◌, ◌+◌, length, IfOk, OnOk};
 ghost use Rattle.std.specs.Result.{IsErrOf};
+ghost use Rattle.digit_tuple.specs.Letters.{IsAlphabet, IsTooLarge};
+ghost use Rattle.digit_tuple.specs.Width.{HasApart};
 ghost use Rattle.minimise.specs.Canonical.{IsCanonical};
 ghost use Rattle.numeration.specs.Systems.{System, IsSystem};
-ghost use Rattle.numeration.specs.Relations.{IsLanguageOf, IsEqualityOf};
-ghost use Rattle.num_system.specs.Sealed.{AreRelationsOf};
+ghost use Rattle.numeration.specs.Relations.{IsLanguageOf, IsAdderOf, IsEqualityOf};
+ghost use Rattle.number_order.specs.Orders.{OrderAlike, pair_sizes, pair_letters};
+ghost use Rattle.num_system.specs.Sealed.{AreOrderRelationsOf, AreRelationsOf};
 ghost use Rattle.num_system.specs.Sealing.{IsLeastLanguage, IsOrderWithin, IsSealedWithin, ExceedsByLetters, ExceedsByStates};
 
 use crate::successor::successor_of;
+use crate::successor_sums::successor_by_sums;
+use crate::without_limit::without_limit;
 use digit_tuple::dfa::Dfa;
 use digit_tuple::direction::Direction;
 use digit_tuple::faults::{OpFault, OutOfMemory};
@@ -25,6 +30,28 @@ pub(crate) struct Relations {
     pub(crate) zero: Dfa,
 }
 
+// The canonical automata of these but the successor.
+#[derive(Drop)]
+struct OrderRelations {
+    equal: Dfa,
+    less: Dfa,
+    zero: Dfa,
+}
+
+impl OrderRelations {
+    // The relations with this successor.
+    fn with_successor(self, successor: Dfa) -> Relations
+        ensures { result ≡ record { equal = self.equal; less = self.less; successor = successor; zero = self.zero } }
+    {
+        Relations {
+            equal: self.equal,
+            less: self.less,
+            successor,
+            zero: self.zero,
+        }
+    }
+}
+
 // The relations of each system whose language the canonical automaton accepts.
 pub(crate) fn relations_of(
     alloc: Global,
@@ -38,14 +65,50 @@ pub(crate) fn relations_of(
     ensures letters { IsErrOf result OpFault.Letters → (s : System) → IsSystem s → IsLeastLanguage direction s language.now → ExceedsByLetters direction s limit }
     ensures states { IsErrOf result OpFault.States → (s : System) → IsSystem s → IsLeastLanguage direction s language.now → ExceedsByStates direction s limit }
 {
+    let relations = order_relations(alloc, language, direction, limit)?;
+    let successor = successor_of(alloc, &relations.less, direction, limit)?;
+    Ok(relations.with_successor(successor))
+}
+
+// The relations of each system whose language the canonical automaton accepts, the successor from the
+// canonical adder, without a limit.
+pub(crate) fn relations_by_sums(
+    alloc: Global,
+    language: &Dfa,
+    adder: &Dfa,
+    direction: Direction,
+) -> Result<Relations, OutOfMemory>
+    requires system { (s : System) × IsSystem s × IsLeastLanguage direction s language.now × IsAdderOf direction s adder.now }
+    requires canonical { IsCanonical adder.now }
+    requires fits { IsAlphabet adder.now.sizes }
+    ensures { IfOk result (λ r. (s : System) → IsSystem s → IsLanguageOf direction s language.now → IsAdderOf direction s adder.now → AreRelationsOf direction s r.equal r.less r.successor r.zero) }
+{
+    let relations = without_limit(order_relations(alloc, language, direction, u32::MAX))?;
+    let successor = successor_by_sums(alloc, &relations.less, &relations.zero, adder, direction)?;
+    Ok(relations.with_successor(successor))
+}
+
+// The relations but the successor of each system whose language the canonical automaton accepts. The
+// faults are those of the order.
+fn order_relations(
+    alloc: Global,
+    language: &Dfa,
+    direction: Direction,
+    limit: u32,
+) -> Result<OrderRelations, OpFault>
+    requires { (s : System) × IsSystem s × IsLeastLanguage direction s language.now }
+    ensures relations { IfOk result (λ r. (s : System) → IsSystem s → IsLanguageOf direction s language.now → AreOrderRelationsOf direction s r.equal r.less r.zero) }
+    ensures within { OnOk result (IsOrderWithin direction language.now limit) }
+    ensures letters { IsErrOf result OpFault.Letters → IsTooLarge (pair_sizes language.now) }
+    ensures states { IsErrOf result OpFault.States → HasApart (OrderAlike direction language.now) (pair_letters language.now) (limit + 1) }
+    ensures letters_first { IsErrOf result OpFault.States → IsAlphabet (pair_sizes language.now) }
+{
     let order = order_of(alloc, language, direction, limit)?;
-    let successor = successor_of(alloc, &order.result, direction, limit)?;
     let equal = equality_within(alloc, language, direction, limit)?;
     let zero = zero_of(alloc, language)?;
-    Ok(Relations {
+    Ok(OrderRelations {
         equal,
         less: order.result,
-        successor,
         zero,
     })
 }

@@ -5,10 +5,10 @@ ghost use Rattle.std.specs.Result.{IsErrOf};
 ghost use Rattle.digit_tuple.specs.Letters.{IsAlphabet};
 ghost use Rattle.minimise.specs.Canonical.{IsCanonical};
 ghost use Rattle.numeration.specs.Relations.{IsAdderOf};
-ghost use Rattle.num_system.specs.Sealed.{SystemValue, system_of};
+ghost use Rattle.num_system.specs.Sealed.{SystemValue, AreRelationsOf, sealed_of, system_of};
 ghost use Rattle.num_system.specs.Sealing.{IsLeastLanguage, IsSealedWithin, ExceedsByLetters, ExceedsByStates};
 
-use crate::relations::relations_of;
+use crate::relations::{Relations, relations_by_sums, relations_of};
 use crate::system::System;
 use digit_tuple::dfa::Dfa;
 use digit_tuple::faults::{OpFault, OutOfMemory};
@@ -34,13 +34,8 @@ pub fn seal<N: NumSystem>(alloc: Global, system: &N, limit: u32) -> Result<Syste
     let adder = least_adder(alloc, system)?;
     let direction = system.direction();
     let relations = relations_of(alloc, &language, direction, limit)?;
-    Ok(System::from_parts(
-        system.digits(),
-        direction,
-        Rc::new(alloc, language)?,
-        adder,
-        relations,
-    ))
+    let sealed = system_from(alloc, system, language, adder, relations)?;
+    Ok(sealed)
 }
 
 /// Seals a system that the program brings along, without a limit: three tracks over its digits have an
@@ -51,11 +46,11 @@ pub fn seal_built_in<N: NumSystem>(alloc: Global, system: &N) -> Result<System, 
     ensures system { IfOk result (λ sealed. system_of sealed ≡ N.system system.now) }
     ensures direction { IfOk result (λ sealed. sealed.way ≡ N.way system.now) }
 {
-    match seal(alloc, system, u32::MAX) {
-        Ok(sealed) => Ok(sealed),
-        Err(OpFault::Letters) => unreachable!(),
-        Err(_) => Err(OutOfMemory),
-    }
+    let language = least_language(alloc, system)?;
+    let adder = least_adder(alloc, system)?;
+    let direction = system.direction();
+    let relations = relations_by_sums(alloc, &language, &adder, direction)?;
+    system_from(alloc, system, language, adder, relations)
 }
 
 // The canonical automaton of the language.
@@ -73,4 +68,25 @@ fn least_adder<N: NumSystem>(alloc: Global, system: &N) -> Result<Dfa, OutOfMemo
 {
     let adder = system.adder(alloc)?;
     canonical(alloc, &adder)
+}
+
+// The sealed system of these automata.
+fn system_from<N: NumSystem>(
+    alloc: Global,
+    system: &N,
+    language: Dfa,
+    adder: Dfa,
+    relations: Relations,
+) -> Result<System, OutOfMemory>
+    requires language { IsLeastLanguage (N.way system.now) (N.system system.now) language }
+    requires adder { IsAdderOf (N.way system.now) (N.system system.now) adder }
+    requires canonical { IsCanonical adder }
+    requires relations { AreRelationsOf (N.way system.now) (N.system system.now) relations.equal relations.less relations.successor relations.zero }
+    ensures system { IfOk result (λ sealed. system_of sealed ≡ N.system system.now) }
+    ensures parts { IfOk result (λ sealed. sealed ≡ sealed_of (N.system system.now).digits (N.way system.now) language adder relations) }
+{
+    let digits = system.digits();
+    let direction = system.direction();
+    let valid = Rc::new(alloc, language)?;
+    Ok(System::from_parts(digits, direction, valid, adder, relations))
 }

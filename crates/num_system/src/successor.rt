@@ -132,7 +132,12 @@ pub fn next_of(
 }
 
 // The order with names for its two tracks.
-fn order_on(alloc: Global, less: &Dfa, first: &str, second: &str) -> Result<Tracked, OutOfMemory>
+pub(crate) fn order_on(
+    alloc: Global,
+    less: &Dfa,
+    first: &str,
+    second: &str,
+) -> Result<Tracked, OutOfMemory>
     requires canonical { IsCanonical less.now }
     requires tracks { length less.now.sizes ≡ 2 }
     requires distinct { first.now ≢ second.now }

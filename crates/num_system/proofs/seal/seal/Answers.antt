@@ -1,11 +1,9 @@
-use Rattle.std.proofs.Common.{sym, ap, ◌∙◌, subst}
+use Rattle.std.proofs.Common.{sym, ap, subst}
 use Rattle.std.proofs.lemmas.Result.{err_from_is_err_and}
-use Rattle.digit_tuple.specs.Deterministic.{Automaton}
 use Rattle.digit_tuple.specs.declared.direction.Direction.{Direction}
 use Rattle.digit_tuple.specs.declared.faults.OpFault.TheVariants.{Letters, States}
-use Rattle.num_system.specs.Sealed.{system_of, sealed_of, AreRelationsOf}
-use Rattle.num_system.specs.Sealing.{IsLeastLanguage, ExceedsByLetters, ExceedsByStates}
-use Rattle.num_system.proofs.SealLemmas.{same_system, sealed_from}
+use Rattle.num_system.specs.Sealed.{SystemValue, AreRelationsOf}
+use Rattle.num_system.specs.Sealing.{IsLeastLanguage, IsSealedWithin, ExceedsByLetters, ExceedsByStates}
 use Rattle.num_system.proofs.SealingLemmas.{same_fault}
 use Rattle.num_system.proofs.seal.seal.Goals as goal
 
@@ -32,22 +30,19 @@ returns-in_err-relations-clause-states g c refused =
     subst (λ (m : Direction). ExceedsByStates m s c.args.limit) way
     (c.in_err-relations.ensures.states (same_fault c.in_err-relations.field-0.0 States (rw (p.1, p.2) at refused)) s (g.met.N.NumSystem.laws c.args.system.now) least)
 
-pub from_parts-requires : goal.from_parts-requires
-from_parts-requires g c =
+pub system_from-requires-clause-relations : goal.system_from-requires-clause-relations
+system_from-requires-clause-relations g c =
     let s = g.N.NumSystem.system c.args.system.now in
-    let way = g.N.NumSystem.way c.args.system.now in
-    let laws = g.met.N.NumSystem.laws c.args.system.now in
-    let turned = c.direction-direction.ensures in
-    let v = sealed_of c.digits.result c.direction-direction.result c.in_ok-new.field-0.value c.in_ok-adder.adder c.in_ok-relations.relations in
-    let language : IsLeastLanguage way s c.in_ok-new.field-0.value = subst (λ (d : Automaton). IsLeastLanguage way s d) (sym c.in_ok-new.ensures.ok) c.in_ok-language.ensures in
-    let least = subst (λ (m : Direction). IsLeastLanguage m s c.in_ok-language.language) (sym turned) c.in_ok-language.ensures in
-    let relations = subst (λ (m : Direction). AreRelationsOf m s v.equal v.less v.successor v.zero) turned (c.in_ok-relations.ensures.relations s laws least.accepts) in
-    sealed_from s way v turned c.digits.ensures laws language c.in_ok-adder.ensures.adder c.in_ok-adder.ensures.canonical relations
+    let r = c.in_ok-relations.relations in
+    let way = c.direction-direction.ensures in
+    let least = subst (λ (m : Direction). IsLeastLanguage m s c.in_ok-language.language) (sym way) c.in_ok-language.ensures in
+    subst (λ (m : Direction). AreRelationsOf m s r.equal r.less r.successor r.zero) way (c.in_ok-relations.ensures.relations s (g.met.N.NumSystem.laws c.args.system.now) least.accepts)
 
-pub returns-clause-system : goal.returns-clause-system
-returns-clause-system g c =
-    let s = g.N.NumSystem.system c.args.system.now in
-    let v = sealed_of c.digits.result c.direction-direction.result c.in_ok-new.field-0.value c.in_ok-adder.adder c.in_ok-relations.relations in
-    let least = subst (λ (m : Direction). IsLeastLanguage m s c.in_ok-language.language) (sym c.direction-direction.ensures) c.in_ok-language.ensures in
-    let language : IsLeastLanguage v.way s v.language = subst (λ (d : Automaton). IsLeastLanguage v.way s d) (sym c.in_ok-new.ensures.ok) least in
-    ap system_of c.from_parts.ensures ∙ same_system s v c.digits.ensures language.accepts
+pub returns-clause-direction : goal.returns-clause-direction
+returns-clause-direction g c = ap (λ (v : SystemValue). v.way) c.in_ok-sealed.ensures.parts
+
+pub returns-clause-within : goal.returns-clause-within
+returns-clause-within g c =
+    let r = c.in_ok-relations.relations in
+    rw c.in_ok-sealed.ensures.parts
+    (subst (λ (m : Direction). IsSealedWithin m c.in_ok-language.language r.less c.args.limit) c.direction-direction.ensures c.in_ok-relations.ensures.within)

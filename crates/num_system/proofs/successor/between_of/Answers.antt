@@ -1,9 +1,11 @@
 use Rattle.std.proofs.Common.{◌≡◌, ℕ, List, subst}
 use Rattle.std.specs.Result.{IfOk}
 use Rattle.std.proofs.lemmas.Result.{IfOk-weaker}
+use Rattle.digit_tuple.specs.declared.stepped.Stepped.{Stepped}
+use Rattle.minimise.specs.Tracked.{NamedAutomaton}
 use Rattle.num_system.specs.SuccessorSteps.{name_u}
 use Rattle.num_system.specs.Operations.{IsProjection}
-use Rattle.num_system.proofs.StepLemmas.{IfOk-four}
+use Rattle.num_system.proofs.StepLemmas.{projection_made}
 use Rattle.num_system.proofs.SuccessorLemmas.{between_holds}
 use Rattle.num_system.proofs.successor.between_of.Goals as goal
 
@@ -11,8 +13,7 @@ pub returns-clause-projection : goal.returns-clause-projection
 returns-clause-projection c =
     let u : c.in_ok-u.u ≡ name_u = c.in_ok-u.ensures in
     subst (λ (t : List ℕ). IfOk c.project.result (λ stepped. IsProjection c.args.direction c.args.chain.now t stepped.result)) u
-    (IfOk-four c.project.result _ _ _ _ _
-    (λ stepped names sizes canonical language. record { names = names; sizes = sizes; canonical = canonical; language = language })
+    (projection_made c.args.direction c.args.chain.now c.in_ok-u.u (λ (stepped : Stepped NamedAutomaton). stepped.result) c.project.result
     c.project.ensures.names c.project.ensures.sizes c.project.ensures.canonical c.project.ensures.language)
 
 pub returns-clause-relation : goal.returns-clause-relation
