@@ -7,105 +7,173 @@ use Rattle.digit_tuple.specs.declared.slots.Slot.{Slot}
 use Rattle.digit_tuple.specs.declared.slots.SlotTable.{SlotTable}
 use Rattle.digit_tuple.specs.Explored.{key_at}
 use Rattle.digit_tuple.specs.KeyHashes.{hash_of}
-use Rattle.digit_tuple.specs.Slots.{AreSlotted, IsSlotted, home_of, slot_at}
+use Rattle.digit_tuple.specs.Slots.{AreSlotted, IsPut, IsSlotted, home_of, slot_at}
 
--- a slot that was free is taken, and the others stay
-pub record IsTaken (old new : List Slot) (place hash link : ℕ) : Type 0 where
-  pub free : (slot_at old place).link ≡ 0
-  pub has_hash : (slot_at new place).hash ≡ hash
-  pub has_link : (slot_at new place).link ≡ link
-  pub others : (p : ℕ) → p ≢ place → slot_at new p ≡ slot_at old p
-  pub longer : length old ≤ length new
-  pub within : place < length new
+module _ (old new : SlotTable) (slot : Slot) (place : ℕ) (same_mask : new.mask ≡ old.mask) (from : home_of old.mask slot.hash ≤ place)
+    (none_free : (p : ℕ) → home_of old.mask slot.hash ≤ p → p < place → 0 < (slot_at old.slots.items p).link) where
+  -- a free slot is written
+  pub IsPut-set : new.slots.items ≡ set old.slots.items place slot → place < length old.slots.items → (slot_at old.slots.items place).link ≡ 0 → IsPut old new slot
+  IsPut-set written within free = record {
+    place = place;
+    from = from;
+    none_free = none_free;
+    free = free;
+    within = omega (arith, size, within);
+    is_slot = ap (λ (ss : List Slot). slot_at ss place) written ∙ get_or-set_same old.slots.items place slot (record { hash = 0; link = 0 }) within;
+    others = λ p other. ap (λ (ss : List Slot). slot_at ss p) written ∙ get_or-set_other old.slots.items place p slot (record { hash = 0; link = 0 }) other;
+    no_fewer = omega (arith, size);
+    same_mask = same_mask;
+  }
+    where
+      size : length new.slots.items ≡ length old.slots.items
+      size = ap (λ (ss : List Slot). length ss) written ∙ length-set old.slots.items place slot
 
--- a free slot is written
-pub IsTaken-set : (slots : List Slot) (place hash link : ℕ) → place < length slots → (slot_at slots place).link ≡ 0 → IsTaken slots (set slots place (record { hash = hash; link = link })) place hash link
-IsTaken-set slots place hash link within free = record {
-  free = free;
-  has_hash = ap (λ (s : Slot). s.hash) same;
-  has_link = ap (λ (s : Slot). s.link) same;
-  others = λ p other. get_or-set_other slots place p (record { hash = hash; link = link }) (record { hash = 0; link = 0 }) other;
-  longer = omega (arith, size);
-  within = omega (arith, size, within);
-}
-  where
-    size : length (set slots place (record { hash = hash; link = link })) ≡ length slots
-    size = length-set slots place (record { hash = hash; link = link })
+  -- a slot is added past the last
+  pub IsPut-push : new.slots.items ≡ old.slots.items ++ slot ∷ [] → length old.slots.items ≡ place → IsPut old new slot
+  IsPut-push pushed end = record {
+    place = place;
+    from = from;
+    none_free = none_free;
+    free = ap (λ (s : Slot). s.link) (get_or_past old.slots.items place (record { hash = 0; link = 0 }) (omega (arith, end)));
+    within = omega (arith, size, end);
+    is_slot = ap (λ (ss : List Slot). slot_at ss place) pushed ∙ get_or_push old.slots.items slot (record { hash = 0; link = 0 }) place end;
+    others = λ p other. ap (λ (ss : List Slot). slot_at ss p) pushed ∙ others p other (cases_lt p place);
+    no_fewer = omega (arith, size);
+    same_mask = same_mask;
+  }
+    where
+      longer : length (old.slots.items ++ slot ∷ []) ≡ length old.slots.items + 1
+      longer = length_push old.slots.items slot
 
-    same : slot_at (set slots place (record { hash = hash; link = link })) place ≡ record { hash = hash; link = link }
-    same = get_or-set_same slots place (record { hash = hash; link = link }) (record { hash = 0; link = 0 }) within
+      size : length new.slots.items ≡ length old.slots.items + 1
+      size = ap (λ (ss : List Slot). length ss) pushed ∙ longer
 
--- a slot is added past the last
-pub IsTaken-push : (slots : List Slot) (place hash link : ℕ) → length slots ≡ place → IsTaken slots (slots ++ (record { hash = hash; link = link }) ∷ []) place hash link
-IsTaken-push slots place hash link end = record {
-  free = ap (λ (s : Slot). s.link) (get_or_past slots place (record { hash = 0; link = 0 }) (omega (arith, end)));
-  has_hash = ap (λ (s : Slot). s.hash) same;
-  has_link = ap (λ (s : Slot). s.link) same;
-  others = λ p other. others p other (cases_lt p place);
-  longer = omega (arith, size);
-  within = omega (arith, size, end);
-}
-  where
-    size : length (slots ++ (record { hash = hash; link = link }) ∷ []) ≡ length slots + 1
-    size = length_push slots (record { hash = hash; link = link })
+      others : (p : ℕ) → p ≢ place → (p < place) ⊎ (place ≤ p) → slot_at (old.slots.items ++ slot ∷ []) p ≡ slot_at old.slots.items p
+      others p other (inl below) = get_or_append_left old.slots.items (slot ∷ []) (record { hash = 0; link = 0 }) p (omega (arith, below, end))
+      others p other (inr past) = get_or_past (old.slots.items ++ slot ∷ []) p (record { hash = 0; link = 0 }) (omega (arith, longer, past, other, end)) ∙ sym (get_or_past old.slots.items p (record { hash = 0; link = 0 }) (omega (arith, past, end)))
 
-    same : slot_at (slots ++ (record { hash = hash; link = link }) ∷ []) place ≡ record { hash = hash; link = link }
-    same = get_or_push slots (record { hash = hash; link = link }) (record { hash = 0; link = 0 }) place end
+module _ (old new : SlotTable) (slot : Slot) (put : IsPut old new slot) where
+  others_link : (p : ℕ) → p ≢ put.place → (slot_at new.slots.items p).link ≡ (slot_at old.slots.items p).link
+  others_link p other = ap (λ (s : Slot). s.link) (put.others p other)
 
-    others : (p : ℕ) → p ≢ place → (p < place) ⊎ (place ≤ p) → slot_at (slots ++ (record { hash = hash; link = link }) ∷ []) p ≡ slot_at slots p
-    others p other (inl below) = get_or_append_left slots ((record { hash = hash; link = link }) ∷ []) (record { hash = 0; link = 0 }) p (omega (arith, below, end))
-    others p other (inr past) = get_or_past (slots ++ (record { hash = hash; link = link }) ∷ []) p (record { hash = 0; link = 0 }) (omega (arith, size, past, other, end)) ∙ sym (get_or_past slots p (record { hash = 0; link = 0 }) (omega (arith, past, end)))
+  link_here : (p : ℕ) → p ≡ put.place → (slot_at new.slots.items p).link ≡ slot.link
+  link_here p here = ap (λ q. (slot_at new.slots.items q).link) here ∙ ap (λ (s : Slot). s.link) put.is_slot
 
-module _ (old new : SlotTable) (hashes : List ℕ) (hash place : ℕ) (same_mask : new.mask ≡ old.mask) (taken : IsTaken old.slots.items new.slots.items place hash (length hashes + 1)) (are : AreSlotted old hashes) where
-  others_link : (p : ℕ) → p ≢ place → (slot_at new.slots.items p).link ≡ (slot_at old.slots.items p).link
-  others_link p other = ap (λ (s : Slot). s.link) (taken.others p other)
+  was_free : (p : ℕ) → p ≡ put.place → (slot_at old.slots.items p).link ≡ 0
+  was_free p here = ap (λ q. (slot_at old.slots.items q).link) here ∙ put.free
 
   stay_taken : (p : ℕ) → 0 < (slot_at old.slots.items p).link → 0 < (slot_at new.slots.items p).link
-  stay_taken p some = by (cases_eq p place)
+  stay_taken p some = by (cases_eq p put.place)
     where
-      by : (p ≡ place) ⊎ (p ≢ place) → 0 < (slot_at new.slots.items p).link
-      by (inl here) = omega (arith, some, taken.free, ap (λ q. (slot_at old.slots.items q).link) here)
+      by : (p ≡ put.place) ⊎ (p ≢ put.place) → 0 < (slot_at new.slots.items p).link
+      by (inl here) = absurd (omega (arith, some, was_free p here))
       by (inr there) = omega (arith, some, others_link p there)
 
-  stays : (h n : ℕ) → IsSlotted old.mask old.slots.items h n → IsSlotted new.mask new.slots.items h n
-  stays h n is =
-      let other : is.place ≢ place = λ here. omega (arith, is.has_link, taken.free, ap (λ q. (slot_at old.slots.items q).link) here) in
+  -- the numbers that have slots keep them
+  pub IsSlotted-stays : (h n : ℕ) → IsSlotted old.mask old.slots.items h n → IsSlotted new.mask new.slots.items h n
+  IsSlotted-stays h n is =
+      let other : is.place ≢ put.place = λ here. omega (arith, is.has_link, was_free is.place here) in
       record {
         place = is.place;
-        from = subst (λ m. home_of m h ≤ is.place) (sym same_mask) is.from;
-        within = omega (arith, is.within, taken.longer);
-        has_hash = ap (λ (s : Slot). s.hash) (taken.others is.place other) ∙ is.has_hash;
+        from = subst (λ m. home_of m h ≤ is.place) (sym put.same_mask) is.from;
+        within = omega (arith, is.within, put.no_fewer);
+        has_hash = ap (λ (s : Slot). s.hash) (put.others is.place other) ∙ is.has_hash;
         has_link = others_link is.place other ∙ is.has_link;
-        none_free = subst (λ m. (p : ℕ) → home_of m h ≤ p → p < is.place → 0 < (slot_at new.slots.items p).link) (sym same_mask) (λ p after before. stay_taken p (is.none_free p after before));
+        none_free = subst (λ m. (p : ℕ) → home_of m h ≤ p → p < is.place → 0 < (slot_at new.slots.items p).link) (sym put.same_mask) (λ p after before. stay_taken p (is.none_free p after before));
       }
 
-  comes : home_of old.mask hash ≤ place → ((p : ℕ) → home_of old.mask hash ≤ p → p < place → 0 < (slot_at old.slots.items p).link) → IsSlotted new.mask new.slots.items hash (length hashes)
-  comes from none_free = record {
-    place = place;
-    from = subst (λ m. home_of m hash ≤ place) (sym same_mask) from;
-    within = taken.within;
-    has_hash = taken.has_hash;
-    has_link = taken.has_link;
-    none_free = subst (λ m. (p : ℕ) → home_of m hash ≤ p → p < place → 0 < (slot_at new.slots.items p).link) (sym same_mask) (λ p after before. stay_taken p (none_free p after before));
+  -- the number of the link comes
+  pub IsSlotted-comes : (n : ℕ) → slot.link ≡ n + 1 → IsSlotted new.mask new.slots.items slot.hash n
+  IsSlotted-comes n link = record {
+    place = put.place;
+    from = subst (λ m. home_of m slot.hash ≤ put.place) (sym put.same_mask) put.from;
+    within = put.within;
+    has_hash = ap (λ (s : Slot). s.hash) put.is_slot;
+    has_link = ap (λ (s : Slot). s.link) put.is_slot ∙ link;
+    none_free = subst (λ m. (p : ℕ) → home_of m slot.hash ≤ p → p < put.place → 0 < (slot_at new.slots.items p).link) (sym put.same_mask) (λ p after before. stay_taken p (put.none_free p after before));
   }
 
-  -- the next number is put into the first free slot from its home on
-  pub AreSlotted-put : home_of old.mask hash ≤ place → ((p : ℕ) → home_of old.mask hash ≤ p → p < place → 0 < (slot_at old.slots.items p).link) → AreSlotted new (hashes ++ hash ∷ [])
-  AreSlotted-put from none_free = record {
-    homes = omega (arith, same_mask, are.homes, taken.longer);
-    held = λ p. held p (cases_eq p place);
+  -- no link is greater than those there were and the one that comes
+  pub held_after : (most : ℕ) → slot.link ≤ most → ((p : ℕ) → (slot_at old.slots.items p).link ≤ most) → (p : ℕ) → (slot_at new.slots.items p).link ≤ most
+  held_after most comes held p = by (cases_eq p put.place)
+    where
+      by : (p ≡ put.place) ⊎ (p ≢ put.place) → (slot_at new.slots.items p).link ≤ most
+      by (inl here) = omega (arith, comes, link_here p here)
+      by (inr there) = omega (arith, held p, others_link p there)
+
+  -- the next number is put
+  pub AreSlotted-put : (hashes : List ℕ) → slot.link ≡ length hashes + 1 → AreSlotted old hashes → AreSlotted new (hashes ++ slot.hash ∷ [])
+  AreSlotted-put hashes link are = record {
+    homes = omega (arith, put.same_mask, are.homes, put.no_fewer);
+    held = held_after (length (hashes ++ slot.hash ∷ [])) (omega (arith, link, more)) (λ p. omega (arith, are.held p, more));
     slotted = λ n within. slotted n within (cases_lt n (length hashes));
   }
     where
-      held : (p : ℕ) → (p ≡ place) ⊎ (p ≢ place) → (slot_at new.slots.items p).link ≤ length (hashes ++ hash ∷ [])
-      held p (inl here) = omega (arith, taken.has_link, ap (λ q. (slot_at new.slots.items q).link) here, length_push hashes hash)
-      held p (inr there) = omega (arith, are.held p, others_link p there, length_push hashes hash)
+      more : length (hashes ++ slot.hash ∷ []) ≡ length hashes + 1
+      more = length_push hashes slot.hash
 
-      slotted : (n : ℕ) → n < length (hashes ++ hash ∷ []) → (n < length hashes) ⊎ (length hashes ≤ n) → IsSlotted new.mask new.slots.items (get_or (hashes ++ hash ∷ []) n 0) n
-      slotted n within (inl below) = rw (get_or_append_left hashes (hash ∷ []) 0 n below) (stays (get_or hashes n 0) n (are.slotted n below))
+      slotted : (n : ℕ) → n < length (hashes ++ slot.hash ∷ []) → (n < length hashes) ⊎ (length hashes ≤ n) → IsSlotted new.mask new.slots.items (get_or (hashes ++ slot.hash ∷ []) n 0) n
+      slotted n within (inl below) = rw (get_or_append_left hashes (slot.hash ∷ []) 0 n below) (IsSlotted-stays (get_or hashes n 0) n (are.slotted n below))
       slotted n within (inr past) =
-          let all : length hashes ≡ n = omega (arith, within, length_push hashes hash, past) in
-          rw (get_or_push hashes hash 0 n all, sym all) (comes from none_free)
+          let all : length hashes ≡ n = omega (arith, within, more, past) in
+          rw (get_or_push hashes slot.hash 0 n all) (IsSlotted-comes n (omega (arith, link, all)))
+
+-- the numbers of the old slots before a place are slotted in the new ones, which hold no link greater than the old ones
+pub record AreWalked (old new : SlotTable) (place : ℕ) : Type 0 where
+  pub homes : new.mask ≤ length new.slots.items
+  pub held : (most : ℕ) → ((p : ℕ) → (slot_at old.slots.items p).link ≤ most) → (p : ℕ) → (slot_at new.slots.items p).link ≤ most
+  pub slotted : (p : ℕ) → p < place → 0 < (slot_at old.slots.items p).link → IsSlotted new.mask new.slots.items (slot_at old.slots.items p).hash ((slot_at old.slots.items p).link - 1)
+
+-- before the first, all new slots are free
+pub AreWalked-none : (old new : SlotTable) → AreSlotted new [] → AreWalked old new 0
+AreWalked-none old new free = record {
+  homes = free.homes;
+  held = λ most old_held p. omega (arith, free.held p);
+  slotted = λ p before. absurd (omega (arith, before));
+}
+
+-- a free slot is passed over
+pub AreWalked-free : (old new : SlotTable) (place : ℕ) → AreWalked old new place → (slot_at old.slots.items place).link ≡ 0 → AreWalked old new (place + 1)
+AreWalked-free old new place walked free = record {
+  homes = walked.homes;
+  held = walked.held;
+  slotted = λ p before. slotted p before (cases_eq p place);
+}
+  where
+    slotted : (p : ℕ) → p < place + 1 → (p ≡ place) ⊎ (p ≢ place) → 0 < (slot_at old.slots.items p).link → IsSlotted new.mask new.slots.items (slot_at old.slots.items p).hash ((slot_at old.slots.items p).link - 1)
+    slotted p before (inl here) some = absurd (omega (arith, some, free, ap (λ q. (slot_at old.slots.items q).link) here))
+    slotted p before (inr there) some = walked.slotted p (omega (arith, before, there)) some
+
+-- a taken slot is put
+pub AreWalked-put : (old new newer : SlotTable) (place : ℕ) → AreWalked old new place → 0 < (slot_at old.slots.items place).link → IsPut new newer (slot_at old.slots.items place) → AreWalked old newer (place + 1)
+AreWalked-put old new newer place walked taken put = record {
+  homes = omega (arith, walked.homes, put.same_mask, put.no_fewer);
+  held = λ most old_held. held_after new newer (slot_at old.slots.items place) put most (old_held place) (walked.held most old_held);
+  slotted = λ p before. slotted p before (cases_eq p place);
+}
+  where
+    comes : IsSlotted newer.mask newer.slots.items (slot_at old.slots.items place).hash ((slot_at old.slots.items place).link - 1)
+    comes = IsSlotted-comes new newer (slot_at old.slots.items place) put ((slot_at old.slots.items place).link - 1) (omega (arith, taken))
+
+    slotted : (p : ℕ) → p < place + 1 → (p ≡ place) ⊎ (p ≢ place) → 0 < (slot_at old.slots.items p).link → IsSlotted newer.mask newer.slots.items (slot_at old.slots.items p).hash ((slot_at old.slots.items p).link - 1)
+    slotted p before (inl here) some = subst (λ q. IsSlotted newer.mask newer.slots.items (slot_at old.slots.items q).hash ((slot_at old.slots.items q).link - 1)) (sym here) comes
+    slotted p before (inr there) some = IsSlotted-stays new newer (slot_at old.slots.items place) put (slot_at old.slots.items p).hash ((slot_at old.slots.items p).link - 1) (walked.slotted p (omega (arith, before, there)) some)
+
+-- past the last, all numbers are slotted
+pub AreSlotted-walked : (old new : SlotTable) (hashes : List ℕ) → AreWalked old new (length old.slots.items) → AreSlotted old hashes → AreSlotted new hashes
+AreSlotted-walked old new hashes walked are = record {
+  homes = walked.homes;
+  held = walked.held (length hashes) are.held;
+  slotted = slotted;
+}
+  where
+    slotted : (n : ℕ) → n < length hashes → IsSlotted new.mask new.slots.items (get_or hashes n 0) n
+    slotted n within =
+        let was = are.slotted n within in
+        let number : (slot_at old.slots.items was.place).link - 1 ≡ n = omega (arith, was.has_link) in
+        subst (λ h. IsSlotted new.mask new.slots.items h n) was.has_hash
+        (subst (λ m. IsSlotted new.mask new.slots.items (slot_at old.slots.items was.place).hash m) number
+        (walked.slotted was.place was.within (omega (arith, was.has_link))))
 
 -- no slot before a place is free, and none from the home on holds the key
 pub record IsSought (keys : List (List ℕ)) (slots : List Slot) (key : List ℕ) (hash home place : ℕ) : Type 0 where

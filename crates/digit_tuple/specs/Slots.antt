@@ -1,5 +1,5 @@
 -- Numbers in slots, by their hashes.
-use Rattle.std.specs.Prelude.{◌≡◌, ℕ, ◌+◌, ◌<◌, ◌≤◌, bit_and, List, length, slice_index, slice_index_or}
+use Rattle.std.specs.Prelude.{◌≡◌, ◌≢◌, ℕ, ◌+◌, ◌<◌, ◌≤◌, bit_and, List, length, slice_index, slice_index_or}
 use Rattle.digit_tuple.specs.declared.slots.Slot.{Slot}
 use Rattle.digit_tuple.specs.declared.slots.SlotTable.{SlotTable}
 
@@ -25,3 +25,15 @@ pub record AreSlotted (table : SlotTable) (hashes : List ℕ) : Type 0 where
   pub homes : table.mask ≤ length table.slots.items
   pub held : (place : ℕ) → (slot_at table.slots.items place).link ≤ length hashes
   pub slotted : (number : ℕ) → number < length hashes → IsSlotted table.mask table.slots.items (slice_index hashes number) number
+
+-- the slot stands at the first place that was free from the home of its hash on, and all other slots stay
+pub record IsPut (old new : SlotTable) (slot : Slot) : Type 0 where
+  pub place : ℕ
+  pub from : home_of old.mask slot.hash ≤ place
+  pub none_free : (p : ℕ) → home_of old.mask slot.hash ≤ p → p < place → 0 < (slot_at old.slots.items p).link
+  pub free : (slot_at old.slots.items place).link ≡ 0
+  pub within : place < length new.slots.items
+  pub is_slot : slot_at new.slots.items place ≡ slot
+  pub others : (p : ℕ) → p ≢ place → slot_at new.slots.items p ≡ slot_at old.slots.items p
+  pub no_fewer : length old.slots.items ≤ length new.slots.items
+  pub same_mask : new.mask ≡ old.mask

@@ -162,10 +162,7 @@ fn make_room(alloc: Global, table: &mut SlotTable, keys: &KeyArena) -> Result<()
     if table.has_room(keys.len()) {
         return Ok(());
     }
-    let mut more = table.twice(alloc)?;
-    for number in 0..keys.len() {
-        more.put(key_hash(keys.key(number)), number)?;
-    }
+    let more = table.doubled(alloc)?;
     *table = more;
     Ok(())
 }

@@ -3,7 +3,7 @@
 //! was free when it came. The slots do not go round: where all up to the end are taken, one more is added.
 
 ghost use Rattle.std.specs.Prelude.{◌≡◌, ℕ, ◌<◌, ◌≤◌, ◌++◌, ◌∷◌, [], List, length, IfOk, OnOk, OnErr};
-ghost use Rattle.digit_tuple.specs.Slots.{AreSlotted, home_of, slot_at};
+ghost use Rattle.digit_tuple.specs.Slots.{AreSlotted, IsPut, home_of, slot_at};
 
 use crate::faults::OutOfMemory;
 use std::alloc::Global;
@@ -38,8 +38,23 @@ impl SlotTable {
         }
     }
 
-    /// About twice as many slots as there are, or a few at first, all of them free.
-    pub fn twice(&self, alloc: Global) -> Result<Self, OutOfMemory>
+    /// The same numbers in about twice as many slots, or in a few at first. It reads no key. It walks the slots
+    /// in their order, which is about that of their homes, so that the new ones are written in two streams.
+    pub fn doubled(&self, alloc: Global) -> Result<Self, OutOfMemory>
+        requires { self.now.mask ≤ length self.now.slots.items }
+        ensures { IfOk result (λ table. (hashes : List ℕ) → AreSlotted self.now hashes → AreSlotted table hashes) }
+    {
+        let mut more = self.twice(alloc)?;
+        for slot in &self.slots {
+            if slot.link > 0 {
+                more.put_slot(*slot)?;
+            }
+        }
+        Ok(more)
+    }
+
+    // About twice as many slots as there are, or a few at first, all of them free.
+    fn twice(&self, alloc: Global) -> Result<Self, OutOfMemory>
         requires { self.now.mask ≤ length self.now.slots.items }
         ensures { IfOk result (λ table. AreSlotted table []) }
     {
@@ -80,11 +95,20 @@ impl SlotTable {
             return Err(OutOfMemory);
         }
         let link = number as u32 + 1;
-        let place = free_place(&self.slots, self.home(hash));
+        self.put_slot(Slot { hash, link })
+    }
+
+    // Writes the slot at the first free place from the home of its hash on. A refused call leaves the numbers.
+    fn put_slot(&mut self, slot: Slot) -> Result<(), OutOfMemory>
+        requires { self.old.mask ≤ length self.old.slots.items }
+        ensures ok { OnOk result (IsPut self.old self.new slot) }
+        ensures err { OnErr result ((hashes : List ℕ) → AreSlotted self.old hashes → AreSlotted self.new hashes) }
+    {
+        let place = free_place(&self.slots, self.home(slot.hash));
         if place < self.slots.len() {
-            self.slots[place] = Slot { hash, link };
+            self.slots[place] = slot;
         } else {
-            self.slots.push(Slot { hash, link })?;
+            self.slots.push(slot)?;
         }
         Ok(())
     }

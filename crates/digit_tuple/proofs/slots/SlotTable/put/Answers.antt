@@ -1,37 +1,12 @@
-use Rattle.std.proofs.Common.{◌≡◌, ◌≤◌, ◌<◌, ◌+◌, ◌++◌, ◌∷◌, [], ℕ, List, length, set, subst, sym, ap, refl, arith, rules}
-use Rattle.digit_tuple.specs.declared.slots.Slot.{Slot}
-use Rattle.digit_tuple.specs.Slots.{AreSlotted, slot_at}
-use Rattle.digit_tuple.proofs.SlotLemmas.{AreSlotted-put, AreSlotted-same, IsTaken, IsTaken-push, IsTaken-set}
+use Rattle.std.proofs.Common.{◌≡◌, ◌+◌, ◌++◌, ◌∷◌, [], ℕ, List, length, sym, ap, rules}
+use Rattle.digit_tuple.specs.Slots.{AreSlotted, IsPut}
+use Rattle.digit_tuple.proofs.SlotLemmas.{AreSlotted-put}
 use Rattle.digit_tuple.proofs.slots.SlotTable.put.Goals as goal
 
-pub returns-in_err-push-clause-err : goal.returns-in_err-push-clause-err
-returns-in_err-push-clause-err c =
-    let kept : (hashes : List ℕ) → AreSlotted c.args.self.now hashes → AreSlotted (record { mask = c.args.self.now.mask; slots = c.push.new.self }) hashes = λ hashes are. AreSlotted-same c.args.self.now (record { mask = c.args.self.now.mask; slots = c.push.new.self }) hashes refl c.in_err-push.ensures.items are in
-    let failed = c.from_residual.ensures in
-    search (rules, kept)
-
-pub returns-then-place-len-clause-ok : goal.returns-then-place-len-clause-ok
-returns-then-place-len-clause-ok c =
-    let slots = c.args.self.now.slots.items in
-    let place = c.free_place-place.result in
-    let hash = c.args.hash in
-    let within : place < length slots = omega (arith, c.if-place-len.true, c.len.ensures, c.args.self.now.slots.ok) in
-    let free : (slot_at slots place).link ≡ 0 = subst (λ (ss : List Slot). (slot_at ss place).link ≡ 0) c.deref.ensures.value c.free_place-place.ensures.free in
-    λ hashes count are. AreSlotted-put c.args.self.now _ hashes hash place refl
-    (subst (λ n. IsTaken slots (set slots place (record { hash = hash; link = n + 1 })) place hash (length hashes + 1)) count (IsTaken-set slots place hash (length hashes + 1) within free))
-    are
-    (subst (λ h. h ≤ place) c.home.ensures.home c.free_place-place.ensures.from)
-    (subst (λ h. (p : ℕ) → h ≤ p → p < place → 0 < (slot_at slots p).link) c.home.ensures.home (subst (λ (ss : List Slot). (p : ℕ) → c.home.result ≤ p → p < place → 0 < (slot_at ss p).link) c.deref.ensures.value c.free_place-place.ensures.taken))
-
-pub returns-in_ok-push-clause-ok : goal.returns-in_ok-push-clause-ok
-returns-in_ok-push-clause-ok c =
-    let slots = c.args.self.now.slots.items in
-    let place = c.free_place-place.result in
-    let hash = c.args.hash in
-    let end : length slots ≡ place = omega (arith, c.if-place-len.false, c.len.ensures, c.args.self.now.slots.ok, c.free_place-place.ensures.within, ap (λ (ss : List Slot). length ss) c.deref.ensures.value) in
-    λ hashes count are. AreSlotted-put c.args.self.now (record { mask = c.args.self.now.mask; slots = c.push.new.self }) hashes hash place refl
-    (subst (λ (new : List Slot). IsTaken slots new place hash (length hashes + 1)) (sym c.in_ok-push.ensures.items)
-    (subst (λ n. IsTaken slots (slots ++ (record { hash = hash; link = n + 1 }) ∷ []) place hash (length hashes + 1)) count (IsTaken-push slots place hash (length hashes + 1) end)))
-    are
-    (subst (λ h. h ≤ place) c.home.ensures.home c.free_place-place.ensures.from)
-    (subst (λ h. (p : ℕ) → h ≤ p → p < place → 0 < (slot_at slots p).link) c.home.ensures.home (subst (λ (ss : List Slot). (p : ℕ) → c.home.result ≤ p → p < place → 0 < (slot_at ss p).link) c.deref.ensures.value c.free_place-place.ensures.taken))
+pub returns-clause-ok : goal.returns-clause-ok
+returns-clause-ok c =
+    let old = c.args.self.now in
+    let new = c.put_slot.new.self in
+    let next : IsPut old new (record { hash = c.args.hash; link = c.args.number + 1 }) → (hashes : List ℕ) → length hashes ≡ c.args.number → AreSlotted old hashes → AreSlotted new (hashes ++ c.args.hash ∷ [])
+    = λ put hashes count are. AreSlotted-put old new (record { hash = c.args.hash; link = c.args.number + 1 }) put hashes (ap (λ n. n + 1) (sym count)) are in
+    search (rules, next)
