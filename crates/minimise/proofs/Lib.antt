@@ -16,8 +16,10 @@ pub mod StabilityLemmas
 pub mod FlatEdgeLemmas
 pub mod CountingSortLemmas
 pub mod TurnedEdgeLemmas
-pub mod HashLemmas
 pub mod ResidualLemmas
+pub mod FirstPlaceLemmas
+pub mod PlaceSlotLemmas
+pub mod HashLemmas
 pub mod LeaderLemmas
 pub mod QuotientLemmas
 pub mod LeastLemmas

@@ -7,7 +7,7 @@ use Rattle.digit_tuple.specs.Letters.{IsWord}
 use Rattle.minimise.specs.Outputs.{SameOutputs, AreOutputClasses}
 use Rattle.minimise.specs.ClassFunctions.{class_from}
 use Rattle.minimise.specs.Classes.{class_of, next_of}
-use Rattle.minimise.specs.Refinement.{AreAlike, AreCounted, AreRefined, KeepAlike}
+use Rattle.minimise.specs.Refinement.{AreAlike, AreCounted, AreRefined}
 use Rattle.minimise.specs.CoarseClasses.{IsCoarse, AreResiduals, AreCoarseClasses, AreResidualClasses}
 use Rattle.digit_tuple.proofs.PigeonLemmas.{StandsIn, onto_least, onto_one, choose}
 use Rattle.minimise.proofs.StabilityLemmas.{IsStable, TellOutputs}
@@ -34,14 +34,6 @@ module _ (d : Automaton) (outputs : List ℕ) (given : length outputs ≡ states
     counted = refined.counted;
     coarse = λ p q small low same. (refined.same p q small low).1 (alike_residual old p q are.coarse small low same);
     tell = λ p q small low same. are.tell p q small low ((refined.same p q small low).0 same).own;
-  }
-
-  -- a round that keeps together what is alike
-  pub AreCoarseClasses-kept : (old new : List ℕ) → AreCoarseClasses d outputs old → KeepAlike d old new → AreCoarseClasses d outputs new
-  AreCoarseClasses-kept old new are kept = record {
-    width = kept.width;
-    below = kept.below;
-    coarse = λ p q small low same. kept.same p q small low (alike_residual old p q are.coarse small low same);
   }
 
   -- what stays alike, and has one output, has one residual

@@ -13,6 +13,11 @@ IsCoarse d outputs classes = (p q : ℕ) → p ≤ states_of d → q ≤ states_
 abbrev pub AreResiduals : Automaton → List ℕ → List ℕ → Type 0
 AreResiduals d outputs classes = (p q : ℕ) → p ≤ states_of d → q ≤ states_of d → class_of classes p ≡ class_of classes q ↔ SameOutputs d outputs p q
 
+-- a number for each state and the sink, and one where words lead to the same outputs
+pub record AreCoarseNumbers (d : Automaton) (outputs numbers : List ℕ) : Type 0 where
+  pub width : length numbers ≡ states_of d + 1
+  pub coarse : IsCoarse d outputs numbers
+
 -- a class for each state and the sink, at most the sink's number, and one where words lead to the same outputs
 pub record AreCoarseClasses (d : Automaton) (outputs classes : List ℕ) : Type 0 where
   pub width : length classes ≡ states_of d + 1

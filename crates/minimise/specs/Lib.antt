@@ -7,6 +7,8 @@ pub mod Tracked
 pub mod CoarseClasses
 pub mod Signatures
 pub mod Refinement
+pub mod FirstPlaces
+pub mod PlaceSlots
 pub mod Hashes
 pub mod FlatEdges
 pub mod CountingSort

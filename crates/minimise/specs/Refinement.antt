@@ -1,6 +1,5 @@
 -- Refinement of classes.
 use Rattle.std.specs.Prelude.{◌≡◌, ℕ, ◌+◌, ◌<◌, ◌≤◌, List, length, ◌↔◌}
-use Rattle.std.specs.List.{All}
 use Rattle.digit_tuple.specs.Deterministic.{Automaton, letters_of, states_of}
 use Rattle.minimise.specs.Classes.{class_of, next_of}
 
@@ -20,9 +19,3 @@ pub record AreCounted (d : Automaton) (classes : List ℕ) (count : ℕ) : Type 
 pub record AreRefined (d : Automaton) (old new : List ℕ) (count : ℕ) : Type 0 where
   pub counted : AreCounted d new count
   pub same : (p q : ℕ) → p ≤ states_of d → q ≤ states_of d → class_of new p ≡ class_of new q ↔ AreAlike d old p q
-
--- the new classes, at most the sink's number, part only states that are not alike by the old ones
-pub record KeepAlike (d : Automaton) (old new : List ℕ) : Type 0 where
-  pub width : length new ≡ states_of d + 1
-  pub below : All (λ class. class ≤ states_of d) new
-  pub same : (p q : ℕ) → p ≤ states_of d → q ≤ states_of d → AreAlike d old p q → class_of new p ≡ class_of new q

@@ -12,34 +12,34 @@ use crate::flat_edges::FlatEdges;
 use digit_tuple::dfa::Dfa;
 use digit_tuple::key_hashes::mix;
 
-/// The hash of a state or the sink: of its class, and its edges to classes other than the sink's.
-pub fn state_hash(dfa: &Dfa, flat: &FlatEdges, classes: &[u32], state: u32) -> u64
+/// The hash of a state or the sink, by the hashes that all had before: of its own, and of the letters and the
+/// targets' hashes of its edges to states that had another hash than the sink.
+pub fn state_hash(dfa: &Dfa, flat: &FlatEdges, hashes: &[u64], state: u32) -> u64
     requires flat { AreFlat dfa.now flat.now }
-    requires width { length classes.now ≡ states_of dfa.now + 1 }
+    requires width { length hashes.now ≡ states_of dfa.now + 1 }
     requires state { state ≤ states_of dfa.now }
-    ensures { result ≡ hash_of dfa.now classes.now state }
+    ensures { result ≡ hash_of dfa.now hashes.now state }
 {
-    let hash = mix(0, u64::from(classes[state as usize]));
+    let own = hashes[state as usize];
     if state == dfa.states() {
-        return hash;
+        return own;
     }
-    mix_edges(hash, dfa, flat, classes, state)
+    mix_edges(own, dfa, flat, hashes, state)
 }
 
-// The hash with the edges of a state to classes other than the sink's.
-fn mix_edges(start: u64, dfa: &Dfa, flat: &FlatEdges, classes: &[u32], state: u32) -> u64
+// The hash with the edges of a state to states that had another hash than the sink.
+fn mix_edges(start: u64, dfa: &Dfa, flat: &FlatEdges, hashes: &[u64], state: u32) -> u64
     requires flat { AreFlat dfa.now flat.now }
-    requires width { length classes.now ≡ states_of dfa.now + 1 }
+    requires width { length hashes.now ≡ states_of dfa.now + 1 }
     requires state { state < states_of dfa.now }
-    ensures { result ≡ hash_edges start (class_edges classes.now (dead_class dfa.now classes.now) (edges_of dfa.now state)) }
+    ensures { result ≡ hash_edges start (class_edges hashes.now (dead_class dfa.now hashes.now) (edges_of dfa.now state)) }
 {
-    let dead = classes[dfa.states() as usize];
+    let dead = hashes[dfa.states() as usize];
     let mut hash = start;
     for place in flat.starts[state as usize] as usize..flat.starts[state as usize + 1] as usize {
-        let class = classes[flat.targets[place] as usize];
-        if class != dead {
-            let letter = u64::from(flat.letters[place]);
-            hash = mix(hash, letter * 0x1_0000_0000 + u64::from(class));
+        let target = hashes[flat.targets[place] as usize];
+        if target != dead {
+            hash = mix(mix(hash, u64::from(flat.letters[place])), target);
         }
     }
     hash

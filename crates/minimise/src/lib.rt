@@ -40,8 +40,14 @@ mod flat_edges;
 /// The edges by the states that they lead to.
 mod turned_edges;
 
+/// The first place of each number of a list.
+mod first_places;
+
 /// Hashes of states.
 mod hashing;
+
+/// Hashes of states that rounds make anew.
+mod state_hashes;
 
 /// Classes that are refined by signatures.
 mod refinement;

@@ -1,23 +1,17 @@
-//! Rounds that part states, from classes of one output on, by hashes of their classes and the classes that
-//! letters lead to, in time linear in the table. Where two hashes happen to be equal, states stay together that
-//! a round could part; they are never parted wrongly.
+//! Rounds that part states by hashes (Edward Moore, "Gedanken-experiments on sequential machines"), in time linear in the
+//! table. Where two hashes happen to be equal, states stay together that a round could part; they are never parted
+//! wrongly.
 
-ghost use Rattle.std.specs.Prelude.{◌≡◌, ◌==◌, ℕ, ◌+◌, ◌<◌, ◌≤◌, ◌^◌, count_by, length, IfOk, IsTrue};
+ghost use Rattle.std.specs.Prelude.{◌≡◌, ◌==◌, ℕ, ◌<◌, ◌≤◌, ◌^◌, count_by, length, IfOk, IsTrue};
 ghost use Rattle.std.specs.List.{All};
-ghost use Rattle.digit_tuple.specs.Deterministic.{states_of};
 ghost use Rattle.minimise.specs.CoarseClasses.{AreCoarseClasses, AreResidualClasses};
-ghost use Rattle.minimise.specs.FlatEdges.{AreFlat};
 ghost use Rattle.minimise.specs.Outputs.{HasOutputs};
-ghost use Rattle.minimise.specs.Refinement.{KeepAlike};
 
 use crate::flat_edges::FlatEdges;
-use crate::hashing::state_hash;
 use crate::machine::Machine;
-use crate::output_classes::output_classes;
 use crate::stability::is_stable;
-use digit_tuple::dfa::Dfa;
+use crate::state_hashes::StateHashes;
 use digit_tuple::faults::OutOfMemory;
-use digit_tuple::numbering::Numbering;
 use std::alloc::Global;
 
 /// The classes that rounds leave, and whether no further round parts them.
@@ -27,10 +21,11 @@ pub struct RoundClasses {
     pub stable: bool,
 }
 
-/// The classes after rounds. They end where none parts the classes. They also end where one more could
-/// cost too much: a round looks at each edge once, and to part what they leave by smaller parts takes
-/// one look more, and on average half the binary logarithm of the size of the largest class. All of them
-/// are to be no more than the binary digits of the number of states.
+/// The classes after rounds. They end where none parts the classes. After the first they also end where one more could cost
+/// too much: a round looks at each edge once, and to part what they leave by smaller parts takes one look more, and on
+/// average half the binary logarithm of the size of the largest class. All of them are to be no more than the binary digits
+/// of the number of states. Classes are numbered where a round is not seen to part any, and to be counted where by the last
+/// count they could be too large, as a round leaves none that is larger.
 pub fn classes_by_rounds(alloc: Global, machine: &Machine) -> Result<RoundClasses, OutOfMemory>
     requires { HasOutputs machine.now }
     ensures coarse { IfOk result (λ left. AreCoarseClasses machine.now.dfa.now machine.now.outputs.now left.classes.items) }
@@ -38,54 +33,38 @@ pub fn classes_by_rounds(alloc: Global, machine: &Machine) -> Result<RoundClasse
 {
     let states = machine.dfa.states();
     let flat = FlatEdges::new(alloc, machine.dfa)?;
-    let mut classes = output_classes(alloc, machine.outputs)?.numbers;
-    let digits = binary_digits(states);
-    for round in 0..digits {
-        if is_stable(alloc, machine, &flat, &classes)? {
-            return Ok(RoundClasses {
-                classes,
-                stable: true,
-            });
+    let mut hashes = StateHashes::new(alloc, machine)?;
+    let mut largest = states;
+    for round in 0..binary_digits(states) {
+        if is_too_dear(states, round, largest) {
+            let classes = hashes.classes(alloc, machine)?;
+            largest = largest_class(alloc, &classes[..states as usize])?;
         }
-        let half_looks = 2 * (round + 2);
-        // No class is larger than all states together, so that its size does not matter at first.
-        if half_looks > digits {
-            let largest = largest_class(alloc, &classes[..states as usize])?;
-            if half_looks + binary_digits(largest) > 2 * digits {
-                break;
+        if is_too_dear(states, round, largest) {
+            break;
+        }
+        if !hashes.advance(alloc, machine, &flat)? {
+            let classes = hashes.classes(alloc, machine)?;
+            if is_stable(alloc, machine, &flat, &classes)? {
+                return Ok(RoundClasses {
+                    classes,
+                    stable: true,
+                });
             }
         }
-        classes = rehashed(alloc, machine.dfa, &flat, &classes)?;
     }
-    Ok(RoundClasses {
-        classes,
-        stable: false,
-    })
+    let classes = hashes.classes(alloc, machine)?;
+    let stable = is_stable(alloc, machine, &flat, &classes)?;
+    Ok(RoundClasses { classes, stable })
 }
 
-// The classes after a round.
-fn rehashed(
-    alloc: Global,
-    dfa: &Dfa,
-    flat: &FlatEdges,
-    classes: &[u32],
-) -> Result<Vec<u32>, OutOfMemory>
-    requires flat { AreFlat dfa.now flat.now }
-    requires width { length classes.now ≡ states_of dfa.now + 1 }
-    ensures { IfOk result (λ new. KeepAlike dfa.now classes.now new.items) }
+// Whether one more round after so many could lead to too many looks at edges, where no class is larger. The first never
+// does.
+fn is_too_dear(states: u32, rounds: u32, largest: u32) -> bool
+    requires { rounds ≤ 32 }
 {
-    let states = dfa.states();
-    let count = states as usize + 1;
-    let mut hashes = Numbering::new(alloc);
-    let mut numbers = Vec::with_capacity(alloc, count)?;
-    for place in 0..count {
-        let hash = state_hash(dfa, flat, classes, place as u32);
-        let low = (hash % 0x1_0000_0000) as u32;
-        let high = (hash >> 32) as u32;
-        let number = hashes.number_of(&[low, high])?;
-        numbers.push(number as u32)?;
-    }
-    Ok(numbers)
+    let half_looks = 2 * (rounds + 2) + binary_digits(largest.saturating_sub(1));
+    rounds > 0 && half_looks > 2 * binary_digits(states)
 }
 
 // How many binary digits a number has, none where it is 0.

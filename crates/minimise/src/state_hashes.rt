@@ -1,0 +1,126 @@
+//! Hashes of states, which rounds make anew: states of one hash are those that a class holds together.
+
+ghost use Rattle.std.specs.Prelude.{◌≡◌, ℕ, ◌+◌, ◌<◌, ◌≤◌, ◌^◌, length, IfOk, OnOk};
+ghost use Rattle.digit_tuple.specs.Deterministic.{states_of};
+ghost use Rattle.minimise.specs.Classes.{class_of};
+ghost use Rattle.minimise.specs.CoarseClasses.{AreCoarseClasses, AreCoarseNumbers};
+ghost use Rattle.minimise.specs.FlatEdges.{AreFlat};
+ghost use Rattle.minimise.specs.Hashes.{AreHashed, output_hash};
+ghost use Rattle.minimise.specs.Outputs.{HasOutputs};
+
+use crate::first_places::first_places;
+use crate::flat_edges::FlatEdges;
+use crate::hashing::state_hash;
+use crate::machine::Machine;
+use digit_tuple::dfa::Dfa;
+use digit_tuple::faults::OutOfMemory;
+use digit_tuple::key_hashes::mix;
+use std::alloc::Global;
+
+// What outputs are mixed with, so that their hashes are spread over all bits.
+const SEED: u64 = 0x8000_0000_0000_0000;
+
+// How many states the sample has at least.
+const LEAST_SAMPLE: usize = 16;
+
+/// The hashes of the states and last of the sink, 8 bytes each, and a sample of states.
+#[derive(Drop)]
+pub struct StateHashes {
+    hashes: Vec<u64>,
+    // Some states, each at a place that its hash before a round gave.
+    sample: Vec<u32>,
+}
+
+impl StateHashes {
+    /// The hashes of the states' outputs.
+    pub fn new(alloc: Global, machine: &Machine) -> Result<Self, OutOfMemory>
+        requires { HasOutputs machine.now }
+        ensures { IfOk result (λ made. AreCoarseNumbers machine.now.dfa.now machine.now.outputs.now made.hashes.items) }
+    {
+        let states = machine.dfa.states();
+        let count = states as usize + 1;
+        let places = (count.next_power_of_two() / 16).max(LEAST_SAMPLE);
+        Ok(StateHashes {
+            hashes: output_hashes(alloc, machine, count)?,
+            sample: vec![in alloc; 0; places]?,
+        })
+    }
+
+    /// A round: the hashes of states by their edges to those that were told apart. Gives whether it is seen to part states,
+    /// which may stay unseen where it parts few. Its time follows the edges, and 8 bytes a state are free again at its end.
+    pub fn advance(
+        &mut self,
+        alloc: Global,
+        machine: &Machine,
+        flat: &FlatEdges,
+    ) -> Result<bool, OutOfMemory>
+        requires outputs { HasOutputs machine.now }
+        requires flat { AreFlat machine.now.dfa.now flat.now }
+        requires hashes { AreCoarseNumbers machine.now.dfa.now machine.now.outputs.now self.old.hashes.items }
+        ensures { OnOk result (AreCoarseNumbers machine.now.dfa.now machine.now.outputs.now self.new.hashes.items) }
+    {
+        // That the states are a table.
+        let _states = machine.dfa.states();
+        let new = rehashed(alloc, machine.dfa, flat, &self.hashes)?;
+        let parts = is_seen_to_part(&self.hashes, &new, &mut self.sample);
+        self.hashes = new;
+        Ok(parts)
+    }
+
+    /// The classes of states that have one hash.
+    pub fn classes(&self, alloc: Global, machine: &Machine) -> Result<Vec<u32>, OutOfMemory>
+        requires { AreCoarseNumbers machine.now.dfa.now machine.now.outputs.now self.now.hashes.items }
+        ensures { IfOk result (λ classes. AreCoarseClasses machine.now.dfa.now machine.now.outputs.now classes.items) }
+    {
+        first_places(alloc, &self.hashes)
+    }
+}
+
+// The hash of the output of each of the states and the sink.
+fn output_hashes(alloc: Global, machine: &Machine, count: usize) -> Result<Vec<u64>, OutOfMemory>
+    requires { count ≤ 2 ^ 32 }
+    ensures width { IfOk result (λ hashes. length hashes.items ≡ count) }
+    ensures are { IfOk result (λ hashes. (q : ℕ) → q < count → class_of hashes.items q ≡ output_hash (class_of machine.now.outputs.now q)) }
+{
+    let mut hashes = Vec::with_capacity(alloc, count)?;
+    for state in 0..count {
+        hashes.push(mix(SEED, u64::from(machine.output(state as u32))))?;
+    }
+    Ok(hashes)
+}
+
+// The hashes that a round makes of the old ones.
+fn rehashed(
+    alloc: Global,
+    dfa: &Dfa,
+    flat: &FlatEdges,
+    old: &[u64],
+) -> Result<Vec<u64>, OutOfMemory>
+    requires flat { AreFlat dfa.now flat.now }
+    requires width { length old.now ≡ states_of dfa.now + 1 }
+    ensures { IfOk result (λ new. AreHashed dfa.now old.now new.items) }
+{
+    let count = dfa.states() as usize + 1;
+    let mut new = Vec::with_capacity(alloc, count)?;
+    for state in 0..count {
+        new.push(state_hash(dfa, flat, old, state as u32))?;
+    }
+    Ok(new)
+}
+
+// Whether a state that had one hash with one of the sample has another now. The sample goes on with the states that are
+// looked at, up to the first such one.
+fn is_seen_to_part(old: &[u64], new: &[u64], sample: &mut [u32]) -> bool {
+    let mask = sample.len().saturating_sub(1);
+    for state in 0..old.len().min(new.len()) {
+        let place = old[state] as usize & mask;
+        if place < sample.len() {
+            let other = sample[place] as usize;
+            if other < state && old[other] == old[state] && new[other] != new[state] {
+                return true;
+            }
+            sample[place] = u32::try_from(state).unwrap_or(0);
+        }
+    }
+    false
+}
