@@ -27,3 +27,4 @@ pub mod Numbers
 pub mod Depths
 pub mod AdvanceSteps
 pub mod ParseSteps
+pub mod OtherTokens

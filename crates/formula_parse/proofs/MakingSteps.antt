@@ -6,7 +6,7 @@ use Rattle.std.specs.declared.alloc.Global.{Global}
 use Rattle.formula_parse.specs.Tokens.{Name}
 use Rattle.formula_parse.specs.Trees as trees
 use Rattle.formula_parse.specs.Building.{multiplied, summed, chained, under_marks}
-use Rattle.formula_parse.specs.Views.{term_view, factor_view, factors_view, addend_view, addends_view, with_addend, formula_view, operand_view, operands_view, with_operand, names_view, quantifier_view}
+use Rattle.formula_parse.specs.Views.{term_view, factor_view, factors_view, addend_view, addends_view, with_addend, formula_view, operand_view, operands_view, with_operand, names_view}
 use Rattle.formula_parse.specs.declared.tree.Term.{Term}
 use Rattle.formula_parse.specs.declared.tree.Term.TheVariants as term
 use Rattle.formula_parse.specs.declared.tree.Factor.{Factor}
@@ -15,8 +15,7 @@ use Rattle.formula_parse.specs.declared.tree.Addend.{Addend}
 use Rattle.formula_parse.specs.declared.tree.Formula.{Formula}
 use Rattle.formula_parse.specs.declared.tree.Formula.TheVariants as formula
 use Rattle.formula_parse.specs.declared.tree.Operand.{Operand}
-use Rattle.formula_parse.specs.declared.tree.Quantifier.{Quantifier}
-use Rattle.formula_parse.proofs.ViewSteps.{view_product, view_times, view_sum, view_chain, view_marked, view_quantified}
+use Rattle.formula_parse.proofs.ViewSteps.{view_product, view_times, view_sum, view_chain, view_marked}
 
 -- the front of a list with an item more at its end, and that item
 record Snoc {X : Type 0} (xs : List X) : Type 0 where
@@ -111,7 +110,3 @@ marks_more all b h = view_marked all b ∙ marks_list all.items (formula_view b.
         let s = snoc x xs in
         let front = ap names_view s.is ∙ names_snoc s.front s.last in
         ap (λ z. trees.marked z f) front ∙ ap (λ z. under_marks z f) (sym front)
-
-pub scope_made : (q : Quantifier) (all : Vec Name Global) (b : Box Formula Global) (ns : List Name) (n : Name) → all.items ≡ ns ++ n ∷ [] → formula_view (formula.Quantified q all b) ≡ trees.quantified (quantifier_view q) (trees.names (names_view ns) n) (formula_view b.value)
-scope_made q all b ns n e =
-    view_quantified q all b ∙ ap (λ z. trees.quantified (quantifier_view q) z (formula_view b.value)) (ap names_view e ∙ names_snoc ns n)

@@ -1,10 +1,12 @@
 //! One token of the machine, with the limits: numerals below 2^64, letters of 32 bits, nesting 128.
 
-ghost use Rattle.std.specs.Prelude.{◌≡◌, ℕ, ◌^◌, min, Err};
+ghost use Rattle.std.specs.Prelude.{◌≡◌, ℕ, ◌^◌, min, Ok, Err};
 ghost use Rattle.formula_parse.specs.Tokens as tokens;
+ghost use Rattle.formula_parse.specs.Made.{trees};
 ghost use Rattle.formula_parse.specs.Machine as machine;
 ghost use Rattle.formula_parse.specs.StateViews.{Machine, outers_view, place_view, position_view, state_view, token_view};
 ghost use Rattle.formula_parse.specs.Limits.{IsInRange};
+ghost use Rattle.formula_parse.specs.Stops.{Steps};
 ghost use Rattle.formula_parse.specs.Advances.{Advances};
 
 use crate::fault::{ParseFault, Stop};
@@ -55,23 +57,38 @@ pub(crate) fn big_fault(position: &Position, at: usize) -> ParseFault
     }
 }
 
+/// The state that a token in its range gives, or the fault at its byte where it stands too deep.
+fn within_limit(state: State, at: usize) -> Result<State, ParseFault>
+    ensures { (s : Machine) (t : tokens.Token) → IsInRange (tokens.here t 0) → Steps s.position t (Ok state) (machine.step trees s t) → Advances s t at result }
+{
+    if depth(&state) > LIMIT {
+        drop(state);
+        Err(ParseFault::Depth(at))
+    } else {
+        Ok(state)
+    }
+}
+
+/// The fault where the machine stops at a token that begins at a byte.
+fn fault_of(stop: Stop, at: usize) -> ParseFault
+    ensures { (s : Machine) (t : tokens.Token) → Steps s.position t (Err stop) (machine.step trees s t) → Advances s t at (Err result) }
+{
+    match stop {
+        Stop::Syntax => ParseFault::Syntax(at),
+        Stop::Letter(sign) => ParseFault::Number(sign),
+        Stop::Depth => ParseFault::Depth(at),
+        Stop::Memory => ParseFault::Memory,
+    }
+}
+
 /// The state after a token in its range.
-#[tactic(auto, using(crate::proofs::AdvanceSteps::advances_ok, crate::proofs::AdvanceSteps::advances_deep, crate::proofs::AdvanceSteps::advances_syntax, crate::proofs::AdvanceSteps::advances_letter, crate::proofs::AdvanceSteps::advances_depth))]
 fn advance_by(alloc: Global, state: State, token: Token, at: usize) -> Result<State, ParseFault>
     requires { IsInRange (tokens.here (token_view token) 0) }
     ensures { Advances (state_view state) (token_view token) at result }
 {
     match step(alloc, state, token) {
-        Ok(next) => {
-            if depth(&next) > LIMIT {
-                return Err(ParseFault::Depth(at));
-            }
-            Ok(next)
-        }
-        Err(Stop::Syntax) => Err(ParseFault::Syntax(at)),
-        Err(Stop::Letter(sign)) => Err(ParseFault::Number(sign)),
-        Err(Stop::Depth) => Err(ParseFault::Depth(at)),
-        Err(Stop::Memory) => Err(ParseFault::Memory),
+        Ok(next) => within_limit(next, at),
+        Err(stop) => Err(fault_of(stop, at)),
     }
 }
 

@@ -1,35 +1,67 @@
 //! The machine where an operand begins: marks, `~`, quantifiers and parentheses before it, and its first token.
 
-ghost use Rattle.std.specs.Prelude.{◌≡◌, Some};
+ghost use Rattle.std.specs.Prelude.{◌≡◌, ◌∷◌, Some, IfOk};
+ghost use Rattle.formula_parse.specs.Trees.{no_names};
 ghost use Rattle.formula_parse.specs.Made.{trees};
 ghost use Rattle.formula_parse.specs.Machine as machine;
 ghost use Rattle.formula_parse.specs.Views.{names_view, quantifier_view};
-ghost use Rattle.formula_parse.specs.StateViews.{token_view, frames_view, context_view, state_view};
+ghost use Rattle.formula_parse.specs.StateViews.{token_view, noted_view, tildes_view, body_view, frame_view, frames_view, context_view, state_view};
 ghost use Rattle.formula_parse.specs.Stops.{Gives};
 
 use crate::fault::Stop;
 use crate::state::{
-    Before, Body, Context, Frame, Place, Position, Reading, Scope, Spelling, State,
+    Around, Before, Body, Context, Frame, Place, Position, Reading, Scope, Spelling, State,
 };
 use crate::terms::{after_factor, numeral};
 use crate::token::Token;
 use crate::tree::Quantifier;
+use digit_tuple::faults::OutOfMemory;
 use digit_tuple::name::Name;
 use std::alloc::Global;
+
+/// A frame opens a formula of this nesting.
+fn opened(alloc: Global, mut around: Around, frame: Frame, base: u8) -> Result<State, Stop>
+    ensures { Gives result (Some (record {
+      around = frame_view frame ∷ frames_view around.frames.items;
+      body = machine.fresh trees base;
+      system = around.system;
+      flaw = noted_view around.flaw;
+      position = machine.at_operand;
+    })) }
+{
+    around.frames.push(frame)?;
+    Ok(State {
+        context: Context {
+            around,
+            body: Body::fresh(alloc, base),
+        },
+        position: Position::AtOperand,
+    })
+}
 
 /// A parenthesis opens a formula, or a term that begins an operand.
 fn open(alloc: Global, context: Context) -> Result<State, Stop>
     ensures { Gives result (machine.enter trees (context_view context) (token_view Token.Opening)) }
 {
-    let Context { mut around, body } = context;
-    let base = body.inside()?;
-    let before = around.system.copy(alloc)?;
-    around.frames.push(Frame::Paren(body, before))?;
-    let body = Body::fresh(alloc, base);
-    Ok(State {
-        context: Context { around, body },
-        position: Position::AtOperand,
-    })
+    let base = context.body.inside()?;
+    let before = context.around.system.copy(alloc)?;
+    let Context { around, body } = context;
+    opened(alloc, around, Frame::Paren(body, before), base)
+}
+
+impl Before {
+    /// With a `~` after it.
+    fn negated(self, alloc: Global) -> Result<Before, OutOfMemory>
+        ensures tildes { IfOk result (λ b. tildes_view b.tildes.items ≡ names_view self.marks.items ∷ tildes_view self.tildes.items) }
+        ensures marks { IfOk result (λ b. names_view b.marks.items ≡ no_names) }
+    {
+        let mut tildes = self.tildes;
+        tildes.push(self.marks)?;
+        Ok(Before {
+            tildes,
+            marks: Vec::new(alloc),
+        })
+    }
 }
 
 /// A `~`.
@@ -37,12 +69,7 @@ fn negate(alloc: Global, context: Context) -> Result<State, Stop>
     ensures { Gives result (machine.enter trees (context_view context) (token_view Token.Negation)) }
 {
     let Context { around, body } = context;
-    let Before { mut tildes, marks } = body.before;
-    tildes.push(marks)?;
-    let before = Before {
-        tildes,
-        marks: Vec::new(alloc),
-    };
+    let before = body.before.negated(alloc)?;
     let body = Body {
         front: body.front,
         before,
@@ -54,31 +81,40 @@ fn negate(alloc: Global, context: Context) -> Result<State, Stop>
     })
 }
 
+/// A `,` after a quantifier's variable, with what is around the quantifier: what it takes was touched or not.
+fn reopened(context: Context, scope: Scope, touched: bool) -> Result<State, Stop>
+    ensures { Gives result (machine.next_variable trees (context_view context)
+        (machine.scope (quantifier_view scope.quantifier) (names_view scope.names.items) scope.last (body_view context.body) ∷ frames_view context.around.frames.items) touched) }
+{
+    if touched {
+        drop(context);
+        drop(scope);
+        return Err(Stop::Syntax);
+    }
+    let quantifier = scope.quantifier;
+    let Ok(names) = scope.variables() else {
+        drop(context);
+        return Err(Stop::Memory);
+    };
+    Ok(State {
+        context,
+        position: Position::AtVariable(quantifier, names),
+    })
+}
+
 /// A `,` directly after a quantifier's variable.
 fn next_variable(context: Context) -> Result<State, Stop>
     ensures { Gives result (machine.next_variable trees (context_view context) (frames_view context.around.frames.items) context.body.touched) }
 {
     let Context { mut around, body } = context;
+    let touched = body.touched;
+    drop(body);
     match around.frames.pop() {
-        Some(Frame::Quantified(scope, outer)) => {
-            if body.touched {
-                return Err(Stop::Syntax);
-            }
-            let Scope {
-                quantifier,
-                mut names,
-                last,
-            } = scope;
-            names.push(last)?;
-            Ok(State {
-                context: Context {
-                    around,
-                    body: outer,
-                },
-                position: Position::AtVariable(quantifier, names),
-            })
+        Some(Frame::Quantified(scope, body)) => reopened(Context { around, body }, scope, touched),
+        _ => {
+            drop(around);
+            Err(Stop::Syntax)
         }
-        _ => Err(Stop::Syntax),
     }
 }
 
@@ -121,8 +157,32 @@ pub(crate) fn enter(alloc: Global, context: Context, token: Token) -> Result<Sta
             position: Position::AtCalled,
         }),
         Token::Comma => next_variable(context),
-        _ => Err(Stop::Syntax),
+        _ => {
+            drop(context);
+            drop(token);
+            Err(Stop::Syntax)
+        }
     }
+}
+
+/// The system after a `?`.
+fn mark(alloc: Global, mut context: Context, name: Name) -> Result<State, Stop>
+    ensures { Gives result (machine.enter_system trees (context_view context) (token_view (Token.System name))) }
+{
+    let Ok(system) = name.copy(alloc) else {
+        drop(context);
+        return Err(Stop::Memory);
+    };
+    context.around.system = system;
+    let Ok(()) = context.body.before.marks.push(name) else {
+        drop(context);
+        return Err(Stop::Memory);
+    };
+    context.body.touched = true;
+    Ok(State {
+        context,
+        position: Position::AtOperand,
+    })
 }
 
 /// A token after a `?`.
@@ -130,21 +190,22 @@ pub(crate) fn enter_system(alloc: Global, context: Context, token: Token) -> Res
     ensures { Gives result (machine.enter_system trees (context_view context) (token_view token)) }
 {
     match token {
-        Token::System(name) => {
-            let Context {
-                mut around,
-                mut body,
-            } = context;
-            around.system = name.copy(alloc)?;
-            body.before.marks.push(name)?;
-            body.touched = true;
-            Ok(State {
-                context: Context { around, body },
-                position: Position::AtOperand,
-            })
+        Token::System(name) => mark(alloc, context, name),
+        _ => {
+            drop(context);
+            drop(token);
+            Err(Stop::Syntax)
         }
-        _ => Err(Stop::Syntax),
     }
+}
+
+/// A quantifier takes the formula that comes.
+fn quantify(alloc: Global, context: Context, scope: Scope) -> Result<State, Stop>
+    ensures { Gives result (machine.enter_variable trees (context_view context) (quantifier_view scope.quantifier) (names_view scope.names.items) (token_view (Token.Name scope.last))) }
+{
+    let base = context.body.inside()?;
+    let Context { around, body } = context;
+    opened(alloc, around, Frame::Quantified(scope, body), base)
 }
 
 /// A token where a quantifier's variable stands.
@@ -159,20 +220,18 @@ pub(crate) fn enter_variable(
 {
     match token {
         Token::Name(last) => {
-            let Context { mut around, body } = context;
-            let base = body.inside()?;
             let scope = Scope {
                 quantifier,
                 names,
                 last,
             };
-            around.frames.push(Frame::Quantified(scope, body))?;
-            let body = Body::fresh(alloc, base);
-            Ok(State {
-                context: Context { around, body },
-                position: Position::AtOperand,
-            })
+            quantify(alloc, context, scope)
         }
-        _ => Err(Stop::Syntax),
+        _ => {
+            drop(context);
+            drop(names);
+            drop(token);
+            Err(Stop::Syntax)
+        }
     }
 }

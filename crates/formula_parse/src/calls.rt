@@ -8,7 +8,7 @@ ghost use Rattle.formula_parse.specs.StateViews.{token_view, context_view};
 ghost use Rattle.formula_parse.specs.Stops.{Gives};
 
 use crate::fault::Stop;
-use crate::making::atom;
+use crate::operands::after_atom;
 use crate::state::{Arguments, Context, Place, Position, Reading, State};
 use crate::terms::enter_factor;
 use crate::token::Token;
@@ -25,7 +25,11 @@ pub(crate) fn enter_called(context: Context, token: Token) -> Result<State, Stop
             context,
             position: Position::AtCall(name),
         }),
-        _ => Err(Stop::Syntax),
+        _ => {
+            drop(context);
+            drop(token);
+            Err(Stop::Syntax)
+        }
     }
 }
 
@@ -38,7 +42,10 @@ pub(crate) fn enter_call(context: Context, name: Name, token: Token) -> Result<S
             context,
             position: Position::AtArgument(name),
         }),
-        _ => Err(Stop::Syntax),
+        _ => {
+            drop(context);
+            Err(Stop::Syntax)
+        }
     }
 }
 
@@ -52,14 +59,7 @@ pub(crate) fn enter_argument(
     ensures { Gives result (machine.enter_argument trees (context_view context) name (token_view token)) }
 {
     match token {
-        Token::Closing => {
-            let fact = Fact::Call(name, Vec::new(alloc));
-            let core = atom(alloc, &context.around.system, fact)?;
-            Ok(State {
-                context,
-                position: Position::AfterOperand(core),
-            })
-        }
+        Token::Closing => after_atom(alloc, context, Fact::Call(name, Vec::new(alloc))),
         _ => first_argument(alloc, context, name, token),
     }
 }

@@ -33,7 +33,7 @@ impl From<OutOfMemory> for ParseFault {
 }
 
 /// Why the machine stops at a token.
-#[derive(Clone, Copy, Debug, PartialEq, Eq)]
+#[derive(Clone, Copy)]
 pub(crate) enum Stop {
     Syntax,
     /// The letter of this `@` is out of its range.

@@ -7,7 +7,7 @@ ghost use Rattle.formula_parse.specs.StateViews.{chain_sign_view, flaw_view, not
 use crate::token::ChainSign;
 
 /// A chain that mixes its connectives, or a product of two unknowns, with the byte.
-#[derive(Clone, Copy, Debug, PartialEq, Eq)]
+#[derive(Clone, Copy)]
 pub(crate) enum Flaw {
     MixedChain(usize),
     NotLinear(usize),
@@ -44,7 +44,7 @@ pub(crate) fn noted_if(met: bool, flaw: Flaw, least: Option<Flaw>) -> Option<Fla
 }
 
 /// What stands before a factor in its term.
-#[derive(Clone, Copy, Debug, PartialEq, Eq)]
+#[derive(Clone, Copy)]
 pub(crate) struct Product {
     /// Nothing does.
     pub lone: bool,
@@ -86,7 +86,7 @@ impl Product {
 }
 
 /// Which of `|` and `^` have come in a chain.
-#[derive(Clone, Copy, Debug, PartialEq, Eq)]
+#[derive(Clone, Copy)]
 pub(crate) struct Came {
     pub or_came: bool,
     pub xor_came: bool,

@@ -8,8 +8,8 @@ ghost use Rattle.formula_parse.specs.StateViews.{token_view, aim_view, side_view
 ghost use Rattle.formula_parse.specs.Stops.{Gives};
 
 use crate::fault::Stop;
-use crate::making::{atom, index};
-use crate::operands::leave;
+use crate::making::index;
+use crate::operands::leave_atom;
 use crate::state::{Aim, Context, Place, Places, Position, Side, Spelling, State};
 use crate::terms::at_term;
 use crate::token::Token;
@@ -33,9 +33,17 @@ pub(crate) fn enter_word(context: Context, aim: Aim, token: Token) -> Result<Sta
                     position: Position::AtLetter(Spelling::OnRight(index, relation), at),
                 })
             }
-            Aim::LeftLetter(_, _) => Err(Stop::Syntax),
+            Aim::LeftLetter(_, _) => {
+                drop(context);
+                Err(Stop::Syntax)
+            }
         },
-        _ => Err(Stop::Syntax),
+        _ => {
+            drop(context);
+            drop(aim);
+            drop(token);
+            Err(Stop::Syntax)
+        }
     }
 }
 
@@ -58,7 +66,11 @@ pub(crate) fn enter_bracket(
             };
             Ok(at_term(alloc, context, Place::PlaceIn(places)))
         }
-        _ => Err(Stop::Syntax),
+        _ => {
+            drop(context);
+            drop(aim);
+            Err(Stop::Syntax)
+        }
     }
 }
 
@@ -73,13 +85,36 @@ pub(crate) fn leave_index(
     ensures { Gives result (machine.leave_index trees (context_view context) (side_view places.side) places.word (terms_view places.places.items) (term_view term) (token_view token)) }
 {
     let Places { side, word, places } = places;
-    let Index { word, places } = index(word, places, term)?;
+    let Ok(index) = index(word, places, term) else {
+        drop(context);
+        drop(side);
+        drop(token);
+        return Err(Stop::Memory);
+    };
+    let Index { word, places } = index;
     match token {
         Token::Bracket => {
             let places = Places { side, word, places };
             Ok(at_term(alloc, context, Place::PlaceIn(places)))
         }
         _ => leave_side(alloc, context, side, Index { word, places }, token),
+    }
+}
+
+/// A token after a whole index on the left.
+fn leave_left(context: Context, index: Index, token: Token) -> Result<State, Stop>
+    ensures { Gives result (machine.leave_side trees (context_view context) machine.first (index_view index) (token_view token)) }
+{
+    match token {
+        Token::Relation(relation) => Ok(State {
+            context,
+            position: Position::AtWord(Aim::LeftIndex(index, relation)),
+        }),
+        _ => {
+            drop(context);
+            drop(index);
+            Err(Stop::Syntax)
+        }
     }
 }
 
@@ -94,24 +129,17 @@ fn leave_side(
     ensures { Gives result (machine.leave_side trees (context_view context) (side_view side) (index_view index) (token_view token)) }
 {
     match side {
-        Side::First => match token {
-            Token::Relation(relation) => {
-                Ok(State {
-                    context,
-                    position: Position::AtWord(Aim::LeftIndex(index, relation)),
-                })
-            }
-            _ => Err(Stop::Syntax),
-        },
+        Side::First => leave_left(context, index, token),
         Side::Second(Aim::LeftIndex(left, relation)) => {
-            let fact = Fact::Words(left, relation, index);
-            let core = atom(alloc, &context.around.system, fact)?;
-            leave(alloc, context, core, token)
+            leave_atom(alloc, context, Fact::Words(left, relation, index), token)
         }
         Side::Second(Aim::LeftLetter(letter, relation)) => {
-            let fact = Fact::LetterWord(letter, relation, index);
-            let core = atom(alloc, &context.around.system, fact)?;
-            leave(alloc, context, core, token)
+            leave_atom(
+                alloc,
+                context,
+                Fact::LetterWord(letter, relation, index),
+                token,
+            )
         }
     }
 }

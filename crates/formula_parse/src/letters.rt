@@ -43,6 +43,8 @@ fn with_letter(
         (machine.with_letter trees (context_view context) (spelling_view spelling) (record { at = letter.at; negative = letter.negative; value = letter.value })) }
 {
     let Some(number) = signed(letter.negative, letter.value) else {
+        drop(context);
+        drop(spelling);
         return Err(Stop::Letter(letter.at));
     };
     match spelling {
@@ -52,7 +54,10 @@ fn with_letter(
         }),
         Spelling::OnRight(index, relation) => {
             let fact = Fact::WordLetter(index, relation, number);
-            let core = atom(alloc, &context.around.system, fact)?;
+            let Ok(core) = atom(alloc, &context.around.system, fact) else {
+                drop(context);
+                return Err(Stop::Memory);
+            };
             Ok(State {
                 context,
                 position: Position::AfterOperand(core),
@@ -84,7 +89,11 @@ pub(crate) fn enter_letter(
             context,
             position: Position::AtValue(spelling, at),
         }),
-        _ => Err(Stop::Syntax),
+        _ => {
+            drop(context);
+            drop(spelling);
+            Err(Stop::Syntax)
+        }
     }
 }
 
@@ -107,7 +116,11 @@ pub(crate) fn enter_value(
             };
             with_letter(alloc, context, spelling, letter)
         }
-        _ => Err(Stop::Syntax),
+        _ => {
+            drop(context);
+            drop(spelling);
+            Err(Stop::Syntax)
+        }
     }
 }
 
@@ -122,6 +135,9 @@ pub(crate) fn leave_letter(context: Context, letter: i32, token: Token) -> Resul
                 position: Position::AtWord(Aim::LeftLetter(letter, relation)),
             })
         }
-        _ => Err(Stop::Syntax),
+        _ => {
+            drop(context);
+            Err(Stop::Syntax)
+        }
     }
 }

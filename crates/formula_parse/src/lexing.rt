@@ -21,7 +21,7 @@ const LONGEST_NAME: usize = 64;
 const LONGEST_SYSTEM: usize = 62;
 
 /// What stands before a token: a system may follow `?`, and a name `$`.
-#[derive(Clone, Copy, Debug, PartialEq, Eq)]
+#[derive(Clone, Copy)]
 pub(crate) enum Mode {
     Plain,
     AfterMark,

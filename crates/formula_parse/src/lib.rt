@@ -2,6 +2,9 @@
 //! it, and never two; otherwise it has one fault, with its byte. The text is read once, token by token, by a machine
 //! whose states hold the trees made so far. Calls go no deeper than the nesting, which is at most 128, so long sums and
 //! chains cost no stack.
+//!
+//! Where a step stops, it calls `drop` on the large values that it holds: so the drop of each type is proved once, and not
+//! variant by variant in each function.
 #![tactic(auto)]
 
 /// The trees of formulas.

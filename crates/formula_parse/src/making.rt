@@ -129,25 +129,34 @@ pub fn under_tildes(
 pub fn atom(alloc: Global, system: &Name, fact: Fact) -> Result<Formula, OutOfMemory>
     ensures { IfOk result (λ f. formula_view f ≡ building.in_system system.now (fact_view fact)) }
 {
-    Ok(Formula::Atom(Atom {
-        system: system.copy(alloc)?,
-        fact,
-    }))
+    let Ok(system) = system.copy(alloc) else {
+        drop(fact);
+        return Err(OutOfMemory);
+    };
+    Ok(Formula::Atom(Atom { system, fact }))
+}
+
+impl Scope {
+    /// The variables.
+    pub fn variables(self) -> Result<Vec<Name>, OutOfMemory>
+        ensures { IfOk result (λ v. names_view v.items ≡ trees.names (names_view self.names.items) self.last) }
+    {
+        let mut names = self.names;
+        names.push(self.last)?;
+        Ok(names)
+    }
 }
 
 /// A quantifier's formula.
-#[tactic(auto, using(crate::proofs::MakingSteps::scope_made))]
+#[tactic(auto, using(crate::proofs::ViewSteps::view_quantified))]
 fn under_quantifier(alloc: Global, scope: Scope, formula: Formula) -> Result<Formula, OutOfMemory>
     ensures { IfOk result (λ f. formula_view f ≡ trees.quantified (quantifier_view scope.quantifier)
         (trees.names (names_view scope.names.items) scope.last) (formula_view formula)) }
 {
-    let Scope {
-        quantifier,
-        mut names,
-        last,
-    } = scope;
-    names.push(last)?;
-    Ok(Formula::Quantified(quantifier, names, Box::new(alloc, formula)?))
+    let inner = Box::new(alloc, formula)?;
+    let quantifier = scope.quantifier;
+    let names = scope.variables()?;
+    Ok(Formula::Quantified(quantifier, names, inner))
 }
 
 /// A quantifier's formula, with the marks and `~` before it.

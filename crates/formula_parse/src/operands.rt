@@ -5,17 +5,17 @@ ghost use Rattle.formula_parse.specs.Flaws as flaws;
 ghost use Rattle.formula_parse.specs.Building as building;
 ghost use Rattle.formula_parse.specs.Made.{trees};
 ghost use Rattle.formula_parse.specs.Machine as machine;
-ghost use Rattle.formula_parse.specs.Views.{formula_view, names_view};
+ghost use Rattle.formula_parse.specs.Views.{fact_view, formula_view, names_view};
 ghost use Rattle.formula_parse.specs.StateViews.{token_view, tildes_view, flaw_view, noted_view, front_view, frames_view, context_view, state_view};
 ghost use Rattle.formula_parse.specs.Stops.{Gives};
 
 use crate::closings::close;
 use crate::fault::Stop;
 use crate::flaw::{Flaw, noted_if};
-use crate::making::{under_marks, under_tildes};
+use crate::making::{atom, under_marks, under_tildes};
 use crate::state::{Around, Before, Body, Context, Front, Position, State};
 use crate::token::Token;
-use crate::tree::Formula;
+use crate::tree::{Fact, Formula};
 use digit_tuple::faults::OutOfMemory;
 use std::alloc::Global;
 
@@ -64,6 +64,20 @@ fn joined(alloc: Global, around: Around, front: Front) -> State
     }
 }
 
+/// A token that ends a formula, after its last operand.
+fn leave_last(
+    alloc: Global,
+    around: Around,
+    front: Front,
+    last: Formula,
+    token: Token,
+) -> Result<State, Stop>
+    ensures { Gives result (machine.close trees (noted_view around.flaw) (frames_view around.frames.items) (machine.whole trees (front_view front) (formula_view last)) (token_view token)) }
+{
+    let whole = front.whole(alloc, last)?;
+    close(alloc, around, whole, token)
+}
+
 /// A token after a closed operand.
 fn leave_closed(
     alloc: Global,
@@ -91,10 +105,7 @@ fn leave_closed(
             let front = front.equated(alloc, closed)?;
             Ok(joined(alloc, around, front))
         }
-        _ => {
-            let whole = front.whole(alloc, closed)?;
-            close(alloc, around, whole, token)
-        }
+        _ => leave_last(alloc, around, front, closed, token),
     }
 }
 
@@ -110,4 +121,35 @@ pub(crate) fn leave(
     let Context { around, body } = context;
     let closed = closed(alloc, body.before, core)?;
     leave_closed(alloc, around, body.front, closed, token)
+}
+
+/// A fact that was read, in the system in force.
+pub(crate) fn after_atom(alloc: Global, context: Context, fact: Fact) -> Result<State, Stop>
+    ensures { Gives result (machine.moved trees (context_view context) (machine.after_operand (building.in_system context.around.system (fact_view fact)))) }
+{
+    let Ok(core) = atom(alloc, &context.around.system, fact) else {
+        drop(context);
+        return Err(Stop::Memory);
+    };
+    Ok(State {
+        context,
+        position: Position::AfterOperand(core),
+    })
+}
+
+/// A token after a fact, in the system in force.
+pub(crate) fn leave_atom(
+    alloc: Global,
+    context: Context,
+    fact: Fact,
+    token: Token,
+) -> Result<State, Stop>
+    ensures { Gives result (machine.leave trees (context_view context) (building.in_system context.around.system (fact_view fact)) (token_view token)) }
+{
+    let Ok(core) = atom(alloc, &context.around.system, fact) else {
+        drop(context);
+        drop(token);
+        return Err(Stop::Memory);
+    };
+    leave(alloc, context, core, token)
 }

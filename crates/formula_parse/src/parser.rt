@@ -1,14 +1,15 @@
 //! The parser: one token after the other, until the text ends or a token is refused.
 
-ghost use Rattle.std.specs.Prelude.{◌≡◌, ◌↔◌, IsTrue, IfOk};
+ghost use Rattle.std.specs.Prelude.{◌≡◌, ◌↔◌, Some, Err, IsTrue, IfOk};
 ghost use Rattle.formula_parse.specs.Tokens as tokens;
 ghost use Rattle.formula_parse.specs.Machine as machine;
 ghost use Rattle.formula_parse.specs.Made.{trees};
 ghost use Rattle.formula_parse.specs.FormulaTrees.{default_system};
+ghost use Rattle.formula_parse.specs.declared.tree.Formula.{Formula};
 ghost use Rattle.formula_parse.specs.Spots.{mode_after};
 ghost use Rattle.formula_parse.specs.StateViews.{position_view, state_view};
 ghost use Rattle.formula_parse.specs.LexemeViews.{lexed_view, mode_view};
-ghost use Rattle.formula_parse.specs.Advances.{IsDone, Finishes};
+ghost use Rattle.formula_parse.specs.Advances.{Advances, IsDone, Flawed, Finishes};
 ghost use Rattle.formula_parse.specs.Parsing.{Parses};
 
 use crate::advance::{advance, big_fault};
@@ -62,18 +63,54 @@ impl Lexed {
     }
 }
 
+/// The state after a token or a numeral of 2^64 or more, or the fault there.
+fn read_spot(alloc: Global, state: State, spot: Spot) -> Result<State, ParseFault>
+    ensures { Advances (state_view state) (lexed_view spot.lexed) spot.at result }
+{
+    let Spot { lexed, at, .. } = spot;
+    match lexed {
+        Lexed::Token(token) => advance(alloc, state, token, at),
+        Lexed::Big => {
+            let fault = big_fault(&state.position, at);
+            drop(state);
+            Err(fault)
+        }
+    }
+}
+
+/// The fault that a flaw is.
+fn flaw_fault(flaw: Flaw) -> ParseFault
+    ensures { (f : Formula) → Flawed f (Some flaw) (Err result) }
+{
+    match flaw {
+        Flaw::MixedChain(at) => ParseFault::MixedChain(at),
+        Flaw::NotLinear(at) => ParseFault::NotLinear(at),
+    }
+}
+
+/// A tree, or the least flaw where one was met.
+fn without_flaw(formula: Formula, flaw: Option<Flaw>) -> Result<Formula, ParseFault>
+    ensures { Flawed formula flaw result }
+{
+    match flaw {
+        None => Ok(formula),
+        Some(flaw) => {
+            drop(formula);
+            Err(flaw_fault(flaw))
+        }
+    }
+}
+
 /// The tree of a text that was read to its end, or its least flaw.
 fn finish(state: State) -> Result<Formula, ParseFault>
     requires { IsDone (position_view state.position) }
     ensures { Finishes state result }
 {
     let State { context, position } = state;
+    let flaw = context.around.flaw;
+    drop(context);
     match position {
-        Position::Done(formula) => match context.around.flaw {
-            None => Ok(formula),
-            Some(Flaw::MixedChain(at)) => Err(ParseFault::MixedChain(at)),
-            Some(Flaw::NotLinear(at)) => Err(ParseFault::NotLinear(at)),
-        },
+        Position::Done(formula) => without_flaw(formula, flaw),
         _ => unreachable!(),
     }
 }
@@ -92,18 +129,14 @@ pub fn parse(alloc: Global, text: &[u8]) -> Result<Formula, ParseFault>
     let mut mode = Mode::Plain;
     let mut at = 0;
     loop {
-        let Spot {
-            lexed,
-            at: byte,
-            end,
-        } = next_spot(alloc, text, at, mode)?;
-        mode = lexed.mode_after();
-        let ends = lexed.is_end();
-        let token = match lexed {
-            Lexed::Token(token) => token,
-            Lexed::Big => return Err(big_fault(&state.position, byte)),
+        let Ok(spot) = next_spot(alloc, text, at, mode) else {
+            drop(state);
+            return Err(ParseFault::Memory);
         };
-        let next = match advance(alloc, state, token, byte) {
+        mode = spot.lexed.mode_after();
+        at = spot.end;
+        let ends = spot.lexed.is_end();
+        let next = match read_spot(alloc, state, spot) {
             Ok(next) => next,
             Err(fault) => return Err(fault),
         };
@@ -111,6 +144,5 @@ pub fn parse(alloc: Global, text: &[u8]) -> Result<Formula, ParseFault>
             return finish(next);
         }
         state = next;
-        at = end;
     }
 }

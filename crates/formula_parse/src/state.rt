@@ -125,7 +125,7 @@ pub(crate) enum Spelling {
 }
 
 /// A letter as it is written: the byte of its `@`, whether a `-` follows, and the numeral.
-#[derive(Clone, Copy, Debug, PartialEq, Eq)]
+#[derive(Clone, Copy)]
 pub(crate) struct Letter {
     pub at: usize,
     pub negative: bool,

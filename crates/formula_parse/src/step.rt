@@ -40,6 +40,11 @@ pub(crate) fn step(alloc: Global, state: State, token: Token) -> Result<State, S
         Position::AtCalled => enter_called(context, token),
         Position::AtCall(name) => enter_call(context, name, token),
         Position::AtArgument(name) => enter_argument(alloc, context, name, token),
-        Position::Done(_) => Err(Stop::Syntax),
+        Position::Done(formula) => {
+            drop(context);
+            drop(formula);
+            drop(token);
+            Err(Stop::Syntax)
+        }
     }
 }

@@ -1,19 +1,19 @@
 //! The machine where a factor begins, and after one: products, sums, terms in parentheses, and what follows a term.
 
-ghost use Rattle.std.specs.Prelude.{◌≡◌, true, false, ◌&&◌, [], Some, IfOk};
+ghost use Rattle.std.specs.Prelude.{◌≡◌, true, false, ◌&&◌, [], ◌∷◌, Some, IfOk};
 ghost use Rattle.formula_parse.specs.Flaws as flaws;
 ghost use Rattle.formula_parse.specs.Trees.{no_addends, no_factors};
 ghost use Rattle.formula_parse.specs.Made.{trees};
 ghost use Rattle.formula_parse.specs.Machine as machine;
-ghost use Rattle.formula_parse.specs.Views.{term_view, factors_view, addends_view, sign_view};
-ghost use Rattle.formula_parse.specs.StateViews.{token_view, outers_view, place_view, product_view, context_view, state_view};
+ghost use Rattle.formula_parse.specs.Views.{term_view, terms_view, factors_view, addends_view, sign_view};
+ghost use Rattle.formula_parse.specs.StateViews.{token_view, outer_view, outers_view, place_view, product_view, context_view, state_view};
 ghost use Rattle.formula_parse.specs.Stops.{Gives};
 
 use crate::closings::close_term;
 use crate::fault::Stop;
 use crate::flaw::Product;
-use crate::making::{atom, multiplied, summed, with_addend, with_factor};
-use crate::operands::leave;
+use crate::making::{multiplied, summed, with_addend, with_factor};
+use crate::operands::{after_atom, leave_atom};
 use crate::state::{
     Arguments, Context, Nest, Place, Places, Position, ReadTerm, Reading, Side, State, Sum,
 };
@@ -35,15 +35,35 @@ pub(crate) fn at_term(alloc: Global, context: Context, place: Place) -> State
 }
 
 /// A factor was read.
-pub(crate) fn after_factor(context: Context, reading: Reading, read: ReadTerm) -> State
+pub(crate) fn after_factor(mut context: Context, reading: Reading, read: ReadTerm) -> State
     ensures { state_view result ≡ machine.with_factor trees (context_view context) (place_view reading.nest.place) (outers_view reading.nest.outer.items)
         (addends_view reading.sum.addends.items) (factors_view reading.sum.factors.items) (product_view reading.sum.product) (term_view read.term) read.numeral }
 {
-    let Context { mut around, body } = context;
-    around.flaw = reading.sum.product.noted(read.numeral, around.flaw);
+    context.around.flaw = reading.sum.product.noted(read.numeral, context.around.flaw);
     State {
-        context: Context { around, body },
+        context,
         position: Position::AfterFactor(reading, read),
+    }
+}
+
+impl Reading {
+    /// The term that comes after a parenthesis, where a factor may stand.
+    fn opened(self, alloc: Global) -> Result<Reading, OutOfMemory>
+        ensures place { IfOk result (λ r. r.nest.place ≡ self.nest.place) }
+        ensures outer { IfOk result (λ r. outers_view r.nest.outer.items ≡ outer_view self.sum ∷ outers_view self.nest.outer.items) }
+        ensures addends { IfOk result (λ r. addends_view r.sum.addends.items ≡ no_addends) }
+        ensures factors { IfOk result (λ r. factors_view r.sum.factors.items ≡ no_factors) }
+        ensures product { IfOk result (λ r. product_view r.sum.product ≡ flaws.product_start true) }
+    {
+        let mut nest = self.nest;
+        let Ok(()) = nest.outer.push(self.sum) else {
+            drop(nest);
+            return Err(OutOfMemory);
+        };
+        Ok(Reading {
+            nest,
+            sum: Sum::empty(alloc, true),
+        })
     }
 }
 
@@ -52,12 +72,9 @@ fn open_term(alloc: Global, context: Context, reading: Reading) -> Result<State,
     ensures { Gives result (machine.enter_factor trees (context_view context) (place_view reading.nest.place) (outers_view reading.nest.outer.items)
         (addends_view reading.sum.addends.items) (factors_view reading.sum.factors.items) (product_view reading.sum.product) (token_view Token.Opening)) }
 {
-    let Reading { nest, sum } = reading;
-    let Nest { place, mut outer } = nest;
-    outer.push(sum)?;
-    let reading = Reading {
-        nest: Nest { place, outer },
-        sum: Sum::empty(alloc, true),
+    let Ok(reading) = reading.opened(alloc) else {
+        drop(context);
+        return Err(Stop::Memory);
     };
     Ok(State {
         context,
@@ -103,7 +120,12 @@ pub(crate) fn enter_factor(
         Token::Opening => open_term(alloc, context, reading),
         Token::Name(name) => Ok(after_factor(context, reading, variable(name))),
         Token::Number(value) => Ok(after_factor(context, reading, numeral(value))),
-        _ => Err(Stop::Syntax),
+        _ => {
+            drop(context);
+            drop(reading);
+            drop(token);
+            Err(Stop::Syntax)
+        }
     }
 }
 
@@ -117,8 +139,61 @@ fn leave_left(alloc: Global, context: Context, read: ReadTerm, token: Token) -> 
             Ok(at_term(alloc, context, place))
         }
         Token::Closing => close_term(alloc, context, read),
-        _ => Err(Stop::Syntax),
+        _ => {
+            drop(context);
+            drop(read);
+            Err(Stop::Syntax)
+        }
     }
+}
+
+impl Arguments {
+    /// With one more.
+    fn with_term(self, term: Term) -> Result<Arguments, OutOfMemory>
+        ensures name { IfOk result (λ a. a.name ≡ self.name) }
+        ensures terms { IfOk result (λ a. terms_view a.terms.items ≡ trees.terms (terms_view self.terms.items) (term_view term)) }
+    {
+        let mut terms = self.terms;
+        terms.push(term)?;
+        Ok(Arguments {
+            name: self.name,
+            terms,
+        })
+    }
+}
+
+/// A `,` after an argument of a call.
+fn next_argument(
+    alloc: Global,
+    context: Context,
+    arguments: Arguments,
+    term: Term,
+) -> Result<State, Stop>
+    ensures { Gives result (machine.at_term trees (context_view context) (machine.argument arguments.name (trees.terms (terms_view arguments.terms.items) (term_view term)))) }
+{
+    let Ok(arguments) = arguments.with_term(term) else {
+        drop(context);
+        return Err(Stop::Memory);
+    };
+    Ok(at_term(alloc, context, Place::Argument(arguments)))
+}
+
+/// A `)` after the last argument of a call.
+fn last_argument(
+    alloc: Global,
+    context: Context,
+    arguments: Arguments,
+    term: Term,
+) -> Result<State, Stop>
+    ensures { Gives result (machine.moved trees (context_view context)
+        (machine.after_operand (trees.call context.around.system arguments.name (terms_view arguments.terms.items) (term_view term)))) }
+{
+    let Ok(arguments) = arguments.with_term(term) else {
+        drop(context);
+        return Err(Stop::Memory);
+    };
+    let Arguments { name, terms } = arguments;
+    after_atom(alloc, context, Fact::Call(name, terms))
 }
 
 /// A token after an argument of a call.
@@ -131,22 +206,33 @@ fn leave_argument(
 ) -> Result<State, Stop>
     ensures { Gives result (machine.leave_whole trees (context_view context) (place_view (Place.Argument arguments)) (term_view read.term) read.numeral (token_view token)) }
 {
-    let Arguments { name, mut terms } = arguments;
     match token {
-        Token::Comma => {
-            terms.push(read.term)?;
-            let place = Place::Argument(Arguments { name, terms });
-            Ok(at_term(alloc, context, place))
+        Token::Comma => next_argument(alloc, context, arguments, read.term),
+        Token::Closing => last_argument(alloc, context, arguments, read.term),
+        _ => {
+            drop(context);
+            drop(arguments);
+            drop(read);
+            Err(Stop::Syntax)
         }
-        Token::Closing => {
-            terms.push(read.term)?;
-            let core = atom(alloc, &context.around.system, Fact::Call(name, terms))?;
-            Ok(State {
-                context,
-                position: Position::AfterOperand(core),
-            })
+    }
+}
+
+/// A token after a place of a word.
+fn leave_place(context: Context, places: Places, term: Term, token: Token) -> Result<State, Stop>
+    ensures { Gives result (machine.leave_whole trees (context_view context) (place_view (Place.PlaceIn places)) (term_view term) false (token_view token)) }
+{
+    match token {
+        Token::Unbracket => Ok(State {
+            context,
+            position: Position::AfterIndex(places, term),
+        }),
+        _ => {
+            drop(context);
+            drop(places);
+            drop(term);
+            Err(Stop::Syntax)
         }
-        _ => Err(Stop::Syntax),
     }
 }
 
@@ -164,17 +250,31 @@ fn leave_whole(
         Place::LeftSide => leave_left(alloc, context, read, token),
         Place::RightOf(left, relation) => {
             let fact = Fact::Compare(left, relation, read.term);
-            let core = atom(alloc, &context.around.system, fact)?;
-            leave(alloc, context, core, token)
+            leave_atom(alloc, context, fact, token)
         }
-        Place::PlaceIn(places) => match token {
-            Token::Unbracket => Ok(State {
-                context,
-                position: Position::AfterIndex(places, read.term),
-            }),
-            _ => Err(Stop::Syntax),
-        },
+        Place::PlaceIn(places) => leave_place(context, places, read.term, token),
         Place::Argument(arguments) => leave_argument(alloc, context, arguments, read, token),
+    }
+}
+
+/// A token after a term in parentheses, with what is around them.
+fn leave_parens(
+    context: Context,
+    reading: Reading,
+    read: ReadTerm,
+    token: Token,
+) -> Result<State, Stop>
+    ensures { Gives result (machine.leave_product trees (context_view context) (place_view reading.nest.place)
+        (outer_view reading.sum ∷ outers_view reading.nest.outer.items) (term_view read.term) read.numeral (token_view token)) }
+{
+    match token {
+        Token::Closing => Ok(after_factor(context, reading, read)),
+        _ => {
+            drop(context);
+            drop(reading);
+            drop(read);
+            Err(Stop::Syntax)
+        }
     }
 }
 
@@ -182,25 +282,15 @@ fn leave_whole(
 fn leave_term(
     alloc: Global,
     context: Context,
-    nest: Nest,
+    mut nest: Nest,
     read: ReadTerm,
     token: Token,
 ) -> Result<State, Stop>
     ensures { Gives result (machine.leave_product trees (context_view context) (place_view nest.place) (outers_view nest.outer.items) (term_view read.term) read.numeral (token_view token)) }
 {
-    let Nest { place, mut outer } = nest;
-    match outer.pop() {
-        None => leave_whole(alloc, context, place, read, token),
-        Some(sum) => match token {
-            Token::Closing => {
-                let reading = Reading {
-                    nest: Nest { place, outer },
-                    sum,
-                };
-                Ok(after_factor(context, reading, read))
-            }
-            _ => Err(Stop::Syntax),
-        },
+    match nest.outer.pop() {
+        None => leave_whole(alloc, context, nest.place, read, token),
+        Some(sum) => leave_parens(context, Reading { nest, sum }, read, token),
     }
 }
 
@@ -247,6 +337,67 @@ impl Sum {
     }
 }
 
+/// A `*` after a factor.
+fn times(context: Context, reading: Reading, read: ReadTerm, at: usize) -> Result<State, Stop>
+    ensures { Gives result (machine.leave_factor trees (context_view context) (place_view reading.nest.place) (outers_view reading.nest.outer.items)
+        (addends_view reading.sum.addends.items) (factors_view reading.sum.factors.items) (product_view reading.sum.product) (term_view read.term) read.numeral (token_view (Token.Times at))) }
+{
+    let Reading { nest, sum } = reading;
+    let Ok(sum) = sum.times(read, at) else {
+        drop(context);
+        drop(nest);
+        return Err(Stop::Memory);
+    };
+    Ok(State {
+        context,
+        position: Position::AtFactor(Reading { nest, sum }),
+    })
+}
+
+/// A sign after a factor.
+fn signed(
+    alloc: Global,
+    context: Context,
+    reading: Reading,
+    read: ReadTerm,
+    sign: Sign,
+) -> Result<State, Stop>
+    ensures { Gives result (machine.leave_factor trees (context_view context) (place_view reading.nest.place) (outers_view reading.nest.outer.items)
+        (addends_view reading.sum.addends.items) (factors_view reading.sum.factors.items) (product_view reading.sum.product) (term_view read.term) read.numeral (token_view (Token.Sign sign))) }
+{
+    let Reading { nest, sum } = reading;
+    let Ok(sum) = sum.signed(alloc, read.term, sign) else {
+        drop(context);
+        drop(nest);
+        return Err(Stop::Memory);
+    };
+    Ok(State {
+        context,
+        position: Position::AtFactor(Reading { nest, sum }),
+    })
+}
+
+/// A token that ends a term, after its last factor.
+fn leave_sum(
+    alloc: Global,
+    context: Context,
+    reading: Reading,
+    read: ReadTerm,
+    token: Token,
+) -> Result<State, Stop>
+    ensures { Gives result (machine.leave_product trees (context_view context) (place_view reading.nest.place) (outers_view reading.nest.outer.items)
+        (trees.term (addends_view reading.sum.addends.items) (factors_view reading.sum.factors.items) (term_view read.term)) (reading.sum.product.lone && read.numeral) (token_view token)) }
+{
+    let Reading { nest, sum } = reading;
+    let Ok(term) = sum.whole(alloc, read) else {
+        drop(context);
+        drop(nest);
+        drop(token);
+        return Err(Stop::Memory);
+    };
+    leave_term(alloc, context, nest, term, token)
+}
+
 /// A token after a factor.
 pub(crate) fn leave_factor(
     alloc: Global,
@@ -258,26 +409,10 @@ pub(crate) fn leave_factor(
     ensures { Gives result (machine.leave_factor trees (context_view context) (place_view reading.nest.place) (outers_view reading.nest.outer.items)
         (addends_view reading.sum.addends.items) (factors_view reading.sum.factors.items) (product_view reading.sum.product) (term_view read.term) read.numeral (token_view token)) }
 {
-    let Reading { nest, sum } = reading;
     match token {
-        Token::Times(at) => {
-            let sum = sum.times(read, at)?;
-            Ok(State {
-                context,
-                position: Position::AtFactor(Reading { nest, sum }),
-            })
-        }
-        Token::Sign(sign) => {
-            let sum = sum.signed(alloc, read.term, sign)?;
-            Ok(State {
-                context,
-                position: Position::AtFactor(Reading { nest, sum }),
-            })
-        }
-        _ => {
-            let term = sum.whole(alloc, read)?;
-            leave_term(alloc, context, nest, term, token)
-        }
+        Token::Times(at) => times(context, reading, read, at),
+        Token::Sign(sign) => signed(alloc, context, reading, read, sign),
+        _ => leave_sum(alloc, context, reading, read, token),
     }
 }
 

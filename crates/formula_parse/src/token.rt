@@ -6,7 +6,7 @@ use crate::tree::{Connective, Quantifier, Relation, Sign};
 use digit_tuple::name::Name;
 
 /// The connectives of a chain.
-#[derive(Clone, Copy, Debug, PartialEq, Eq)]
+#[derive(Clone, Copy)]
 pub(crate) enum ChainSign {
     And,
     Or,
