@@ -24,7 +24,7 @@ same_first_place numbers places are p q p_within q_within = (
 )
 
 -- a first place is not after its place
-pub first_place_up_to : (numbers places : List ℕ) → AreFirstPlaces numbers places → (q : ℕ) → q < length numbers → class_of places q ≤ q
+first_place_up_to : (numbers places : List ℕ) → AreFirstPlaces numbers places → (q : ℕ) → q < length numbers → class_of places q ≤ q
 first_place_up_to numbers places are q within = (are.first q within).up_to
 
 -- all first places are places

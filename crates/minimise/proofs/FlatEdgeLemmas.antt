@@ -1,6 +1,7 @@
 -- The edges of an automaton in one flat table.
-use Rattle.std.proofs.Common.{◌≡◌, ℕ, ◌+◌, ◌-◌, ◌<◌, ◌≤◌, ◌^◌, List, [], ◌∷◌, ◌++◌, map, length, get_or, take, zero, suc, ◌⊎◌, inl, inr, refl, sym, ap, ◌∙◌, subst, arith}
+use Rattle.std.proofs.Common.{◌≡◌, ℕ, ◌+◌, ◌-◌, ◌<◌, ◌≤◌, ◌^◌, List, [], ◌∷◌, ◌++◌, map, length, get_or, take, zero, suc, Option, None, Some, ◌⊎◌, inl, inr, refl, sym, ap, ◌∙◌, subst, arith}
 use Rattle.std.specs.List.{sum_by}
+use Rattle.std.specs.Option.{IfSome}
 use Rattle.std.proofs.lemmas.Bool.{cases_lt}
 use Rattle.std.proofs.lemmas.List.{length-map, length-append, length_push, get_or_push, get_or-map, get_or_default, get_or_append_left, get_or-append_right}
 use Rattle.std.proofs.lemmas.List.Sums.{sum_by_more, sum_by_more_le}
@@ -9,25 +10,32 @@ use Rattle.digit_tuple.specs.Deterministic.{Automaton, State, IsTable, edges_of,
 use Rattle.digit_tuple.specs.EdgeCounts.{edge_count}
 use Rattle.digit_tuple.proofs.DfaLemmas.{row_at}
 use Rattle.minimise.specs.Classes.{class_of, dead_class}
+use Rattle.minimise.specs.EdgeLetters.{letter_at, with_letters}
 use Rattle.minimise.specs.FlatEdges.{AreLaidOut, flat_edge}
 use Rattle.minimise.specs.Refinement.{AreAlike}
+use Rattle.minimise.proofs.EdgeLetterLemmas.{IsInPlace, letter_before, letter_behind, same_with}
 use Rattle.minimise.proofs.SignatureLemmas.{class_edges-same}
 use Rattle.minimise.proofs.StabilityLemmas.{alike_from_rows}
 
+-- no letters yet, and no targets
+same-none : (letters : Option (List ℕ)) (targets : List ℕ) → IfSome letters (λ list. list ≡ []) → targets ≡ [] → IfSome letters (λ list. length list ≡ length targets)
+same-none None targets none empty = tt
+same-none (Some list) targets none empty = ap length none ∙ sym (ap length empty)
+
 -- no edges yet
-pub AreLaidOut-none : (d : Automaton) (starts letters targets : List ℕ) → starts ≡ 0 ∷ [] → letters ≡ [] → targets ≡ [] → AreLaidOut d starts letters targets 0
+pub AreLaidOut-none : (d : Automaton) (starts : List ℕ) (letters : Option (List ℕ)) (targets : List ℕ) → starts ≡ 0 ∷ [] → IfSome letters (λ list. list ≡ []) → targets ≡ [] → AreLaidOut d starts letters targets 0
 AreLaidOut-none d starts letters targets first none empty = record {
   width = ap length first;
   begin = ap (λ (xs : List ℕ). class_of xs 0) first;
   end = ap (λ (xs : List ℕ). class_of xs 0) first ∙ sym (ap length empty);
-  same = ap length none ∙ sym (ap length empty);
+  same = same-none letters targets none empty;
   few = omega (arith, ap length empty);
   ends = λ q less. absurd (omega arith);
   within = λ q low. let is : q ≡ 0 = omega arith in omega (arith, ap (λ (n : ℕ). class_of starts n) is, ap (λ (xs : List ℕ). class_of xs 0) first);
   edges = λ q k z less inside. absurd (omega arith);
 }
 
-module _ (d : Automaton) (starts letters targets : List ℕ) (count : ℕ) (flat : AreLaidOut d starts letters targets count) where
+module _ (d : Automaton) (starts : List ℕ) (letters : Option (List ℕ)) (targets : List ℕ) (count : ℕ) (flat : AreLaidOut d starts letters targets count) where
   -- the edges of a state stand behind those of the states before it
   start_is : count ≤ states_of d → (q : ℕ) → q ≤ count → class_of starts q ≡ sum_by (λ (s : State). length s.edges) (take q d.states)
   start_is low zero _ = flat.begin
@@ -46,13 +54,13 @@ module _ (d : Automaton) (starts letters targets : List ℕ) (count : ℕ) (flat
       omega (arith, long_targets es, ap length is, flat.end, start_is (omega (arith, less)) count (omega arith), sum_by_more_le (λ (s : State). length s.edges) d.states count no_state less)
 
   -- the edges of one more state
-  pub AreLaidOut-more : (es : List Edge) → es ≡ edges_of d count → length (targets ++ map (λ (e : Edge). e.target) es) < 2 ^ 32
-      → AreLaidOut d (starts ++ length (targets ++ map (λ (e : Edge). e.target) es) ∷ []) (letters ++ map (λ (e : Edge). e.letter) es) (targets ++ map (λ (e : Edge). e.target) es) (count + 1)
-  AreLaidOut-more es is few = record {
+  pub AreLaidOut-more : (es : List Edge) → es ≡ edges_of d count → (letters ≡ None → IsInPlace es) → length (targets ++ map (λ (e : Edge). e.target) es) < 2 ^ 32
+      → AreLaidOut d (starts ++ length (targets ++ map (λ (e : Edge). e.target) es) ∷ []) (with_letters es letters) (targets ++ map (λ (e : Edge). e.target) es) (count + 1)
+  AreLaidOut-more es is full few = record {
     width = length_push starts end ∙ ap (λ n. n + 1) flat.width;
     begin = old 0 (omega arith) ∙ flat.begin;
     end = last;
-    same = omega (arith, flat.same, long_letters, long_targets es);
+    same = same_with letters targets es flat.same;
     few = few;
     ends = λ q less. ends q (cases_lt q count) less;
     within = λ q low. within q (cases_lt q (count + 1)) low;
@@ -61,9 +69,6 @@ module _ (d : Automaton) (starts letters targets : List ℕ) (count : ℕ) (flat
     where
       end : ℕ
       end = length (targets ++ map (λ (e : Edge). e.target) es)
-
-      long_letters : length (letters ++ map (λ (e : Edge). e.letter) es) ≡ length letters + length es
-      long_letters = length-append letters (map (λ (e : Edge). e.letter) es) ∙ ap (λ n. length letters + n) (length-map es (λ (e : Edge). e.letter))
 
       new : List ℕ
       new = starts ++ length (targets ++ map (λ (e : Edge). e.target) es) ∷ []
@@ -87,40 +92,41 @@ module _ (d : Automaton) (starts letters targets : List ℕ) (count : ℕ) (flat
       within q (inl before) low = omega (arith, old q (omega (arith, before)), flat.within q (omega (arith, before)), long_targets es)
       within q (inr past) low = let same : q ≡ count + 1 = omega arith in omega (arith, ap (class_of (starts ++ length (targets ++ map (λ (e : Edge). e.target) es) ∷ [])) same ∙ last)
 
+      after : List ℕ
+      after = targets ++ map (λ (e : Edge). e.target) es
+
       edges : (q k : ℕ) (z : Edge) → q < count + 1 → k < length (edges_of d q) → (q < count) ⊎ (count ≤ q)
-          → get_or (edges_of d q) k z ≡ flat_edge (letters ++ map (λ (e : Edge). e.letter) es) (targets ++ map (λ (e : Edge). e.target) es) (class_of (starts ++ length (targets ++ map (λ (e : Edge). e.target) es) ∷ []) q + k)
+          → get_or (edges_of d q) k z ≡ flat_edge (with_letters es letters) (targets ++ map (λ (e : Edge). e.target) es) (class_of (starts ++ length (targets ++ map (λ (e : Edge). e.target) es) ∷ []) q) (class_of (starts ++ length (targets ++ map (λ (e : Edge). e.target) es) ∷ []) q + k)
       edges q k z less inside (inl before) =
           let at : class_of starts q + k < length targets = omega (arith, flat.ends q before, flat.within (q + 1) (omega (arith, before)), inside) in
-          let one : class_of letters (class_of starts q + k) ≡ class_of (letters ++ map (λ (e : Edge). e.letter) es) (class_of starts q + k) = sym (get_or_append_left letters (map (λ (e : Edge). e.letter) es) 0 (class_of starts q + k) (omega (arith, at, flat.same))) in
-          let two : class_of targets (class_of starts q + k) ≡ class_of (targets ++ map (λ (e : Edge). e.target) es) (class_of starts q + k) = sym (get_or_append_left targets (map (λ (e : Edge). e.target) es) 0 (class_of starts q + k) at) in
+          let one = letter_before letters targets es flat.same (class_of starts q) (class_of starts q + k) at in
+          let two : class_of targets (class_of starts q + k) ≡ class_of after (class_of starts q + k) = sym (get_or_append_left targets (map (λ (e : Edge). e.target) es) 0 (class_of starts q + k) at) in
           flat.edges q k z before inside
           ∙ ap (λ (x : ℕ). let e : Edge = record { letter = x; target = class_of targets (class_of starts q + k) } in e) one
-          ∙ ap (λ (x : ℕ). let e : Edge = record { letter = class_of (letters ++ map (λ (e : Edge). e.letter) es) (class_of starts q + k); target = x } in e) two
-          ∙ ap (λ n. flat_edge (letters ++ map (λ (e : Edge). e.letter) es) (targets ++ map (λ (e : Edge). e.target) es) (n + k)) (sym (old q (omega (arith, before))))
+          ∙ ap (λ (x : ℕ). let e : Edge = record { letter = letter_at (with_letters es letters) (class_of starts q) (class_of starts q + k); target = x } in e) two
+          ∙ ap (λ n. flat_edge (with_letters es letters) after n (n + k)) (sym (old q (omega (arith, before))))
       edges q k z less inside (inr past) =
           let same : q ≡ count = omega arith in
           let own : edges_of d q ≡ es = ap (edges_of d) same ∙ sym is in
           let low : k < length es = omega (arith, inside, ap length own) in
           let place : class_of (starts ++ length (targets ++ map (λ (e : Edge). e.target) es) ∷ []) q ≡ length targets = ap (class_of (starts ++ length (targets ++ map (λ (e : Edge). e.target) es) ∷ [])) same ∙ old count (omega arith) ∙ flat.end in
-          let one : (get_or es k z).letter ≡ class_of (letters ++ map (λ (e : Edge). e.letter) es) (length targets + k) =
-          sym (get_or-append_right letters (map (λ (e : Edge). e.letter) es) (length letters) (length targets + k) 0 refl (omega (arith, flat.same))
-          ∙ ap (class_of (map (λ (e : Edge). e.letter) es)) (omega (arith, flat.same)) ∙ get_or-map (λ (e : Edge). e.letter) es k z 0 low) in
-          let two : (get_or es k z).target ≡ class_of (targets ++ map (λ (e : Edge). e.target) es) (length targets + k) =
+          let one = letter_behind letters targets es flat.same full k z low in
+          let two : (get_or es k z).target ≡ class_of after (length targets + k) =
           sym (get_or-append_right targets (map (λ (e : Edge). e.target) es) (length targets) (length targets + k) 0 refl (omega arith)
           ∙ ap (class_of (map (λ (e : Edge). e.target) es)) (omega arith) ∙ get_or-map (λ (e : Edge). e.target) es k z 0 low) in
           ap (λ (xs : List Edge). get_or xs k z) own
           ∙ ap (λ (x : ℕ). let e : Edge = record { letter = x; target = (get_or es k z).target } in e) one
-          ∙ ap (λ (x : ℕ). let e : Edge = record { letter = class_of (letters ++ map (λ (e : Edge). e.letter) es) (length targets + k); target = x } in e) two
-          ∙ ap (λ n. flat_edge (letters ++ map (λ (e : Edge). e.letter) es) (targets ++ map (λ (e : Edge). e.target) es) (n + k)) (sym place)
+          ∙ ap (λ (x : ℕ). let e : Edge = record { letter = letter_at (with_letters es letters) (length targets) (length targets + k); target = x } in e) two
+          ∙ ap (λ n. flat_edge (with_letters es letters) after n (n + k)) (sym place)
 
 -- at a place of the table is an edge of a state
-pub record HasPlace (d : Automaton) (starts letters targets : List ℕ) (q place : ℕ) : Type 0 where
+pub record HasPlace (d : Automaton) (starts : List ℕ) (letters : Option (List ℕ)) (targets : List ℕ) (q place : ℕ) : Type 0 where
   pub inside : place - class_of starts q < length (edges_of d q)
   pub within : place < length targets
   pub target : class_of targets place < states_of d
-  pub edge : (z : Edge) → get_or (edges_of d q) (place - class_of starts q) z ≡ flat_edge letters targets place
+  pub edge : (z : Edge) → get_or (edges_of d q) (place - class_of starts q) z ≡ flat_edge letters targets (class_of starts q) place
 
-module _ (d : Automaton) (starts letters targets : List ℕ) (flat : AreLaidOut d starts letters targets (states_of d)) (table : IsTable (letters_of d) d.states) where
+module _ (d : Automaton) (starts : List ℕ) (letters : Option (List ℕ)) (targets : List ℕ) (flat : AreLaidOut d starts letters targets (states_of d)) (table : IsTable (letters_of d) d.states) where
   -- the places between two starts are those of a state's edges
   pub HasPlace-between : (q place : ℕ) → q < states_of d → class_of starts q ≤ place → place < class_of starts (q + 1) → HasPlace d starts letters targets q place
   HasPlace-between q place less after before = record {
@@ -136,8 +142,8 @@ module _ (d : Automaton) (starts letters targets : List ℕ) (flat : AreLaidOut 
       back : class_of starts q + (place - class_of starts q) ≡ place
       back = omega (arith, after)
 
-      edge : (z : Edge) → get_or (edges_of d q) (place - class_of starts q) z ≡ flat_edge letters targets place
-      edge z = flat.edges q (place - class_of starts q) z less inside ∙ ap (flat_edge letters targets) back
+      edge : (z : Edge) → get_or (edges_of d q) (place - class_of starts q) z ≡ flat_edge letters targets (class_of starts q) place
+      edge z = flat.edges q (place - class_of starts q) z less inside ∙ ap (flat_edge letters targets (class_of starts q)) back
 
   -- the start that is read
   pub start_read : (q start : ℕ) → q ≤ states_of d → start ≡ get_or starts q start → start ≡ class_of starts q
@@ -150,7 +156,7 @@ module _ (d : Automaton) (starts letters targets : List ℕ) (flat : AreLaidOut 
   module _ (classes : List ℕ) (p q count : ℕ) (less : p < states_of d) (low : q < states_of d) (own : class_of classes p ≡ class_of classes q)
       (one : class_of starts (p + 1) ≡ class_of starts p + count) (other : class_of starts (q + 1) ≡ class_of starts q + count) where
     -- states are alike that have one class and edges by the same letters to the same classes
-    pub AreAlike-flat : ((k : ℕ) → k < count → class_of letters (class_of starts p + k) ≡ class_of letters (class_of starts q + k)) → ((k : ℕ) → k < count → class_of classes (class_of targets (class_of starts p + k)) ≡ class_of classes (class_of targets (class_of starts q + k))) → AreAlike d classes p q
+    pub AreAlike-flat : ((k : ℕ) → k < count → letter_at letters (class_of starts p) (class_of starts p + k) ≡ letter_at letters (class_of starts q) (class_of starts q + k)) → ((k : ℕ) → k < count → class_of classes (class_of targets (class_of starts p + k)) ≡ class_of classes (class_of targets (class_of starts q + k))) → AreAlike d classes p q
     AreAlike-flat by_letters to_classes =
         alike_from_rows d classes table p q own
         (class_edges-same classes (dead_class d classes) (edges_of d p) (edges_of d q) (omega (arith, long, flat.ends q low, other)) (λ k inside. (

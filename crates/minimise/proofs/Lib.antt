@@ -13,6 +13,7 @@ pub mod InsertedLemmas
 pub mod NumberedLemmas
 pub mod RefiningLemmas
 pub mod StabilityLemmas
+pub mod EdgeLetterLemmas
 pub mod FlatEdgeLemmas
 pub mod CountingSortLemmas
 pub mod TurnedEdgeLemmas

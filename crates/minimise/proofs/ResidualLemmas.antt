@@ -115,10 +115,3 @@ AreCoarse-outputs d outputs classes count given are = record {
   coarse = λ p q small low same. (are.same p q (omega (arith, small, given)) (omega (arith, low, given))).1 (same [] tt);
   tell = λ p q small low same. (are.same p q (omega (arith, small, given)) (omega (arith, low, given))).0 same;
 }
-
-pub AreCoarseClasses-counted : (d : Automaton) (outputs classes : List ℕ) (count : ℕ) → AreCoarse d outputs classes count → AreCoarseClasses d outputs classes
-AreCoarseClasses-counted d outputs classes count are = record {
-  width = are.counted.width;
-  below = All-counted d classes count are.counted;
-  coarse = are.coarse;
-}

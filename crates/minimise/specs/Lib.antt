@@ -10,6 +10,7 @@ pub mod Refinement
 pub mod FirstPlaces
 pub mod PlaceSlots
 pub mod Hashes
+pub mod EdgeLetters
 pub mod FlatEdges
 pub mod CountingSort
 pub mod TurnedEdges

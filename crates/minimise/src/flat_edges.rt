@@ -1,9 +1,12 @@
-//! The edges of an automaton in one flat table of six bytes an edge and four a state, for passes over all of them.
+//! The edges of an automaton in one flat table of six bytes an edge and four a state, for passes over all of them. Where each
+//! state has an edge by each letter, an edge takes four.
 
-ghost use Rattle.std.specs.Prelude.{◌≡◌, ◌<◌, ◌++◌, map, IfOk, OnOk};
-ghost use Rattle.std.specs.List.{All};
+ghost use Rattle.std.specs.Prelude.{◌≡◌, ◌*◌, ◌++◌, map, IfOk, OnOk, IsTrue};
+ghost use Rattle.digit_tuple.specs.Deterministic.{letters_of, states_of};
+ghost use Rattle.digit_tuple.specs.EdgeCounts.{edge_count};
 ghost use Rattle.minimise.specs.FlatEdges.{AreFlat};
 
+use crate::edge_letters::EdgeLetters;
 use digit_tuple::dfa::Dfa;
 use digit_tuple::edges::Edge;
 use digit_tuple::faults::OutOfMemory;
@@ -14,8 +17,8 @@ use std::alloc::Global;
 pub struct FlatEdges {
     /// Where the edges of each state begin, and last where all end.
     pub starts: Vec<u32>,
-    /// The letter of each edge, of which an alphabet has 65,536 at most.
-    pub letters: Vec<u16>,
+    /// The letter of each edge.
+    pub letters: EdgeLetters,
     /// Where each edge leads.
     pub targets: Vec<u32>,
 }
@@ -34,13 +37,14 @@ impl FlatEdges {
             return Err(OutOfMemory);
         }
         let mut starts = Vec::with_capacity(alloc, states as usize + 1)?;
-        let mut letters = Vec::with_capacity(alloc, count)?;
+        let mut letters = EdgeLetters::new(alloc, is_full(dfa), count)?;
         let mut targets = Vec::with_capacity(alloc, count)?;
         let mut edges = Vec::new(alloc);
         starts.push(0)?;
         for state in 0..states {
             dfa.edges_into(state, &mut edges)?;
-            add_edges(&edges, &mut letters, &mut targets)?;
+            letters.add(&edges)?;
+            add_targets(&edges, &mut targets)?;
             starts.push(targets.len() as u32)?;
         }
         Ok(FlatEdges {
@@ -51,18 +55,19 @@ impl FlatEdges {
     }
 }
 
-// Adds the letters and the targets of edges.
-fn add_edges(
-    edges: &[Edge],
-    letters: &mut Vec<u16>,
-    targets: &mut Vec<u32>,
-) -> Result<(), OutOfMemory>
-    requires { All (λ edge. edge.letter < 65536) edges.now }
-    ensures letters { OnOk result (letters.new.items ≡ letters.old.items ++ map (λ edge. edge.letter) edges.now) }
-    ensures targets { OnOk result (targets.new.items ≡ targets.old.items ++ map (λ edge. edge.target) edges.now) }
+// Whether each state has an edge by each letter.
+fn is_full(dfa: &Dfa) -> bool
+    ensures { IsTrue result → edge_count dfa.now ≡ states_of dfa.now * letters_of dfa.now }
+{
+    let letters = dfa.alphabet().letters();
+    dfa.edges() == u64::from(dfa.states()) * u64::from(letters)
+}
+
+// Adds the targets of edges.
+fn add_targets(edges: &[Edge], targets: &mut Vec<u32>) -> Result<(), OutOfMemory>
+    ensures { OnOk result (targets.new.items ≡ targets.old.items ++ map (λ edge. edge.target) edges.now) }
 {
     for edge in edges {
-        letters.push(edge.letter as u16)?;
         targets.push(edge.target)?;
     }
     Ok(())

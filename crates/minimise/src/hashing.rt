@@ -36,10 +36,14 @@ fn mix_edges(start: u64, dfa: &Dfa, flat: &FlatEdges, hashes: &[u64], state: u32
 {
     let dead = hashes[dfa.states() as usize];
     let mut hash = start;
-    for place in flat.starts[state as usize] as usize..flat.starts[state as usize + 1] as usize {
+    let first = flat.starts[state as usize] as usize;
+    for place in first..flat.starts[state as usize + 1] as usize {
         let target = hashes[flat.targets[place] as usize];
         if target != dead {
-            hash = mix(mix(hash, u64::from(flat.letters[place])), target);
+            hash = mix(
+                mix(hash, u64::from(flat.letters.letter(first, place))),
+                target,
+            );
         }
     }
     hash

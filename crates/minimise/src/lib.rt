@@ -34,6 +34,9 @@ mod leaders;
 /// Whether letters keep classes.
 mod stability;
 
+/// The letters of edges in one table.
+mod edge_letters;
+
 /// The edges of all states in one table.
 mod flat_edges;
 

@@ -68,7 +68,8 @@ fn lead_alike(dfa: &Dfa, flat: &FlatEdges, classes: &[u32], p: u32, q: u32) -> b
         return false;
     }
     for place in 0..count {
-        if flat.letters[start + place] != flat.letters[other + place] {
+        let letter = flat.letters.letter(start, start + place);
+        if letter != flat.letters.letter(other, other + place) {
             return false;
         }
         let class = classes[flat.targets[start + place] as usize];

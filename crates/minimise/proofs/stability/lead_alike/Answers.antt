@@ -2,6 +2,7 @@ use Rattle.std.proofs.Common.{◌≡◌, ℕ, ◌+◌, ◌-◌, ◌<◌, List, l
 use Rattle.std.proofs.lemmas.List.{get_or_default}
 use Rattle.digit_tuple.specs.Deterministic.{states_of}
 use Rattle.minimise.specs.Classes.{class_of}
+use Rattle.minimise.specs.EdgeLetters.{letter_at, listed}
 use Rattle.minimise.proofs.FlatEdgeLemmas.{HasPlace-read, start_read, AreAlike-flat}
 use Rattle.minimise.proofs.stability.lead_alike.Goals as goal
 
@@ -14,25 +15,25 @@ bounds-classes-index c =
     let flat = c.args.flat.now in
     let start = c.index.result.now in
     let place = c.loop-place.place in
-    let there = HasPlace-read c.args.dfa.now flat.starts.items flat.letters.items flat.targets.items c.requires.flat c.states-states.ensures.table c.args.p (start + place) start c.index-3.result.now (omega (arith, c.if-p-states.false, c.states-states.ensures.value))
+    let there = HasPlace-read c.args.dfa.now flat.starts.items (listed flat.letters) flat.targets.items c.requires.flat c.states-states.ensures.table c.args.p (start + place) start c.index-3.result.now (omega (arith, c.if-p-states.false, c.states-states.ensures.value))
     c.index.ensures c.index-3.ensures (omega arith) (omega (arith, c.loop-place-test.true)) in
-    omega (arith, c.index-in-loop-place-3.ensures ∙ get_or_default flat.targets.items (start + place) c.index-in-loop-place-3.result.now 0 there.within, there.target, c.requires.width)
+    omega (arith, c.index-in-loop-place.ensures ∙ get_or_default flat.targets.items (start + place) c.index-in-loop-place.result.now 0 there.within, there.target, c.requires.width)
 
 pub bounds-classes-index-in-loop-place : goal.bounds-classes-index-in-loop-place
 bounds-classes-index-in-loop-place c =
     let flat = c.args.flat.now in
     let start = c.index-2.result.now in
     let place = c.loop-place.place in
-    let there = HasPlace-read c.args.dfa.now flat.starts.items flat.letters.items flat.targets.items c.requires.flat c.states-states.ensures.table c.args.q (start + place) start c.index-4.result.now (omega (arith, c.if-q-states.false, c.states-states.ensures.value))
+    let there = HasPlace-read c.args.dfa.now flat.starts.items (listed flat.letters) flat.targets.items c.requires.flat c.states-states.ensures.table c.args.q (start + place) start c.index-4.result.now (omega (arith, c.if-q-states.false, c.states-states.ensures.value))
     c.index-2.ensures c.index-4.ensures (omega arith) (omega (arith, c.loop-place-test.true, c.if-index-other.false)) in
-    omega (arith, c.index-in-loop-place-4.ensures ∙ get_or_default flat.targets.items (start + place) c.index-in-loop-place-4.result.now 0 there.within, there.target, c.requires.width)
+    omega (arith, c.index-in-loop-place-2.ensures ∙ get_or_default flat.targets.items (start + place) c.index-in-loop-place-2.result.now 0 there.within, there.target, c.requires.width)
 
 pub loop-place-preserved : goal.loop-place-preserved
 loop-place-preserved c =
     let d = c.args.dfa.now in
     let flat = c.args.flat.now in
     let starts = flat.starts.items in
-    let letters = flat.letters.items in
+    let letters = listed flat.letters in
     let targets = flat.targets.items in
     let p = c.args.p in
     let q = c.args.q in
@@ -47,11 +48,10 @@ loop-place-preserved c =
     let two = HasPlace-read d starts letters targets c.requires.flat c.states-states.ensures.table q (other + place) other c.index-4.result.now low c.index-2.ensures c.index-4.ensures (omega arith) (omega (arith, c.loop-place-test.true, c.if-index-other.false)) in
     record {
       letters = below_more _ _ c.loop-place.invariant.letters
-          (read_at letters start (class_of starts p) place c.index-in-loop-place.result.now first c.index-in-loop-place.ensures (omega (arith, one.within, c.requires.flat.same)) ∙ c.if-index.false
-          ∙ sym (read_at letters other (class_of starts q) place c.index-in-loop-place-2.result.now second c.index-in-loop-place-2.ensures (omega (arith, two.within, c.requires.flat.same))));
+          (ap (λ s. letter_at letters s (s + place)) (sym first) ∙ sym c.letter-letter.ensures ∙ c.if-letter.false ∙ c.letter.ensures ∙ ap (λ s. letter_at letters s (s + place)) second);
       targets = below_more _ _ c.loop-place.invariant.targets
-          (ap (class_of c.args.classes.now) (read_at targets start (class_of starts p) place c.index-in-loop-place-3.result.now first c.index-in-loop-place-3.ensures one.within) ∙ c.if-class-classes.false
-          ∙ ap (class_of c.args.classes.now) (sym (read_at targets other (class_of starts q) place c.index-in-loop-place-4.result.now second c.index-in-loop-place-4.ensures two.within)));
+          (ap (class_of c.args.classes.now) (read_at targets start (class_of starts p) place c.index-in-loop-place.result.now first c.index-in-loop-place.ensures one.within) ∙ c.if-class-classes.false
+          ∙ ap (class_of c.args.classes.now) (sym (read_at targets other (class_of starts q) place c.index-in-loop-place-2.result.now second c.index-in-loop-place-2.ensures two.within)));
     }
 
 pub returns : goal.returns
@@ -64,11 +64,11 @@ returns c _ =
     let count = c.index-3.result.now - c.index.result.now in
     let less : p < states_of d = omega (arith, c.if-p-states.false, c.states-states.ensures.value) in
     let low : q < states_of d = omega (arith, c.if-q-states.false, c.states-states.ensures.value) in
-    let read = start_read d starts flat.letters.items flat.targets.items c.requires.flat c.states-states.ensures.table in
+    let read = start_read d starts (listed flat.letters) flat.targets.items c.requires.flat c.states-states.ensures.table in
     let first = read p c.index.result.now (omega (arith, less)) c.index.ensures in
     let second = read q c.index-2.result.now (omega (arith, low)) c.index-2.ensures in
     let third = read (p + 1) c.index-3.result.now (omega (arith, less)) c.index-3.ensures in
     let fourth = read (q + 1) c.index-4.result.now (omega (arith, low)) c.index-4.ensures in
-    AreAlike-flat d starts flat.letters.items flat.targets.items c.requires.flat c.states-states.ensures.table c.args.classes.now p q count less low c.requires.own
+    AreAlike-flat d starts (listed flat.letters) flat.targets.items c.requires.flat c.states-states.ensures.table c.args.classes.now p q count less low c.requires.own
     (omega (arith, first, third, c.requires.flat.ends p less)) (omega (arith, second, fourth, c.requires.flat.ends q low, c.if-index-other.false))
     (λ k inside. c.loop-place.invariant.letters k (omega (arith, inside, c.loop-place-test.false))) (λ k inside. c.loop-place.invariant.targets k (omega (arith, inside, c.loop-place-test.false)))

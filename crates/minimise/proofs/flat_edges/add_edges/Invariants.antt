@@ -1,9 +1,0 @@
-use Rattle.std.proofs.Common.{◌≡◌, ◌++◌, map, take}
-use Rattle.digit_tuple.specs.declared.edges.Edge.{Edge}
-use Rattle.minimise.proofs.flat_edges.add_edges.Given as goal
-
-abbrev pub invariant-loop-edge : goal.invariant-loop-edge
-invariant-loop-edge l = record {
-  letters : l.letters.items ≡ l.fn.letters.items ++ map (λ (e : Edge). e.letter) (take l.edge-index l.edges);
-  targets : l.targets.items ≡ l.fn.targets.items ++ map (λ (e : Edge). e.target) (take l.edge-index l.edges);
-}
