@@ -1,6 +1,6 @@
 //! The canonical automaton of a language.
 
-ghost use Rattle.std.specs.Prelude.{◌≡◌, ◌↔◌, ℕ, List, IfOk, IsTrue};
+ghost use Rattle.std.specs.Prelude.{◌≡◌, ◌↔◌, ℕ, List, IfOk, IfSome, IfNone, IsTrue};
 ghost use Rattle.digit_tuple.specs.FirstWords.{IsNumberedByFirsts};
 ghost use Rattle.minimise.specs.Residuals.{SameLanguage};
 ghost use Rattle.minimise.specs.Canonical.{IsCanonical};
@@ -36,17 +36,31 @@ pub fn canonical_of_numbered(alloc: Global, d: Dfa) -> Result<Dfa, OutOfMemory>
     ensures language { IfOk result (λ least. SameLanguage d least) }
     ensures canonical { IfOk result (λ least. IsCanonical least) }
 {
+    match least_unless_canonical(alloc, &d)? {
+        Some(least) => Ok(least),
+        None => Ok(d),
+    }
+}
+
+// The canonical automaton with the same language, or None where it is this one.
+fn least_unless_canonical(alloc: Global, d: &Dfa) -> Result<Option<Dfa>, OutOfMemory>
+    requires { (firsts : List (List ℕ)) × IsNumberedByFirsts d.now firsts }
+    ensures sizes { IfOk result (λ made. IfSome made (λ least. least.sizes ≡ d.now.sizes)) }
+    ensures language { IfOk result (λ made. IfSome made (λ least. SameLanguage d.now least)) }
+    ensures least { IfOk result (λ made. IfSome made IsCanonical) }
+    ensures canonical { IfOk result (λ made. IfNone made (IsCanonical d.now)) }
+{
     // That the states and edges of an automaton are a table.
     let _states = d.states();
-    let outputs = accepting_outputs(alloc, &d)?;
+    let outputs = accepting_outputs(alloc, d)?;
     let machine = Machine {
-        dfa: &d,
+        dfa: d,
         outputs: &outputs,
     };
     let classes = residual_classes(alloc, &machine)?;
     if are_alone(alloc, &classes)? {
-        return Ok(d);
+        return Ok(None);
     }
     let (least, _) = least(alloc, &machine, &classes)?;
-    Ok(least)
+    Ok(Some(least))
 }

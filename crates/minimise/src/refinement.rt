@@ -46,15 +46,13 @@ fn refined(alloc: Global, dfa: &Dfa, classes: &[u32]) -> Result<Classes, OutOfMe
     let mut numbers = Vec::with_capacity(alloc, classes.len())?;
     let mut row = ClassRow::new(alloc);
     let mut signature = Vec::new(alloc);
-    let states = dfa.states();
-    for state in 0..states {
-        write_signature(dfa, classes, state, &mut row, &mut signature)?;
+    // That the states are a table. The sink comes last.
+    let _states = dfa.states();
+    for state in 0..classes.len() {
+        write_signature(dfa, classes, state as u32, &mut row, &mut signature)?;
         let number = signatures.number_of(&signature)?;
         numbers.push(number as u32)?;
     }
-    write_signature(dfa, classes, states, &mut row, &mut signature)?;
-    let number = signatures.number_of(&signature)?;
-    numbers.push(number as u32)?;
     Ok(Classes {
         numbers,
         count: signatures.len(),

@@ -4,7 +4,8 @@
 
 ghost use Rattle.std.specs.Prelude.{◌≡◌, ◌==◌, ℕ, ◌<◌, ◌≤◌, ◌^◌, count_by, length, IfOk, IsTrue};
 ghost use Rattle.std.specs.List.{All};
-ghost use Rattle.minimise.specs.CoarseClasses.{AreCoarseClasses, AreResidualClasses};
+ghost use Rattle.minimise.specs.CoarseClasses.{AreCoarseClasses, AreCoarseNumbers, AreResidualClasses};
+ghost use Rattle.minimise.specs.FlatEdges.{AreFlat};
 ghost use Rattle.minimise.specs.Outputs.{HasOutputs};
 
 use crate::flat_edges::FlatEdges;
@@ -31,9 +32,25 @@ pub fn classes_by_rounds(alloc: Global, machine: &Machine) -> Result<RoundClasse
     ensures coarse { IfOk result (λ left. AreCoarseClasses machine.now.dfa.now machine.now.outputs.now left.classes.items) }
     ensures stable { IfOk result (λ left. IsTrue left.stable → AreResidualClasses machine.now.dfa.now machine.now.outputs.now left.classes.items) }
 {
-    let states = machine.dfa.states();
     let flat = FlatEdges::new(alloc, machine.dfa)?;
     let mut hashes = StateHashes::new(alloc, machine)?;
+    classes_after_rounds(alloc, machine, &flat, &mut hashes)
+}
+
+// The classes after rounds that go on from hashes.
+fn classes_after_rounds(
+    alloc: Global,
+    machine: &Machine,
+    flat: &FlatEdges,
+    hashes: &mut StateHashes,
+) -> Result<RoundClasses, OutOfMemory>
+    requires outputs { HasOutputs machine.now }
+    requires flat { AreFlat machine.now.dfa.now flat.now }
+    requires hashes { AreCoarseNumbers machine.now.dfa.now machine.now.outputs.now hashes.old.hashes.items }
+    ensures coarse { IfOk result (λ left. AreCoarseClasses machine.now.dfa.now machine.now.outputs.now left.classes.items) }
+    ensures stable { IfOk result (λ left. IsTrue left.stable → AreResidualClasses machine.now.dfa.now machine.now.outputs.now left.classes.items) }
+{
+    let states = machine.dfa.states();
     let mut largest = states;
     for round in 0..binary_digits(states) {
         if is_too_dear(states, round, largest) {
@@ -43,9 +60,9 @@ pub fn classes_by_rounds(alloc: Global, machine: &Machine) -> Result<RoundClasse
         if is_too_dear(states, round, largest) {
             break;
         }
-        if !hashes.advance(alloc, machine, &flat)? {
+        if !hashes.advance(alloc, machine, flat)? {
             let classes = hashes.classes(alloc, machine)?;
-            if is_stable(alloc, machine, &flat, &classes)? {
+            if is_stable(alloc, machine, flat, &classes)? {
                 return Ok(RoundClasses {
                     classes,
                     stable: true,
@@ -54,7 +71,7 @@ pub fn classes_by_rounds(alloc: Global, machine: &Machine) -> Result<RoundClasse
         }
     }
     let classes = hashes.classes(alloc, machine)?;
-    let stable = is_stable(alloc, machine, &flat, &classes)?;
+    let stable = is_stable(alloc, machine, flat, &classes)?;
     Ok(RoundClasses { classes, stable })
 }
 

@@ -5,6 +5,7 @@ ghost use Rattle.digit_tuple.specs.Deterministic.{IsTable, letters_of, states_of
 ghost use Rattle.minimise.specs.Classes.{class_of};
 ghost use Rattle.minimise.specs.CoarseClasses.{AreCoarseClasses, AreResidualClasses};
 ghost use Rattle.minimise.specs.FlatEdges.{AreFlat};
+ghost use Rattle.minimise.specs.Leaders.{AreLeaders};
 ghost use Rattle.minimise.specs.Outputs.{HasOutputs};
 ghost use Rattle.minimise.specs.Refinement.{AreAlike};
 
@@ -29,11 +30,27 @@ pub fn is_stable(
     requires classes { AreCoarseClasses machine.now.dfa.now machine.now.outputs.now classes.now }
     ensures { IfOk result (λ stable. IsTrue stable ↔ AreResidualClasses machine.now.dfa.now machine.now.outputs.now classes.now) }
 {
-    let dfa = machine.dfa;
-    let count = dfa.states() as usize + 1;
-    let leaders = leaders(alloc, classes, count)?;
+    let leaders = leaders(alloc, classes, machine.dfa.states() as usize + 1)?;
     let mut rows = RowPair::new(alloc);
-    for place in 0..count {
+    are_like_leaders(machine, flat, classes, &leaders, &mut rows)
+}
+
+// Whether each state and the sink has the output of the leader of its class and is like that, up to the first that is not.
+fn are_like_leaders(
+    machine: &Machine,
+    flat: &FlatEdges,
+    classes: &[u32],
+    leaders: &[u32],
+    rows: &mut RowPair,
+) -> Result<bool, OutOfMemory>
+    requires outputs { HasOutputs machine.now }
+    requires flat { AreFlat machine.now.dfa.now flat.now }
+    requires classes { AreCoarseClasses machine.now.dfa.now machine.now.outputs.now classes.now }
+    requires leaders { AreLeaders classes.now leaders.now (states_of machine.now.dfa.now + 1) }
+    ensures { IfOk result (λ alike. IsTrue alike ↔ AreResidualClasses machine.now.dfa.now machine.now.outputs.now classes.now) }
+{
+    let dfa = machine.dfa;
+    for place in 0..dfa.states() as usize + 1 {
         let state = place as u32;
         let leader = leaders[classes[place] as usize];
         if machine.output(state) != machine.output(leader) {

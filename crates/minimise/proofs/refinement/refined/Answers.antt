@@ -1,4 +1,4 @@
-use Rattle.std.proofs.Common.{◌≡◌, ℕ, ◌+◌, List, [], ◌∷◌, ◌++◌, length, refl, sym, ap, ◌∙◌, subst, arith}
+use Rattle.std.proofs.Common.{◌≡◌, ℕ, ◌+◌, List, refl, sym, ◌∙◌, subst, arith}
 use Rattle.digit_tuple.specs.Deterministic.{states_of}
 use Rattle.minimise.specs.Refinement.{AreRefined}
 use Rattle.minimise.specs.Signatures.{signature_of}
@@ -18,10 +18,7 @@ pub returns-clause-refined : goal.returns-clause-refined
 returns-clause-refined c =
     let d = c.args.dfa.now in
     let classes = c.args.classes.now in
-    let all : c.loop-state.state ≡ states_of d = omega arith in
-    let sink : c.deref-2.result.now ≡ signature_of d classes (states_of d) = c.deref-2.ensures.value ∙ c.in_ok-write_signature-2.ensures ∙ ap (signature_of d classes) c.states-states.ensures.value in
-    let done = AreNumberedBy-more (signature_of d classes) c.loop-state.signatures c.number_of-2.new.self c.loop-state.numbers.items (states_of d) c.deref-2.result.now c.in_ok-number-2.number
-    (subst (λ (n : ℕ). AreNumberedBy (signature_of d classes) c.loop-state.signatures c.loop-state.numbers.items n) all c.loop-state.invariant) c.in_ok-number-2.ensures.number sink in
-    subst (λ (n : ℕ). AreRefined d classes c.push-2.new.self.items n) (sym c.len.ensures.len)
-    (subst (λ (ns : List ℕ). AreRefined d classes ns (length c.number_of-2.new.self)) (sym c.in_ok-push-2.ensures.items)
-    (AreRefined-done d classes c.number_of-2.new.self (c.loop-state.numbers.items ++ c.in_ok-number-2.number ∷ []) (states_of d + 1) c.states-states.ensures.table refl done))
+    let all : c.loop-state.state ≡ states_of d + 1 = omega (arith, c.requires) in
+    subst (λ (n : ℕ). AreRefined d classes c.loop-state.numbers.items n) (sym c.len.ensures.len)
+    (AreRefined-done d classes c.loop-state.signatures c.loop-state.numbers.items (states_of d + 1) c.states-states.ensures.table refl
+    (subst (λ (n : ℕ). AreNumberedBy (signature_of d classes) c.loop-state.signatures c.loop-state.numbers.items n) all c.loop-state.invariant))

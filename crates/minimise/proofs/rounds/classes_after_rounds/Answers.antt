@@ -3,7 +3,7 @@ use Rattle.std.specs.List.{All}
 use Rattle.std.proofs.lemmas.List.{length-take-le}
 use Rattle.std.proofs.lemmas.List.Elements.{All-take}
 use Rattle.digit_tuple.specs.Deterministic.{states_of}
-use Rattle.minimise.proofs.rounds.classes_by_rounds.Goals as goal
+use Rattle.minimise.proofs.rounds.classes_after_rounds.Goals as goal
 
 -- the first states' classes are below their number
 first_below : (count : ℕ) (classes : List ℕ) → length classes ≡ count + 1 → All (λ class. class ≤ count) classes → All (λ class. class ≤ length (take count classes)) (take count classes)

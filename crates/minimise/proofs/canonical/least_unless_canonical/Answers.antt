@@ -5,25 +5,25 @@ use Rattle.minimise.specs.CoarseClasses.{AreResidualClasses}
 use Rattle.minimise.specs.Leaders.{AreAlone}
 use Rattle.minimise.proofs.BitLemmas.{SameLanguage-bits, IsCanonical-bits}
 use Rattle.minimise.proofs.LeastLemmas.{IsCanonical-alone}
-use Rattle.minimise.proofs.canonical.canonical_of_numbered.Goals as goal
+use Rattle.minimise.proofs.canonical.least_unless_canonical.Goals as goal
 
 pub returns-then-branch-clause-canonical : goal.returns-then-branch-clause-canonical
 returns-then-branch-clause-canonical c =
-    let table : IsTable (letters_of c.args.d) c.args.d.states = c.states-states.ensures.table in
-    let are = subst (λ (os : List ℕ). AreResidualClasses c.args.d os c.in_ok-classes.classes.items) (c.deref.ensures.value ∙ c.in_ok-outputs.ensures) c.in_ok-classes.ensures in
-    IsCanonical-alone c.args.d c.in_ok-classes.classes.items c.requires.0 table c.requires.1 are (subst AreAlone c.deref-2.ensures.value (c.in_ok-are_alone.ensures.0 c.if-branch.true))
+    let table : IsTable (letters_of c.args.d.now) c.args.d.now.states = c.states-states.ensures.table in
+    let are = subst (λ (os : List ℕ). AreResidualClasses c.args.d.now os c.in_ok-classes.classes.items) (c.deref.ensures.value ∙ c.in_ok-outputs.ensures) c.in_ok-classes.ensures in
+    IsCanonical-alone c.args.d.now c.in_ok-classes.classes.items c.requires.0 table c.requires.1 are (subst AreAlone c.deref-2.ensures.value (c.in_ok-are_alone.ensures.0 c.if-branch.true))
 
 pub returns-clause-language : goal.returns-clause-language
 returns-clause-language c =
-    let d = c.args.d in
+    let d = c.args.d.now in
     let least = c.in_ok-least.least in
     let outputs = c.in_ok-least.field-0-1.items in
     let same = subst (λ (os : List ℕ). SameClassFunction d os least outputs) (c.deref.ensures.value ∙ c.in_ok-outputs.ensures) c.in_ok-least.ensures.function in
     SameLanguage-bits d least outputs c.in_ok-least.ensures.sizes same c.in_ok-least.ensures.canonical
 
-pub returns-clause-canonical : goal.returns-clause-canonical
-returns-clause-canonical c =
-    let d = c.args.d in
+pub returns-clause-least : goal.returns-clause-least
+returns-clause-least c =
+    let d = c.args.d.now in
     let least = c.in_ok-least.least in
     let outputs = c.in_ok-least.field-0-1.items in
     let same = subst (λ (os : List ℕ). SameClassFunction d os least outputs) (c.deref.ensures.value ∙ c.in_ok-outputs.ensures) c.in_ok-least.ensures.function in
