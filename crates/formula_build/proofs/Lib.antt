@@ -28,6 +28,7 @@ pub mod ResolvedReady
 pub mod ParsedNames
 pub mod ReadFormulas
 pub mod NameOrderLemmas
+pub mod OrderedLemmas
 pub mod OccurringLemmas
 pub mod SolutionLemmas
 pub mod VariableTrackLemmas

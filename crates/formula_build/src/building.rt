@@ -10,6 +10,7 @@ ghost use Rattle.formula_build.specs.VariableTracks.{IsOverVariables};
 
 use crate::known::Known;
 use crate::library::Library;
+use crate::ordering::in_order;
 use crate::plan_making::make_plans;
 use crate::resolving::Resolved;
 use digit_tuple::step_fault::StepFault;
@@ -46,5 +47,5 @@ pub fn build(
     };
     let plan = &resolved.plan;
     let made = make_plans(alloc, &plan.plans, plan.last, known, steps)?;
-    Ok(made.ordered(alloc)?)
+    Ok(in_order(alloc, made)?)
 }

@@ -25,6 +25,9 @@ mod making;
 /// Plans made, one after another.
 mod plan_making;
 
+/// Relations with their tracks in order.
+mod ordering;
+
 /// What the names of a formula stand over.
 mod names;
 

@@ -28,8 +28,8 @@ returns-clause-solution c =
     let l = library_of r c.args.read.now in
     let library : IsLibrary l = record { relations = c.is_read.ensures.relations; words = c.is_read.ensures.words; systems = c.are_sealed.ensures } in
     let p = c.requires.planned in
-    made_solution l (headers_in r) (formula_of r) library p.formed p.ways p.resolved (omega (arith, p.few)) c.requires.fits c.requires.known c.in_ok-made.made c.in_ok-ordered.field-0
-    (subst (λ (q : Plan). Makes l q c.in_ok-made.made) p.plan.last_is c.in_ok-made.ensures.makes) c.in_ok-ordered.ensures
+    made_solution l (headers_in r) (formula_of r) library p.formed p.ways p.resolved (omega (arith, p.few)) c.requires.fits c.requires.known c.in_ok-made.made c.in_ok-in_order.field-0
+    (subst (λ (q : Plan). Makes l q c.in_ok-made.made) p.plan.last_is c.in_ok-made.ensures.makes) c.in_ok-in_order.ensures
 
 pub returns-clause-tracks : goal.returns-clause-tracks
 returns-clause-tracks c =
@@ -37,6 +37,6 @@ returns-clause-tracks c =
     let l = library_of r c.args.read.now in
     let library : IsLibrary l = record { relations = c.is_read.ensures.relations; words = c.is_read.ensures.words; systems = c.are_sealed.ensures } in
     let p = c.requires.planned in
-    subst (λ (vs : List Variable). IsOverVariables l vs c.in_ok-ordered.field-0) (sym p.variables)
-    (made_tracks l (headers_in r) (formula_of r) library p.formed p.ways p.resolved (omega (arith, p.few)) c.requires.fits c.requires.known c.in_ok-made.made c.in_ok-ordered.field-0
-    (subst (λ (q : Plan). Makes l q c.in_ok-made.made) p.plan.last_is c.in_ok-made.ensures.makes) c.in_ok-ordered.ensures)
+    subst (λ (vs : List Variable). IsOverVariables l vs c.in_ok-in_order.field-0) (sym p.variables)
+    (made_tracks l (headers_in r) (formula_of r) library p.formed p.ways p.resolved (omega (arith, p.few)) c.requires.fits c.requires.known c.in_ok-made.made c.in_ok-in_order.field-0
+    (subst (λ (q : Plan). Makes l q c.in_ok-made.made) p.plan.last_is c.in_ok-made.ensures.makes) c.in_ok-in_order.ensures)
