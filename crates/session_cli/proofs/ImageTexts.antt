@@ -6,7 +6,6 @@ use Rattle.std.specs.Prelude.{FitsSigned}
 use Rattle.wal_outside.specs.Files.{Files}
 use Rattle.command_head.specs.Heads.{ImageHead}
 use Rattle.digit_tuple.specs.Steps.{StepLog}
-use Rattle.digit_tuple.specs.declared.direction.Direction.{Direction}
 use Rattle.digit_tuple.specs.declared.steps.StepLine.{StepLine}
 use Rattle.dfa_loading.specs.Headers.{headers_of}
 use Rattle.formula_build.specs.TrackSystems.{IsWordOverSystems}

@@ -2,7 +2,6 @@
 use Rattle.std.proofs.Common.{◌≡◌, ◌≢◌, ℕ, zero, suc, ◌+◌, ◌<◌, Bool, true, false, if◌then◌else◌, List, [], ◌∷◌, ◌++◌, length, take, get_or, None, Some, inl, inr, refl, sym, ap, ◌∙◌, subst, arith}
 use Rattle.std.specs.List.{AllByRecursion}
 use Rattle.combinations.specs.Parts.{PartValue}
-use Rattle.command_head.specs.Heads.{ValuedName}
 use Rattle.command_head.specs.Values.{value_at}
 use Rattle.command_head.specs.declared.head.ValuedName as valued
 use Rattle.formula_build.specs.Libraries.{NamedRelation, relation_named}

@@ -7,7 +7,6 @@ use Rattle.command_head.specs.Grammar.{SpellsImage}
 use Rattle.command_head.proofs.OneFault.{one_head}
 use Rattle.command_head.proofs.WordHeads.{one_image}
 use Rattle.digit_tuple.specs.Steps.{StepLog}
-use Rattle.digit_tuple.specs.declared.direction.Direction.{Direction}
 use Rattle.digit_tuple.specs.declared.step_fault.StepFault.TheVariants as steps
 use Rattle.digit_tuple.specs.declared.steps.StepLine.{StepLine}
 use Rattle.dfa_loading.specs.Headers.{headers_of}

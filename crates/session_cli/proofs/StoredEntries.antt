@@ -27,32 +27,54 @@ abbrev pub MayStore : Answer → Type 0
 MayStore (Ok success) = Stands success
 MayStore (Err fault) = Unit {0}
 
+-- folders are apart, shown where nothing else is known
+words_no_base : Words ≢ Bases
+words_no_base same = cc
+
+automata_no_base : Automata ≢ Bases
+automata_no_base same = cc
+
+automata_no_word : Automata ≢ Words
+automata_no_word same = cc
+
+results_no_base : Results ≢ Bases
+results_no_base same = cc
+
+results_no_word : Results ≢ Words
+results_no_word same = cc
+
+macros_no_base : Macros ≢ Bases
+macros_no_base same = cc
+
+morphisms_no_base : Morphisms ≢ Bases
+morphisms_no_base same = cc
+
 image_stands : (limit : ℕ) (ledger : Ledger) (text : List ℕ) (success : Success) → (image_checks limit ledger text).answers (Ok success) → Stands success
-image_stands limit ledger text success (head, h, (rules, m, (tables, t, (admitted, a, (one, o, (uniform, u, (track, w, (lines, l, (entry, e, (is, fits)))))))))) = subst Stands (sym is) ((λ same. cc), (λ i. Words))
+image_stands limit ledger text success (head, h, (rules, m, (tables, t, (admitted, a, (one, o, (uniform, u, (track, w, (lines, l, (entry, e, (is, fits)))))))))) = subst Stands (sym is) (words_no_base, (λ i. Words))
 
 reg_stands : (limit : ℕ) (ledger : Ledger) (text : List ℕ) (success : Success) → (reg_checks limit ledger text).answers (Ok success) → Stands success
-reg_stands limit ledger text success (head, h, (admitted, a, (tracks, t, (pattern, p, (lines, l, (is, fits)))))) = subst Stands (sym is) ((λ same. cc), ((λ same. cc), (λ same. cc)))
+reg_stands limit ledger text success (head, h, (admitted, a, (tracks, t, (pattern, p, (lines, l, (is, fits)))))) = subst Stands (sym is) (automata_no_base, (automata_no_word, automata_no_base))
 
 formula_stands : (word : List ℕ) (folder : Folder) (limit : ℕ) (ledger : Ledger) (text : List ℕ) (success : Success) → folder ≢ Words → folder ≢ Bases → (formula_checks word folder limit ledger text).answers (Ok success) → Stands success
 formula_stands word folder limit ledger text success no_word no_base (head, h, (expansion, e, (formula, f, (tables, t, (admitted, a, (resolved, r, (lines, b, (variables, v, (verdict, d, (is, fits)))))))))) = subst Stands (sym is) (no_base, (no_word, no_base))
 
 macro_stands : (ledger : Ledger) (text : List ℕ) (success : Success) → (macro_checks ledger text).answers (Ok success) → Stands success
-macro_stands ledger text success (head, h, (is, fits)) = subst Stands (sym is) ((λ same. cc), tt)
+macro_stands ledger text success (head, h, (is, fits)) = subst Stands (sym is) (macros_no_base, tt)
 
 morphism_stands : (ledger : Ledger) (text : List ℕ) (success : Success) → (morphism_checks ledger text).answers (Ok success) → Stands success
-morphism_stands ledger text success (head, h, (rules, r, (is, fits))) = subst Stands (sym is) ((λ same. cc), tt)
+morphism_stands ledger text success (head, h, (rules, r, (is, fits))) = subst Stands (sym is) (morphisms_no_base, tt)
 
 promote_stands : (limit : ℕ) (ledger : Ledger) (text : List ℕ) (success : Success) → (promote_checks limit ledger text).answers (Ok success) → Stands success
-promote_stands limit ledger text success (head, h, (rules, r, (lines, l, (is, fits)))) = subst Stands (sym is) ((λ same. cc), refl)
+promote_stands limit ledger text success (head, h, (rules, r, (lines, l, (is, fits)))) = subst Stands (sym is) (words_no_base, refl)
 
 combine_stands : (limit : ℕ) (ledger : Ledger) (text : List ℕ) (success : Success) → (combine_checks limit ledger text).answers (Ok success) → Stands success
-combine_stands limit ledger text success (head, h, (tables, t, (admitted, a, (none, p, (one, s, (lines, l, (tracks, u, (is, fits)))))))) = subst Stands (sym is) ((λ same. cc), refl)
+combine_stands limit ledger text success (head, h, (tables, t, (admitted, a, (none, p, (one, s, (lines, l, (tracks, u, (is, fits)))))))) = subst Stands (sym is) (words_no_base, refl)
 
 by_word : (word : CommandWord) (limit : ℕ) (ledger : Ledger) (text : List ℕ) (success : Success) → (checks_by word limit ledger text).answers (Ok success) → Stands success
 by_word words.Reg limit ledger text success is = reg_stands limit ledger text success is
-by_word words.Eval limit ledger text success is = formula_stands (word_text words.Eval) Results limit ledger text success (λ same. cc) (λ same. cc) is
+by_word words.Eval limit ledger text success is = formula_stands (word_text words.Eval) Results limit ledger text success results_no_word results_no_base is
 by_word words.Image limit ledger text success is = image_stands limit ledger text success is
-by_word words.Def limit ledger text success is = formula_stands (word_text words.Def) Automata limit ledger text success (λ same. cc) (λ same. cc) is
+by_word words.Def limit ledger text success is = formula_stands (word_text words.Def) Automata limit ledger text success automata_no_word automata_no_base is
 by_word words.Macro limit ledger text success is = macro_stands ledger text success is
 by_word words.Morphism limit ledger text success is = morphism_stands ledger text success is
 by_word words.Promote limit ledger text success is = promote_stands limit ledger text success is

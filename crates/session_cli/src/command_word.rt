@@ -6,7 +6,7 @@ ghost use Rattle.session_cli.specs.Outcomes.{word_text};
 use command_head::first_word;
 
 /// A command, by its first word.
-#[derive(Clone, Copy, Debug, PartialEq, Eq)]
+#[derive(Clone, Copy)]
 pub(crate) enum CommandWord {
     /// `reg`: an expression over tracks, kept as an automaton.
     Reg,

@@ -9,7 +9,7 @@ use digit_tuple::step_fault::StepFault;
 use morph_words::MorphismKind;
 
 /// Why a word has no image under a morphism.
-#[derive(Clone, Copy, Debug, PartialEq, Eq)]
+#[derive(Clone, Copy)]
 pub(crate) enum ImageFault {
     /// The images of the morphism have not one length of 1 to 40.
     Morphism(MorphismKind),

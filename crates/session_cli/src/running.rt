@@ -29,8 +29,11 @@ pub(crate) fn answer_all<S: Source, K: Sink, T: Store>(
                 let command = Command { text: &text, shown };
                 let answered = answer_command(alloc, session, &command, store, &mut tally);
                 match hand_over(out, line, &answered) {
-                    Ok(()) => {}
-                    Err(fault) => return stop_status(fault),
+                    Ok(()) => drop(answered),
+                    Err(fault) => {
+                        drop(answered);
+                        return stop_status(fault);
+                    }
                 }
             }
             Ok(Cut::End) => return tally.status(),
@@ -58,7 +61,13 @@ fn finish<K: Sink>(out: &mut K, line: u64, fault: Fault, tally: Tally) -> Status
 {
     let mut tally = tally;
     match hand_over_fault(out, line, &fault, &mut tally) {
-        Ok(()) => tally.status(),
-        Err(stop) => stop_status(stop),
+        Ok(()) => {
+            drop(fault);
+            tally.status()
+        }
+        Err(stop) => {
+            drop(fault);
+            stop_status(stop)
+        }
     }
 }

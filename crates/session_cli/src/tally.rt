@@ -5,7 +5,7 @@ use crate::fault::Fault;
 use crate::status::Status;
 
 /// Which kinds of refusals there were so far.
-#[derive(Clone, Copy, Debug)]
+#[derive(Clone, Copy)]
 pub(crate) struct Tally {
     /// Some command was refused.
     pub(crate) refused: bool,

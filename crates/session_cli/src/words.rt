@@ -8,7 +8,7 @@ use itoa::Buffer;
 use std::alloc::{AllocError, Global};
 
 /// Why the words of the command line give no limit.
-#[derive(Clone, Copy, Debug, PartialEq, Eq)]
+#[derive(Clone, Copy)]
 pub(crate) enum WordsFault {
     /// They are none that the program takes.
     Refused,
