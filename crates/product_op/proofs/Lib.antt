@@ -8,6 +8,7 @@ pub mod SinkKeyLemmas
 pub mod LeadingLemmas
 pub mod FoundLetters
 pub mod NextRowLemmas
+pub mod NextTableLemmas
 pub mod RuleLemmas
 pub mod WidthLaws
 pub mod TupleLemmas

@@ -11,7 +11,8 @@ use Rattle.digit_tuple.proofs.DfaLemmas.{target_by-other, target_by-first}
 use Rattle.minimise.specs.Classes.{next_of}
 use Rattle.minimise.proofs.SinkLemmas.{no_edges_past}
 use Rattle.product_op.specs.declared.next_row.NextRow.{NextRow}
-use Rattle.product_op.specs.NextRows.{next_list, IsNextRow}
+use Rattle.product_op.specs.NextRows.{IsNextRow}
+use Rattle.product_op.specs.NextTables.{next_list}
 use Rattle.product_op.specs.Readings.{Reading, reading_at, state_at}
 
 -- one more edge, by another letter

@@ -16,7 +16,7 @@ length-readings readers = length-map readers reading_in
 
 -- the first states of one more
 pub first_key_more : (readers : List Reader) (i : ℕ) (r : Reader) → i < length readers → r ≡ get_or readers i r
-    → first_key (readings_in (take (i + 1) readers)) ≡ first_key (readings_in (take i readers)) ++ first_of r.dfa.now ∷ []
+    → first_key (readings_in (take (i + 1) readers)) ≡ first_key (readings_in (take i readers)) ++ first_of r.table ∷ []
 first_key_more readers i r within is =
     ap (λ rs. first_key (readings_in rs)) (take_more readers i r within ∙ ap (λ x. take i readers ++ x ∷ []) (sym is))
     ∙ ap first_key (map-append reading_in (take i readers) (r ∷ []))
@@ -27,7 +27,7 @@ abbrev pub next_states_to : List Reading → List ℕ → ℕ → ℕ → List �
 next_states_to rs key a count = map (λ i. next_of (reading_at rs i).automaton (state_at key i) (part_read (reading_at rs i) a)) (range_with_len 0 count)
 
 pub next_states_more : (readers : List Reader) (key : List ℕ) (a i : ℕ) (r : Reader) → i < length readers → r ≡ get_or readers i r
-    → next_states_to (readings_in readers) key a (i + 1) ≡ next_states_to (readings_in readers) key a i ++ next_of r.dfa.now (state_at key i) (get_or r.parts a 0) ∷ []
+    → next_states_to (readings_in readers) key a (i + 1) ≡ next_states_to (readings_in readers) key a i ++ next_of r.table (state_at key i) (get_or r.parts a 0) ∷ []
 next_states_more readers key a i r within is =
     map-range_with_len_more (λ j. next_of (reading_at (readings_in readers) j).automaton (state_at key j) (part_read (reading_at (readings_in readers) j) a)) 0 i i (omega arith)
     ∙ ap (λ (x : Reading). next_states_to (readings_in readers) key a i ++ next_of x.automaton (state_at key i) (part_read x a) ∷ []) (reading_at-reader readers i r within is)
@@ -50,7 +50,7 @@ module _ (rs : List Reading) (key : List ℕ) where
   all_true_none i past = at_drop_all all_true (flags_at rs key) i (omega (arith, length-flags, past))
 
 -- one more of the automata in the code
-pub all_true_step : (readers : List Reader) (key : List ℕ) (place : ℕ) (r : Reader) (answer : Bool) → place < length readers → r ≡ get_or readers place r → answer ≡ accepting_of r.dfa.now (state_at key place)
+pub all_true_step : (readers : List Reader) (key : List ℕ) (place : ℕ) (r : Reader) (answer : Bool) → place < length readers → r ≡ get_or readers place r → answer ≡ accepting_of r.table (state_at key place)
     → all_true (drop place (flags_at (readings_in readers) key)) ≡ (answer && all_true (drop (place + 1) (flags_at (readings_in readers) key)))
 all_true_step readers key place r answer within is says =
     all_true_more (readings_in readers) key place (omega (arith, length-readings readers, within))

@@ -9,4 +9,5 @@ pub mod TrackReadings
 pub mod SinkKeys
 pub mod LeadingLetters
 pub mod NextRows
+pub mod NextTables
 pub mod Tuples

@@ -1,18 +1,14 @@
 -- Where the parts of letters lead from states.
-use Rattle.std.specs.Prelude.{◌≡◌, ℕ, ◌<◌, List, length, map, slice_index_or}
-use Rattle.std.specs.List.{range_with_len}
-use Rattle.digit_tuple.specs.Deterministic.{Automaton, letters_of}
-use Rattle.minimise.specs.Classes.{next_of}
+use Rattle.std.specs.Prelude.{◌≡◌, ℕ, ◌<◌, List, length, slice_index_or}
+use Rattle.digit_tuple.specs.Deterministic.{Automaton}
+use Rattle.product_op.specs.NextTables.{next_list}
 use Rattle.product_op.specs.declared.next_row.NextRow.{NextRow}
-use Rattle.product_op.specs.declared.next_row.NextRow.TheVariants.{Listed, Searched}
+use Rattle.product_op.specs.declared.next_row.NextRow.TheVariants.{Kept, Listed, Searched}
 use Rattle.product_op.specs.Readings.{Reading, reading_at, state_at}
-
--- where each letter of the automaton leads from a state
-abbrev pub next_list : Automaton → ℕ → List ℕ
-next_list d state = map (next_of d state) (range_with_len 0 (letters_of d))
 
 -- the row has where each letter of the automaton leads from the state, or leaves it to a search
 abbrev pub IsNextRow : Automaton → ℕ → NextRow → Type 0
+IsNextRow d state (Kept next) = next.now ≡ next_list d state
 IsNextRow d state (Listed next) = next.items ≡ next_list d state
 IsNextRow d state Searched = Unit {0}
 

@@ -18,7 +18,7 @@ pub record Reading : Type 0 where
   pub parts : List ℕ
 
 abbrev pub reading_in : Reader → Reading
-reading_in reader = record { automaton = reader.dfa.now; parts = reader.parts }
+reading_in reader = record { automaton = reader.table; parts = reader.parts }
 
 abbrev pub readings_in : List Reader → List Reading
 readings_in readers = map reading_in readers

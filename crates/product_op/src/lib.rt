@@ -10,6 +10,9 @@ pub mod joint_tracks;
 /// What says whether automata that read side by side accept.
 mod rule;
 
+/// Where letters lead from all states of an automaton, in one table.
+pub mod next_table;
+
 /// Automata that read parts of letters.
 pub mod reader;
 

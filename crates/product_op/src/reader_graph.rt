@@ -19,6 +19,9 @@ use digit_tuple::key_edges::KeyEdges;
 use digit_tuple::key_graph::KeyGraph;
 use std::alloc::Global;
 
+// So many letters are all tried, since to gather those with an edge would take longer.
+const FEW_LETTERS: u32 = 16;
+
 /// Automata that read side by side, the rule by which they accept, and how many letters there are.
 /// A key has a state of each. Where all are sinks and the rule refuses, there is no key.
 #[derive(Clone, Copy)]
@@ -85,8 +88,8 @@ impl SideBySide<'_> {
     }
 
     // Letters in order, such that each other leads to no key: those by whose parts an edge leads on
-    // from some state, or all where these are not fewer, or where there is a key of sinks. The edges
-    // are written over.
+    // from some state, or all where these are not fewer, or where there is a key of sinks or letters are
+    // few. The edges are written over.
     fn leading_letters(
         &self,
         alloc: Global,
@@ -97,6 +100,9 @@ impl SideBySide<'_> {
         requires key { AreStates (readings_in self.now.readers.now) key.now }
         ensures { IfOk result (λ letters. AreLeading self.now.letters (live_key_after self.now.rule (readings_in self.now.readers.now) key.now) letters.items) }
     {
+        if self.letters <= FEW_LETTERS {
+            return numbers_below(alloc, self.letters);
+        }
         if !self.rule.refuses_all_sinks(self.readers.len()) {
             return numbers_below(alloc, self.letters);
         }

@@ -25,7 +25,7 @@ pub fn first_states(alloc: Global, readers: &[Reader<'_>]) -> Result<Vec<u32>, O
 pub fn next_states(
     readers: &[Reader<'_>],
     key: &[u32],
-    rows: &[NextRow],
+    rows: &[NextRow<'_>],
     letter: u32,
     next: &mut [u32],
 )

@@ -1,7 +1,7 @@
 use Rattle.std.proofs.Common.{arith}
 use Rattle.digit_tuple.specs.declared.edges.Edge.{Edge}
 use Rattle.product_op.proofs.NextRowLemmas.{AreWritten-more}
-use Rattle.product_op.proofs.next_row.write_targets.Goals as goal
+use Rattle.product_op.proofs.next_table.write_targets.Goals as goal
 
 pub loop-edge-preserved : goal.loop-edge-preserved
 loop-edge-preserved c =

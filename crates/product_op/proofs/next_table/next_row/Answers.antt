@@ -3,8 +3,8 @@ use Rattle.std.proofs.lemmas.List.{with_items_is}
 use Rattle.digit_tuple.specs.Letters.{product}
 use Rattle.digit_tuple.specs.Deterministic.{letters_of, states_of, edges_of, target_by}
 use Rattle.product_op.proofs.NextRowLemmas.{next_list-written, next_list-sink}
-use Rattle.product_op.proofs.next_row.NextRow.of_state.Goals as goal
-use Rattle.product_op.proofs.next_row.NextRow.of_state.Goals.{then-state-sink+in_ok-edges_into, else-state-sink}
+use Rattle.product_op.proofs.next_table.next_row.Goals as goal
+use Rattle.product_op.proofs.next_table.next_row.Goals.{then-state-sink+in_ok-edges_into, else-state-sink}
 
 pub returns : goal.returns
 returns c =
@@ -12,7 +12,7 @@ returns c =
     let state = c.args.state in
     let old = c.in_ok-next.next.items in
     let sinks : old ≡ replicate (letters_of d) (states_of d) = c.in_ok-next.ensures.items_if_clones_equal (λ y same. same)
-    ∙ ap (λ n. replicate n c.states-sink.result) (c.letters-parts.ensures.value ∙ ap product c.alphabet.ensures.sizes)
+    ∙ ap (λ n. replicate n c.states-sink.result) (c.letters-letters.ensures.value ∙ ap product c.alphabet.ensures.sizes)
     ∙ ap (replicate (letters_of d)) c.states-sink.ensures.value in
     elim c.if-state-sink.branch [
       | then-state-sink+in_ok-edges_into w ↦ ap (λ (v : _). v.items) w.next-is
