@@ -1,14 +1,15 @@
 -- Rows that are kept in blocks: blocks with one more, blocks with the same rows, and the cells of all blocks.
-use Rattle.std.proofs.Common.{◌≡◌, ℕ, ◌+◌, ◌*◌, ◌<◌, ◌≤◌, List, [], ◌∷◌, ◌++◌, map, set, suc, zero, get_or, length, refl, sym, ap, ◌∙◌, subst, append_assoc, arith}
-use Rattle.std.specs.List.{sum_by, AllByRecursion, flat_map}
+use Rattle.std.proofs.Common.{◌≡◌, ℕ, ◌+◌, ◌-◌, ◌*◌, ◌<◌, ◌≤◌, Some, List, [], ◌∷◌, ◌++◌, map, set, take, suc, zero, get_or, length, refl, sym, ap, ◌∙◌, subst, append_assoc, arith}
+use Rattle.std.specs.List.{sum_by, slice_get, AllByRecursion, flat_map}
+use Rattle.std.proofs.lemmas.Option.{get_or_from_slice_get}
 use Rattle.std.proofs.lemmas.Nat.{mul-le}
-use Rattle.std.proofs.Math.Seq.{map-set_same}
-use Rattle.std.proofs.lemmas.List.{map-append, flat_map_more}
+use Rattle.std.proofs.Math.Seq.{get_or-append_seam, map-set_same, set-append_seam}
+use Rattle.std.proofs.lemmas.List.{length-append, map-append, flat_map_more, take_all, take_more}
 use Rattle.std.proofs.lemmas.List.Sums.{sum_by-append, sum_by-cons, sum_by_push}
 use Rattle.digit_tuple.specs.Blocks.{AreBlocks}
 use Rattle.digit_tuple.specs.CellCounts.{cells_of}
 use Rattle.digit_tuple.specs.Decisions.{rows_in, sizes_in, cells_in, IsSound}
-use Rattle.digit_tuple.specs.SparseRows.{deciding, block_rows, AreOver, IsFullOver, AreRowBlocks, HaveSameRows}
+use Rattle.digit_tuple.specs.SparseRows.{deciding, block_rows, AreOver, IsFullOver, AreOpenBlocks, AreRowBlocks, HaveSameRows}
 use Rattle.digit_tuple.specs.declared.edges.Edge.{Edge}
 use Rattle.digit_tuple.specs.declared.decisions.Decisions.{Decisions}
 use Rattle.digit_tuple.proofs.BlockLemmas.{AreBlocks-push, AreBlocks-full, AreBlocks-short, flat_map-same}
@@ -121,3 +122,53 @@ few-block_cells sizes (x ∷ xs) over some =
     let bound = mul-le (length (sizes_in x)) (sum_by length (rows_in x)) (length sizes) (sum_by length (rows_in x)) short (omega arith) in
     let both : length sizes * sum_by length (rows_in x ++ flat_map rows_in xs) ≡ length sizes * (sum_by length (rows_in x) + sum_by length (flat_map rows_in xs)) = ap (λ n. length sizes * n) (sum_by-append length (rows_in x) (flat_map rows_in xs)) in
     omega (arith, few, bound, few-block_cells sizes xs over.1 some, both, sum_by-cons cells_in x xs)
+
+-- full blocks stay so where they keep their rows
+pub HaveSameRows-full : (sizes : List ℕ) (blocks others : List Decisions) → HaveSameRows blocks others → AllByRecursion (IsFullOver sizes) blocks → AllByRecursion (IsFullOver sizes) others
+HaveSameRows-full sizes blocks others same full =
+    to_full sizes others (to_over sizes others same.sound (subst (AllByRecursion (λ tracks. tracks ≡ deciding sizes)) (sym same.tracks) (over-tracks sizes blocks (full-over sizes blocks full))))
+    (same-full others (subst (AllByRecursion (λ rows. length rows ≡ block_rows)) (sym same.rows) (rows-full blocks (full-rows sizes blocks full))))
+  where
+    rows-full : (xs : List Decisions) → AllByRecursion (λ x. length (rows_in x) ≡ block_rows) xs → AllByRecursion (λ rows. length rows ≡ block_rows) (map rows_in xs)
+    rows-full [] each = tt
+    rows-full (x ∷ xs) each = (each.0, rows-full xs each.1)
+
+    same-full : (xs : List Decisions) → AllByRecursion (λ rows. length rows ≡ block_rows) (map rows_in xs) → AllByRecursion (λ x. length (rows_in x) ≡ block_rows) xs
+    same-full [] each = tt
+    same-full (x ∷ xs) each = (each.0, same-full xs each.1)
+
+-- blocks that are not none end with the last one
+pub last_split : (blocks : List Decisions) (at : ℕ) (last : Decisions) → at + 1 ≡ length blocks → last ≡ get_or blocks at last → blocks ≡ take at blocks ++ last ∷ []
+last_split blocks at last end is =
+    sym (take_all (at + 1) blocks (omega (arith, end))) ∙ take_more blocks at last (omega (arith, end)) ∙ ap (λ x. take at blocks ++ x ∷ []) (sym is)
+
+pub last_block : (blocks : List Decisions) (last : Decisions) → Some last ≡ slice_get blocks (length blocks - 1) → blocks ≡ take (length blocks - 1) blocks ++ last ∷ []
+last_block [] last is = absurd (cc)
+last_block (b ∷ blocks) last is =
+    let at = length (b ∷ blocks) - 1 in
+    last_split (b ∷ blocks) at last (omega arith) (sym (get_or_from_slice_get (b ∷ blocks) at last last (sym is)))
+
+module _ (sizes : List ℕ) (blocks : List Decisions) (opened : AreOpenBlocks sizes blocks) (at : ℕ) (end : at + 1 ≡ length blocks) where
+  at_last : at ≡ length opened.before
+  at_last = omega (arith, end, ap length opened.are, length-append opened.before (opened.last ∷ []))
+
+  -- the open block is the last one
+  pub open-last : (d : Decisions) → get_or blocks at d ≡ opened.last
+  open-last d = ap (λ bs. get_or bs at d) opened.are ∙ ap (λ i. get_or (opened.before ++ opened.last ∷ []) i d) at_last ∙ get_or-append_seam opened.before opened.last [] d
+
+  module _ (grown : Decisions) (row : List Edge) (sound : IsSound grown) (tracks : sizes_in grown ≡ sizes_in opened.last) (rows : rows_in grown ≡ rows_in opened.last ++ row ∷ []) where
+    grown_are : set blocks at grown ≡ opened.before ++ grown ∷ []
+    grown_are = ap (λ bs. set bs at grown) opened.are ∙ ap (λ i. set (opened.before ++ opened.last ∷ []) i grown) at_last ∙ set-append_seam opened.before opened.last [] grown
+
+    -- it takes one more row
+    pub open-grown : AreRowBlocks sizes (set blocks at grown)
+    open-grown = subst (AreRowBlocks sizes) (sym grown_are) (AreRowBlocks-push sizes opened.before grown (record {
+      full = opened.full;
+      over = record { sound = sound; tracks = tracks ∙ opened.over.tracks };
+      rows = omega (arith, ap length rows, length-append (rows_in opened.last) (row ∷ []), opened.room);
+    }))
+
+    pub open-rows : flat_map rows_in (set blocks at grown) ≡ flat_map rows_in blocks ++ row ∷ []
+    open-rows =
+        ap (flat_map rows_in) grown_are ∙ rows-pushed opened.before opened.last grown row rows
+        ∙ ap (λ rs. rs ++ row ∷ []) (flat_map_more rows_in [] opened.before opened.last ∙ ap (flat_map rows_in) (sym opened.are))

@@ -1,5 +1,5 @@
 -- Rows of edges by letters of tracks, kept as decisions by these tracks.
-use Rattle.std.specs.Prelude.{◌≡◌, ◌==◌, ℕ, List, [], ◌∷◌, length, map, slice_index_or, if◌then◌else◌}
+use Rattle.std.specs.Prelude.{◌≡◌, ◌==◌, ℕ, ◌<◌, List, [], ◌∷◌, ◌++◌, length, map, slice_index_or, if◌then◌else◌}
 use Rattle.std.specs.List.{AllByRecursion}
 use Rattle.digit_tuple.specs.Blocks.{AreBlocks}
 use Rattle.digit_tuple.specs.Letters.{product}
@@ -42,6 +42,15 @@ pub record IsFullOver (sizes : List ℕ) (block : Decisions) : Type 0 where
 pub record AreRowBlocks (sizes : List ℕ) (blocks : List Decisions) : Type 0 where
   pub over : AllByRecursion (AreOver sizes) blocks
   pub rows : AreBlocks block_rows (map rows_in blocks)
+
+-- the blocks are by the tracks, the last of them has room for one more row, and each other is full
+pub record AreOpenBlocks (sizes : List ℕ) (blocks : List Decisions) : Type 0 where
+  pub before : List Decisions
+  pub last : Decisions
+  pub are : blocks ≡ before ++ last ∷ []
+  pub full : AllByRecursion (IsFullOver sizes) before
+  pub over : AreOver sizes last
+  pub room : length (rows_in last) < block_rows
 
 -- the other blocks are sound, and have the same tracks and the same rows
 pub record HaveSameRows (blocks others : List Decisions) : Type 0 where

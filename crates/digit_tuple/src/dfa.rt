@@ -74,7 +74,7 @@ impl Dfa {
     {
         let mut states = GrowingDfa::new(alloc, dense.alphabet().copy(alloc)?)?;
         for state in 0..dense.states() {
-            states = states.with_state(dense.accepting(state), dense.edges(state))?;
+            states.add_state(dense.accepting(state), dense.edges(state))?;
         }
         Ok(states.finish())
     }

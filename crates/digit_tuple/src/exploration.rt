@@ -114,7 +114,7 @@ pub fn explore_keys<G: KeyGraph>(
         if edges.len() < letters {
             gap = true;
         }
-        states = states.with_state(accepting, &edges)?;
+        states.add_state(accepting, &edges)?;
         if gap && keys.len() == limit as usize {
             return Err(OpFault::States);
         }

@@ -1,6 +1,6 @@
 //! Deterministic automata that grow by whole states.
 
-ghost use Rattle.std.specs.Prelude.{◌≡◌, ℕ, ◌<◌, ◌++◌, ◌∷◌, [], length, IfOk};
+ghost use Rattle.std.specs.Prelude.{◌≡◌, ℕ, ◌<◌, ◌++◌, ◌∷◌, [], length, IfOk, OnOk};
 ghost use Rattle.std.specs.List.{All, AllPairs};
 ghost use Rattle.digit_tuple.specs.Deterministic.{Automaton, IsTable, IsByEarlier, letters_of};
 ghost use Rattle.digit_tuple.specs.DfaRows.{flagged};
@@ -65,18 +65,18 @@ impl GrowingDfa {
         self.flags.len()
     }
 
-    /// The states with one more, of these edges. A refused call gives them up.
-    pub(crate) fn with_state(self, accepting: bool, edges: &[Edge]) -> Result<Self, OutOfMemory>
-        requires in_range { All (λ edge. edge.letter < letters_of self) edges.now }
+    /// Adds a state of these edges. What a refused call leaves is of no use.
+    pub(crate) fn add_state(&mut self, accepting: bool, edges: &[Edge]) -> Result<(), OutOfMemory>
+        requires in_range { All (λ edge. edge.letter < letters_of self.old) edges.now }
         requires ascending { AllPairs IsByEarlier edges.now }
-        ensures { IfOk result (λ states. states ≡ record { sizes = self.sizes; states = self.states ++ (record { accepting = accepting; edges = edges.now }) ∷ [] }) }
+        ensures { OnOk result (self.new ≡ record { sizes = self.old.sizes; states = self.old.states ++ (record { accepting = accepting; edges = edges.now }) ∷ [] }) }
     {
-        let GrowingDfa { mut flags, table } = self;
-        flags.push(accepting)?;
-        Ok(GrowingDfa {
-            flags,
-            table: table.with_row(edges)?,
-        })
+        self.flags.push(accepting)?;
+        if let Err(fault) = self.table.add_row(edges) {
+            self.flags.clear();
+            return Err(fault);
+        }
+        Ok(())
     }
 
     /// The automaton of the states. Where there are many, memory that is not in use is given back.

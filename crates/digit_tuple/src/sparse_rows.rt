@@ -1,12 +1,12 @@
 //! Sparse rows: edges by letters of tracks, of which only those that are there take a place.
 
-ghost use Rattle.std.specs.Prelude.{◌≡◌, ℕ, ◌*◌, ◌%◌, ◌<◌, ◌≤◌, ◌^◌, ◌↔◌, ◌++◌, ◌∷◌, [], length, slice_index_or, sum_by, IfOk, OnOk, IsTrue};
+ghost use Rattle.std.specs.Prelude.{◌≡◌, ℕ, ◌*◌, ◌%◌, ◌<◌, ◌≤◌, ◌^◌, ◌↔◌, ◌++◌, ◌∷◌, [], length, slice_index_or, sum_by, IfOk, OnErr, OnOk, IsTrue};
 ghost use Rattle.std.specs.List.{All, AllByRecursion, AllPairs, flat_map};
 ghost use Rattle.digit_tuple.specs.CellCounts.{cells_of};
 ghost use Rattle.digit_tuple.specs.Decisions.{rows_in, sizes_in, cells_in, IsSound};
 ghost use Rattle.digit_tuple.specs.Deterministic.{IsByEarlier, target_by};
 ghost use Rattle.digit_tuple.specs.Letters.{product, IsAlphabet};
-ghost use Rattle.digit_tuple.specs.SparseRows.{Rows, row_at, deciding, block_rows, AreOver, IsFullOver, AreRowBlocks, HaveSameRows};
+ghost use Rattle.digit_tuple.specs.SparseRows.{Rows, row_at, block_rows, AreOver, IsFullOver, AreOpenBlocks, AreRowBlocks, HaveSameRows};
 
 use crate::alphabet::Alphabet;
 use crate::decisions::Decisions;
@@ -63,31 +63,25 @@ impl SparseRows {
         &self.tracks
     }
 
-    /// The rows with one more behind them, of these edges. A refused call gives them up. A call is also
-    /// refused where there would be 2^64 edges.
-    pub(crate) fn with_row(self, edges: &[Edge]) -> Result<Self, OutOfMemory>
-        requires in_range { All (λ edge. edge.letter < product self.sizes) edges.now }
+    /// Adds a row of these edges. A refused call leaves no rows. A call is also refused where there would be 2^64
+    /// edges.
+    pub(crate) fn add_row(&mut self, edges: &[Edge]) -> Result<(), OutOfMemory>
+        requires in_range { All (λ edge. edge.letter < product self.old.sizes) edges.now }
         requires ascending { AllPairs IsByEarlier edges.now }
-        ensures { IfOk result (λ table. table ≡ record { sizes = self.sizes; rows = self.rows ++ edges.now ∷ [] }) }
+        ensures ok { OnOk result (self.new ≡ record { sizes = self.old.sizes; rows = self.old.rows ++ edges.now ∷ [] }) }
+        ensures err { OnErr result (self.new ≡ record { sizes = self.old.sizes; rows = [] }) }
     {
         // That an alphabet has no more than 65,536 letters.
         let _letters = self.tracks.letters();
-        let SparseRows {
-            tracks,
-            mut blocks,
-            edges: before,
-        } = self;
-        let Some(count) = before.checked_add(edges.len() as u64) else {
-            return Err(OutOfMemory);
-        };
-        let mut block = take_open_block(&tracks, &mut blocks)?;
-        block.add_row(0, edges)?;
-        blocks.push(block)?;
-        Ok(SparseRows {
-            tracks,
-            blocks,
-            edges: count,
-        })
+        let count = self.edges.checked_add(edges.len() as u64);
+        let added = add_to_blocks(&self.tracks, &mut self.blocks, edges);
+        if let (Some(count), Ok(())) = (count, added) {
+            self.edges = count;
+            return Ok(());
+        }
+        self.blocks.clear();
+        self.edges = 0;
+        Err(OutOfMemory)
     }
 
     /// Writes the edges of a row in place of what the buffer held.
@@ -185,26 +179,51 @@ impl SparseRows {
     }
 }
 
-// The block for one more row: the last one, which is taken away, or a new one where that is full or there
-// is none. The blocks that are left are full. What a refused call leaves is of no use.
-fn take_open_block(tracks: &Alphabet, blocks: &mut Vec<Decisions>) -> Result<Decisions, OutOfMemory>
-    requires { AreRowBlocks tracks.now blocks.old.items }
-    ensures over { IfOk result (AreOver tracks.now) }
-    ensures room { IfOk result (λ block. length (rows_in block) < block_rows) }
-    ensures full { OnOk result (AllByRecursion (IsFullOver tracks.now) blocks.new.items) }
-    ensures rows { IfOk result (λ block. flat_map rows_in blocks.new.items ++ rows_in block ≡ flat_map rows_in blocks.old.items) }
+// Adds a row of these edges. What a refused call leaves is of no use.
+fn add_to_blocks(
+    tracks: &Alphabet,
+    blocks: &mut Vec<Decisions>,
+    edges: &[Edge],
+) -> Result<(), OutOfMemory>
+    requires blocks { AreRowBlocks tracks.now blocks.old.items }
+    requires few { product tracks.now ≤ 2 ^ 16 }
+    requires in_range { All (λ edge. edge.letter < product tracks.now) edges.now }
+    requires ascending { AllPairs IsByEarlier edges.now }
+    ensures blocks { OnOk result (AreRowBlocks tracks.now blocks.new.items) }
+    ensures rows { OnOk result (flat_map rows_in blocks.new.items ≡ flat_map rows_in blocks.old.items ++ edges.now ∷ []) }
 {
+    open_block(tracks, blocks)?;
+    let last = blocks.len() - 1;
+    blocks[last].add_row(0, edges)?;
+    Ok(())
+}
+
+// Sees that the last block has room for one more row: adds one where it is full, or where there is none. What a
+// refused call leaves is of no use.
+fn open_block(tracks: &Alphabet, blocks: &mut Vec<Decisions>) -> Result<(), OutOfMemory>
+    requires { AreRowBlocks tracks.now blocks.old.items }
+    ensures opened { OnOk result (AreOpenBlocks tracks.now blocks.new.items) }
+    ensures rows { OnOk result (flat_map rows_in blocks.new.items ≡ flat_map rows_in blocks.old.items) }
+{
+    if has_room(tracks, blocks) {
+        return Ok(());
+    }
+    shrink_last(blocks);
     let alloc = *blocks.allocator();
-    match blocks.pop() {
-        None => no_decisions(alloc, tracks),
-        Some(mut last) => {
-            if last.len() < BLOCK_ROWS {
-                return Ok(last);
-            }
-            last.shrink_to_fit();
-            blocks.push(last)?;
-            no_decisions(alloc, tracks)
-        }
+    blocks.push(no_decisions(alloc, tracks)?)?;
+    Ok(())
+}
+
+// Whether the last block has room for one more row.
+fn has_room(tracks: &Alphabet, blocks: &[Decisions]) -> bool
+    requires { AreRowBlocks tracks.now blocks.now }
+    ensures opened { IsTrue result → AreOpenBlocks tracks.now blocks.now }
+    ensures full { ¬ IsTrue result → AllByRecursion (IsFullOver tracks.now) blocks.now }
+{
+    let _tracks = tracks.tracks();
+    match blocks.last() {
+        Some(last) => last.len() < BLOCK_ROWS,
+        None => false,
     }
 }
 
@@ -226,6 +245,14 @@ fn shrink_blocks(blocks: &mut Vec<Decisions>)
     ensures { HaveSameRows blocks.old.items blocks.new.items }
 {
     blocks.shrink_to_fit();
+    shrink_last(blocks);
+}
+
+// Gives back memory of the last block that is not in use.
+fn shrink_last(blocks: &mut Vec<Decisions>)
+    requires { AllByRecursion IsSound blocks.old.items }
+    ensures { HaveSameRows blocks.old.items blocks.new.items }
+{
     if let Some(last) = blocks.last_mut() {
         last.shrink_to_fit();
     }

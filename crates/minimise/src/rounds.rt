@@ -56,21 +56,33 @@ fn classes_after_rounds(
         if is_too_dear(states, round, largest) {
             let classes = hashes.classes(alloc, machine)?;
             largest = largest_class(alloc, &classes[..states as usize])?;
-        }
-        if is_too_dear(states, round, largest) {
-            break;
+            if is_too_dear(states, round, largest) {
+                return compared(alloc, machine, flat, classes);
+            }
         }
         if !hashes.advance(alloc, machine, flat)? {
-            let classes = hashes.classes(alloc, machine)?;
-            if is_stable(alloc, machine, flat, &classes)? {
-                return Ok(RoundClasses {
-                    classes,
-                    stable: true,
-                });
+            let left = compared(alloc, machine, flat, hashes.classes(alloc, machine)?)?;
+            if left.stable {
+                return Ok(left);
             }
         }
     }
-    let classes = hashes.classes(alloc, machine)?;
+    compared(alloc, machine, flat, hashes.classes(alloc, machine)?)
+}
+
+// The classes, and whether no further round parts them.
+fn compared(
+    alloc: Global,
+    machine: &Machine,
+    flat: &FlatEdges,
+    classes: Vec<u32>,
+) -> Result<RoundClasses, OutOfMemory>
+    requires outputs { HasOutputs machine.now }
+    requires flat { AreFlat machine.now.dfa.now flat.now }
+    requires coarse { AreCoarseClasses machine.now.dfa.now machine.now.outputs.now classes.items }
+    ensures coarse { IfOk result (λ left. AreCoarseClasses machine.now.dfa.now machine.now.outputs.now left.classes.items) }
+    ensures stable { IfOk result (λ left. IsTrue left.stable → AreResidualClasses machine.now.dfa.now machine.now.outputs.now left.classes.items) }
+{
     let stable = is_stable(alloc, machine, flat, &classes)?;
     Ok(RoundClasses { classes, stable })
 }

@@ -71,13 +71,13 @@ returns-in_err-number_edges-clause-states g c h =
     (Overflows-written (g.G.KeyGraph.letters s) (g.G.KeyGraph.after s) c.explore.keys c.number_edges.new.keys (key_at c.explore.keys (length states)) c.key-key.result.now c.edges.new.out (c.args.limit + 1)
     (c.key-key.ensures ∙ ap (key_at c.explore.keys) c.len-in-explore-2.ensures) c.in_ok-edges-2.ensures some)
 
-pub with_state-requires-clause-in_range : goal.with_state-requires-clause-in_range
-with_state-requires-clause-in_range g c =
-    let now = round g (goal.at.with_state-requires-clause-in_range g c).After-deref-in-explore in
+pub add_state-requires-clause-in_range : goal.add_state-requires-clause-in_range
+add_state-requires-clause-in_range g c =
+    let now = round g (goal.at.add_state-requires-clause-in_range g c).After-deref-in-explore in
     subst (λ n. All (λ (edge : Edge). edge.letter < n) c.deref-in-explore.result.now) (c.requires.letters ∙ sym (ap product c.explore.invariant.sizes)) now.in_range
 
-pub with_state-requires-clause-ascending : goal.with_state-requires-clause-ascending
-with_state-requires-clause-ascending g c = (round g (goal.at.with_state-requires-clause-ascending g c).After-deref-in-explore).ascending
+pub add_state-requires-clause-ascending : goal.add_state-requires-clause-ascending
+add_state-requires-clause-ascending g c = (round g (goal.at.add_state-requires-clause-ascending g c).After-deref-in-explore).ascending
 
 pub returns-then-len-limit-clause-states : goal.returns-then-len-limit-clause-states
 returns-then-len-limit-clause-states g c h =
@@ -94,7 +94,7 @@ explore-preserved g c =
     let at = (goal.at.explore-preserved g c).After-deref-in-explore in
     let state = state_in g at in
     let now = round g at in
-    let pushed : c.in_ok-states-2.states.states ≡ states ++ state ∷ [] = ap (λ (d : Automaton). d.states) c.in_ok-states-2.ensures in
+    let pushed : c.add_state.new.self.states ≡ states ++ state ∷ [] = ap (λ (d : Automaton). d.states) c.in_ok-add_state.ensures in
     record {
       few = c.in_ok-number_edges.ensures.few;
       room = λ gap. elim c.else-gap.branch [
@@ -104,7 +104,7 @@ explore-preserved g c =
       valid = All-state_from (g.G.KeyGraph.is_key s) (g.G.KeyGraph.letters s) (g.G.KeyGraph.after s (key_at c.explore.keys (length states))) (g.G.KeyGraph.accepts s (key_at c.explore.keys (length states))) c.explore.keys c.number_edges.new.keys state
           (λ a small. g.met.G.KeyGraph.after_is_key s (key_at c.explore.keys (length states)) a c.requires.graph (c.explore.invariant.valid (length states) [] (omega (arith, c.len-in-explore-2.ensures))) small)
           now.from c.explore.invariant.valid;
-      sizes = ap (λ (d : Automaton). d.sizes) c.in_ok-states-2.ensures ∙ c.explore.invariant.sizes;
+      sizes = ap (λ (d : Automaton). d.sizes) c.in_ok-add_state.ensures ∙ c.explore.invariant.sizes;
       explored = omega (arith, length_push states state, length-are_numbered now.from.key_edges state.edges c.explore.keys c.number_edges.new.keys now.from.numbered, c.len-in-explore-2.ensures, ap length pushed);
       exploring = subst (λ ss. IsExploring (g.G.KeyGraph.letters s) (g.G.KeyGraph.start s) (g.G.KeyGraph.after s) (g.G.KeyGraph.accepts s) c.number_edges.new.keys ss c.if-len-letters.gap) (sym pushed) now.exploring;
     }
