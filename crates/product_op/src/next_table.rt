@@ -34,8 +34,8 @@ impl<'a> Model for NextTable<'a> {
 }
 
 impl<'a> NextTable<'a> {
-    /// The automaton, with where its letters lead if that takes at most 256 KiB, or if at least half of them have
-    /// an edge. Then time and memory follow the states and the letters.
+    /// The automaton, with where its letters lead if that takes at most 256 KiB, or if at least half of them lead
+    /// on: then time and memory follow the states and the letters.
     pub fn new(alloc: Global, dfa: &'a Dfa) -> Result<Self, OutOfMemory>
         ensures { IfOk result (λ table. table ≡ dfa.now) }
     {
@@ -67,7 +67,7 @@ impl<'a> NextTable<'a> {
     }
 }
 
-// Whether it is little memory, or at least half of the letters have an edge.
+// Whether that is little memory, or at least half of the letters lead on.
 fn is_kept(dfa: &Dfa) -> bool {
     let targets = (u64::from(dfa.states()) + 1) * u64::from(dfa.alphabet().letters());
     targets <= FREE_TARGETS || targets / 2 <= dfa.edges()

@@ -41,7 +41,8 @@ use std::rc::Rc;
 /// tracks or more than 65,536 letters, and is looked at first; `States` exactly where the width passes
 /// the limit. The result has at most as many states as the width. Memory may also run out where
 /// 2^32 - 1 states are not enough. Time and memory follow the width and the letters by which some
-/// residual leads to one that is not empty, and the number of all letters once.
+/// residual leads to one that is not empty, or all letters where they are at most 32; the residuals of the
+/// arguments; and the number of all letters once.
 pub fn product(
     alloc: Global,
     a: &Tracked,

@@ -20,7 +20,7 @@ use digit_tuple::key_graph::KeyGraph;
 use std::alloc::Global;
 
 // So many letters are all tried, since to gather those with an edge would take longer.
-const FEW_LETTERS: u32 = 16;
+const FEW_LETTERS: u32 = 32;
 
 /// Automata that read side by side, the rule by which they accept, and how many letters there are.
 /// A key has a state of each. Where all are sinks and the rule refuses, there is no key.

@@ -27,7 +27,7 @@ use std::alloc::Global;
 /// whether each reader accepts its part. The width is the number of tuples of residuals that words
 /// lead to, the empty residual counted too. `States` comes exactly where it passes the limit, and
 /// `Letters` never. Time and memory follow the tuples and the letters by which some residual of a
-/// tuple leads to one that is not empty.
+/// tuple leads to one that is not empty, or all letters where they are at most 32.
 pub fn tracked_side_by_side(
     alloc: Global,
     alphabet: Alphabet,

@@ -28,7 +28,7 @@ use std::alloc::Global;
 /// numbered in the order of the first words that lead to them, and what accepts is not said. The width is
 /// the number of tuples that words lead to, that of sinks counted too. `States` comes exactly where it
 /// passes the limit, and `Letters` never. Time and memory follow the tuples and the letters by which some
-/// state of a tuple leads on.
+/// state of a tuple leads on, or all letters where they are at most 32.
 pub fn explore_tuples(
     alloc: Global,
     alphabet: Alphabet,
