@@ -1,8 +1,9 @@
 -- Blocks of elements: where an element stands in them, and blocks with one more.
-use Rattle.std.proofs.Common.{◌≡◌, ℕ, suc, zero, ◌+◌, ◌*◌, ◌/◌, ◌%◌, ◌<◌, ◌≤◌, List, [], ◌∷◌, ◌++◌, map, length, get_or, sym, ap, ◌∙◌, subst, length-append, arith}
-use Rattle.std.specs.List.{AllByRecursion, flat_map}
+use Rattle.std.proofs.Common.{◌≡◌, ℕ, suc, zero, ◌+◌, ◌-◌, ◌*◌, ◌/◌, ◌%◌, ◌<◌, ◌≤◌, Some, List, [], ◌∷◌, ◌++◌, map, take, length, get_or, sym, ap, ◌∙◌, subst, length-append, arith}
+use Rattle.std.specs.List.{AllByRecursion, flat_map, slice_get}
 use Rattle.std.proofs.lemmas.Nat.{div-add-mod', mod_below}
-use Rattle.std.proofs.lemmas.List.{get_or_append_left, get_or-append-add}
+use Rattle.std.proofs.lemmas.List.{get_or_append_left, get_or-append-add, take_all, take_more}
+use Rattle.std.proofs.lemmas.Option.{get_or_from_slice_get}
 use Rattle.std.proofs.lemmas.List.Folds.{flat_map-map}
 use Rattle.digit_tuple.specs.Blocks.{AreBlocks}
 
@@ -62,3 +63,14 @@ AreBlocks-short f (y ∷ (z ∷ zs)) size x are = AreBlocks-short f (z ∷ zs) s
 -- blocks with the same elements have the same elements in all
 pub flat_map-same : {X A : Type 0} (f : X → List A) (xs ys : List X) → map f xs ≡ map f ys → flat_map f xs ≡ flat_map f ys
 flat_map-same f xs ys same = sym (flat_map-map (λ (block : List _). block) f xs) ∙ ap (flat_map (λ (block : List _). block)) same ∙ flat_map-map (λ (block : List _). block) f ys
+
+-- a list that is not empty ends with its last element
+last_split : {X : Type 0} (xs : List X) (at : ℕ) (last : X) → at + 1 ≡ length xs → last ≡ get_or xs at last → xs ≡ take at xs ++ last ∷ []
+last_split xs at last end is =
+    sym (take_all (at + 1) xs (omega (arith, end))) ∙ take_more xs at last (omega (arith, end)) ∙ ap (λ x. take at xs ++ x ∷ []) (sym is)
+
+pub last-element : {X : Type 0} (xs : List X) (last : X) → Some last ≡ slice_get xs (length xs - 1) → xs ≡ take (length xs - 1) xs ++ last ∷ []
+last-element [] last is = absurd (cc)
+last-element (x ∷ xs) last is =
+    let at = length (x ∷ xs) - 1 in
+    last_split (x ∷ xs) at last (omega arith) (sym (get_or_from_slice_get (x ∷ xs) at last last (sym is)))

@@ -1,7 +1,7 @@
 -- The digits that are kept are the cells of the rows.
 use Rattle.std.proofs.Common.{◌≡◌, ◌≢◌, ◌==◌, ℕ, suc, zero, ◌+◌, ◌*◌, ◌/◌, ◌%◌, ◌<◌, ◌≤◌, ◌⊎◌, inl, inr, Bool, true, false, List, [], ◌∷◌, ◌++◌, map, take, drop, length, refl, sym, ap, ◌∙◌, subst, if◌then◌else◌, length-take, length-drop, arith}
 use Rattle.std.specs.List.{sum_by, range_with_len, All, AllPairs, AllByRecursion}
-use Rattle.std.proofs.lemmas.Bool.{cases_eq}
+use Rattle.std.proofs.lemmas.Bool.{cases_eq, cases_lt}
 use Rattle.std.proofs.lemmas.Bool.Decides.{eqb_tells, Decides-eqb}
 use Rattle.std.proofs.lemmas.Nat.{div-mul-add, mod-mul-add}
 use Rattle.std.proofs.lemmas.List.{append-nil}
@@ -10,13 +10,13 @@ use Rattle.digit_tuple.specs.Letters.{product}
 use Rattle.digit_tuple.specs.Reversed.{edge_to}
 use Rattle.digit_tuple.specs.CellCounts.{edges_behind, one_if_any, cells_of}
 use Rattle.digit_tuple.specs.Decisions.{behind, joined, joined_rows, only_edge, rows_in, sizes_in, cells_in, AreDigitsBelow, HasEdge, IsSound}
-use Rattle.digit_tuple.specs.SparseRows.{some_track, deciding}
+use Rattle.digit_tuple.specs.SparseRows.{DecideRows}
 use Rattle.digit_tuple.specs.declared.edges.Edge.{Edge}
 use Rattle.digit_tuple.specs.declared.decisions.Decisions.{Decisions}
 use Rattle.digit_tuple.specs.declared.decisions.Decisions.TheVariants.{Targets, OnTrack'}
 use Rattle.digit_tuple.proofs.JoinedReads.{AreBelow, all_take, all_drop}
 use Rattle.digit_tuple.proofs.DecisionReads.{letters-below}
-use Rattle.digit_tuple.proofs.SparseRowLemmas.{deciding-product}
+use Rattle.digit_tuple.proofs.SparseRowLemmas.{decide-product}
 
 -- sums over numbers behind the one at which the terms differ
 sum-same : (f g : ℕ → ℕ) (from n d : ℕ) → d < from → ((x : ℕ) → d ≢ x → f x ≡ g x) → sum_by f (range_with_len from n) ≡ sum_by g (range_with_len from n)
@@ -27,7 +27,7 @@ sum-same f g from (suc n) d past same =
     omega (arith, here, rest, sum_by-cons f from (range_with_len (from + 1) n), sum_by-cons g from (range_with_len (from + 1) n))
 
 -- sums over numbers of which one has a larger term
-sum-larger : (f g : ℕ → ℕ) (from n d more : ℕ) → from ≤ d → d < from + n → f d ≡ more + g d → ((x : ℕ) → d ≢ x → f x ≡ g x) → sum_by f (range_with_len from n) ≡ more + sum_by g (range_with_len from n)
+pub sum-larger : (f g : ℕ → ℕ) (from n d more : ℕ) → from ≤ d → d < from + n → f d ≡ more + g d → ((x : ℕ) → d ≢ x → f x ≡ g x) → sum_by f (range_with_len from n) ≡ more + sum_by g (range_with_len from n)
 sum-larger f g from zero d more low high larger same = absurd (omega arith)
 sum-larger f g from (suc n) d more low high larger same = by (cases_eq d from) (λ above. sum-larger f g (from + 1) n d more above (omega (arith, high)) larger same)
   where
@@ -46,11 +46,11 @@ sum-larger f g from (suc n) d more low high larger same = by (cases_eq d from) (
         omega (arith, whole, other, rest, same from differ)
 
 -- behind a digit an edge by a letter that begins with it is by the rest of the letter
-behind-first : (w x : ℕ) (e : Edge) (es : List Edge) → e.letter / w ≡ x → edges_behind w x (e ∷ es) ≡ edge_to (e.letter % w) e.target ∷ edges_behind w x es
+pub behind-first : (w x : ℕ) (e : Edge) (es : List Edge) → e.letter / w ≡ x → edges_behind w x (e ∷ es) ≡ edge_to (e.letter % w) e.target ∷ edges_behind w x es
 behind-first w x e es same = ap (λ (b : Bool). if b then edge_to (e.letter % w) e.target ∷ edges_behind w x es else edges_behind w x es) ((Decides-eqb (e.letter / w) x).1 same)
 
 -- and one by another letter is not there
-behind-other : (w x : ℕ) (e : Edge) (es : List Edge) → e.letter / w ≢ x → edges_behind w x (e ∷ es) ≡ edges_behind w x es
+pub behind-other : (w x : ℕ) (e : Edge) (es : List Edge) → e.letter / w ≢ x → edges_behind w x (e ∷ es) ≡ edges_behind w x es
 behind-other w x e es differ = by (eqb_tells (e.letter / w) x)
   where
     by : (((e.letter / w == x) ≡ true) × (e.letter / w ≡ x)) ⊎ (((e.letter / w == x) ≡ false) × (e.letter / w ≢ x)) → edges_behind w x (e ∷ es) ≡ edges_behind w x es
@@ -90,10 +90,10 @@ behind-none w x (d ∷ ds) (r ∷ rows) below other =
     ∙ behind-none w x ds rows below.1 (λ k z within. other (suc k) z (omega arith))
 
 -- what a digit counts for, where these edges are behind it
-abbrev cells_at : List ℕ → List Edge → ℕ
+abbrev pub cells_at : List ℕ → List Edge → ℕ
 cells_at sizes edges = one_if_any edges + cells_of sizes edges
 
-sum-zero : (xs : List ℕ) → sum_by (λ x. 0) xs ≡ 0
+pub sum-zero : (xs : List ℕ) → sum_by (λ x. 0) xs ≡ 0
 sum-zero [] = refl
 sum-zero (x ∷ xs) = omega (arith, sum-zero xs, sum_by-cons (λ (y : ℕ). 0) x xs)
 
@@ -112,7 +112,7 @@ cells_at-some sizes [] some = absurd (omega arith)
 cells_at-some sizes (e ∷ row) some = refl
 
 -- a digit more, which is not among the others: one cell more, and those of its row
-cells-digit : (size : ℕ) (sizes : List ℕ) (d : ℕ) (row es : List Edge) → d < size → AreBelow (product sizes) row → HasEdge row → edges_behind (product sizes) d es ≡ []
+pub cells-digit : (size : ℕ) (sizes : List ℕ) (d : ℕ) (row es : List Edge) → d < size → AreBelow (product sizes) row → HasEdge row → edges_behind (product sizes) d es ≡ []
     → cells_of (size ∷ sizes) (map (behind (d * product sizes)) row ++ es) ≡ (1 + cells_of sizes row) + cells_of (size ∷ sizes) es
 cells-digit size sizes d row es small below filled none =
     sum-larger (λ x. cells_at sizes (edges_behind w x (map (behind (d * w)) row ++ es))) (λ x. cells_at sizes (edges_behind w x es)) 0 size d (1 + cells_of sizes row)
@@ -186,22 +186,35 @@ cells-no_letter sizes [] below = refl
 cells-no_letter sizes ([] ∷ rows) below = omega (arith, cells_of-none sizes, cells-no_letter sizes rows below.1, sum_by-cons (cells_of sizes) [] rows)
 cells-no_letter sizes ((e ∷ row) ∷ rows) below = absurd (omega (arith, below.0.0))
 
--- the cells by the tracks that decide are those by all tracks, where there is one
-pub cells-deciding : (sizes : List ℕ) (d : Decisions) → IsSound d → sizes_in d ≡ deciding sizes → 0 < length sizes → cells_in d ≡ sum_by (cells_of sizes) (rows_in d)
-cells-deciding [] d sound over some = absurd (omega arith)
-cells-deciding (size ∷ sizes) d sound over some = by (eqb_tells (product (size ∷ sizes)) 0)
+-- the digits that are kept are the cells by all tracks, unless whole letters of several tracks decide
+pub cells-tracks : (sizes : List ℕ) (d : Decisions) → IsSound d → DecideRows sizes (sizes_in d) → 0 < length sizes → ¬ ((1 < length sizes) × (0 < product sizes) × (length (sizes_in d) ≡ 1))
+    → cells_in d ≡ sum_by (cells_of sizes) (rows_in d)
+cells-tracks sizes d sound decide some parted = by decide
   where
     kept : cells_in d ≡ sum_by (cells_of (sizes_in d)) (rows_in d)
     kept = cells-kept d sound
 
-    by : (((product (size ∷ sizes) == 0) ≡ true) × (product (size ∷ sizes) ≡ 0)) ⊎ (((product (size ∷ sizes) == 0) ≡ false) × (product (size ∷ sizes) ≢ 0)) → cells_in d ≡ sum_by (cells_of (size ∷ sizes)) (rows_in d)
-    by (inl none) =
-        let letters : product (sizes_in d) ≡ 0 = ap product over ∙ deciding-product (size ∷ sizes) ∙ none.1 in
-        let below : AllByRecursion (AreBelow 0) (rows_in d) = subst (λ n. AllByRecursion (AreBelow n) (rows_in d)) letters (letters-below d sound) in
-        kept ∙ cells-no_letter (sizes_in d) (rows_in d) below ∙ sym (cells-no_letter (size ∷ sizes) (rows_in d) below)
-    by (inr letters) =
-        let tracks : sizes_in d ≡ size ∷ sizes = over ∙ ap (λ (b : Bool). if b then 0 ∷ [] else some_track (size ∷ sizes)) letters.0 in
-        kept ∙ ap (λ ss. sum_by (cells_of ss) (rows_in d)) tracks
+    none : product sizes ≡ 0 → cells_in d ≡ sum_by (cells_of sizes) (rows_in d)
+    none letters =
+        let below : AllByRecursion (AreBelow 0) (rows_in d) = subst (λ n. AllByRecursion (AreBelow n) (rows_in d)) (decide-product sizes (sizes_in d) decide ∙ letters) (letters-below d sound) in
+        kept ∙ cells-no_letter (sizes_in d) (rows_in d) below ∙ sym (cells-no_letter sizes (rows_in d) below)
+
+    one : (ss : List ℕ) → length ss ≡ 1 → product ss ∷ [] ≡ ss
+    one [] length_is = absurd (omega (arith, length_is))
+    one (s ∷ []) length_is = let letters : product (s ∷ []) ≡ s = omega arith in ap (λ n. n ∷ []) letters
+    one (s ∷ (t ∷ ss)) length_is = absurd (omega (arith, length_is))
+
+    same : sizes_in d ≡ sizes → cells_in d ≡ sum_by (cells_of sizes) (rows_in d)
+    same tracks = kept ∙ ap (λ ss. sum_by (cells_of ss) (rows_in d)) tracks
+
+    by : DecideRows sizes (sizes_in d) → cells_in d ≡ sum_by (cells_of sizes) (rows_in d)
+    by (inl tracks) = same tracks.0
+    by (inr whole) = few (cases_lt 1 (length sizes)) (cases_lt 0 (product sizes))
+      where
+        few : (1 < length sizes) ⊎ (length sizes ≤ 1) → (0 < product sizes) ⊎ (product sizes ≤ 0) → cells_in d ≡ sum_by (cells_of sizes) (rows_in d)
+        few (inr short) letters = same (whole ∙ one sizes (omega (arith, short, some)))
+        few (inl long) (inr letters) = none (omega (arith, letters))
+        few (inl long) (inl letters) = absurd (parted (long, letters, ap length whole))
 
 -- where there is no track there is no cell
 pub cells-trackless : (sizes : List ℕ) (rows : List (List Edge)) → length sizes ≡ 0 → sum_by (cells_of sizes) rows ≡ 0

@@ -1,18 +1,18 @@
--- What rows that are kept as decisions tell: their letters are in range, and they have few digits.
+-- What rows that are kept as decisions tell: their letters are in range, and on one track they are its digits.
 use Rattle.std.proofs.Common.{◌≡◌, ◌≢◌, ℕ, suc, zero, ◌+◌, ◌*◌, ◌<◌, ◌≤◌, ◌⊎◌, inl, inr, List, [], ◌∷◌, ◌++◌, map, take, drop, length, get_or, refl, sym, ap, ◌∙◌, subst, add-one, length-drop, Box, Global, arith}
 use Rattle.std.specs.List.{sum_by, All, AllPairs, AllByRecursion}
 use Rattle.std.proofs.lemmas.Bool.{cases_lt, cases_order}
 use Rattle.std.proofs.lemmas.Nat.{mul-le}
-use Rattle.std.proofs.lemmas.List.{get_or_default, get_or-drop, map-append}
+use Rattle.std.proofs.lemmas.List.{drop-map, get_or_default, get_or-drop, map-append}
 use Rattle.std.proofs.lemmas.List.Sums.{sum_by-cons}
 use Rattle.digit_tuple.specs.Letters.{product}
-use Rattle.digit_tuple.specs.Decisions.{only_edge, behind, joined, joined_rows, rows_in, sizes_in, cells_in, AreDigitsBelow, HasEdge, IsTrack, IsSound}
+use Rattle.digit_tuple.specs.Decisions.{only_edge, behind, joined, joined_rows, rows_in, sizes_in, letters_in, AreDigitsBelow, HasEdge, IsTrack, IsSound}
 use Rattle.digit_tuple.specs.declared.edges.Edge.{Edge}
 use Rattle.digit_tuple.specs.declared.decisions.Track.{Track}
 use Rattle.digit_tuple.specs.declared.decisions.Decisions.{Decisions}
 use Rattle.digit_tuple.specs.declared.decisions.Decisions.TheVariants.{Targets, OnTrack'}
 use Rattle.digit_tuple.proofs.JoinedRows.{length-joined_rows}
-use Rattle.digit_tuple.proofs.JoinedReads.{AreBelow, AreBelow-rows, sum-joined_rows, rows-le-edges, places_within, joined_rows-at, joined_more, map-behind, all_at, all_drop}
+use Rattle.digit_tuple.proofs.JoinedReads.{AreBelow, AreBelow-rows, places_within, joined_rows-at, joined_more, map-behind, all_at, all_drop, joined-take}
 
 only_edges-below : (targets : List ℕ) → AllByRecursion (AreBelow 1) (map only_edge targets)
 only_edges-below [] = tt
@@ -29,16 +29,6 @@ letters-below (OnTrack' track p below) sound =
     let rest = letters-below below sound.1 in
     subst (λ w. AllByRecursion (AreBelow (track.size * product (sizes_in below))) (joined_rows w track.digits (rows_in below))) (sym sound.0.weight)
     (AreBelow-rows track.size (product (sizes_in below)) track.digits (rows_in below) (small-digits track.size track.digits sound.0.digits) rest)
-
--- on each track there are at most as many digits as edges
-pub few-cells : (d : Decisions) → IsSound d → cells_in d ≤ length (sizes_in d) * sum_by length (rows_in d)
-few-cells (Targets targets) sound = omega arith
-few-cells (OnTrack' track p below) sound =
-    let rest = few-cells below sound.1 in
-    let same = sum-joined_rows track.weight track.digits (rows_in below) sound.0.count in
-    let few = rows-le-edges (rows_in below) sound.0.filled in
-    let edges : length (sizes_in below) * sum_by length (rows_in below) ≡ length (sizes_in below) * sum_by length (joined_rows track.weight track.digits (rows_in below)) = ap (λ n. length (sizes_in below) * n) (sym same) in
-    omega (arith, rest, same, few, edges, sound.0.count)
 
 -- the digits of a row
 abbrev pub digits_at : Track → ℕ → List ℕ
@@ -149,3 +139,18 @@ behind-fits base size w letters digit same less whole =
     let more = mul-le (suc digit) w size w (omega (arith, less)) (omega arith) in
     let scaled : size * letters ≡ size * w = ap (λ n. size * n) (sym same) in
     omega (arith, more, whole, scaled, same)
+
+-- on one track the letters of a row are its digits
+letters-joined : (ds targets : List ℕ) → length ds ≤ length targets → letters_in (joined 1 ds (map only_edge targets)) ≡ ds
+letters-joined [] targets fits = refl
+letters-joined (d ∷ ds) [] fits = absurd (omega arith)
+letters-joined (d ∷ ds) (t ∷ targets) fits = let same : d * 1 + 0 ≡ d = omega arith in ap (λ n. n ∷ letters_in (joined 1 ds (map only_edge targets))) same ∙ ap (λ ns. d ∷ ns) (letters-joined ds targets (omega arith))
+
+pub letters-one_track : (xs : List (List ℕ)) (targets : List ℕ) → sum_by length xs ≡ length targets → map letters_in (joined_rows 1 xs (map only_edge targets)) ≡ xs
+letters-one_track [] targets same = refl
+letters-one_track (x ∷ xs) targets same =
+    let total = sum_by-cons length x xs in
+    ap (λ (es : List Edge). letters_in es ∷ map letters_in (joined_rows 1 xs (drop (length x) (map only_edge targets)))) (joined-take 1 x (map only_edge targets))
+    ∙ ap (λ (ns : List ℕ). ns ∷ map letters_in (joined_rows 1 xs (drop (length x) (map only_edge targets)))) (letters-joined x targets (omega (arith, total, same)))
+    ∙ ap (λ (rows : List (List Edge)). x ∷ map letters_in (joined_rows 1 xs rows)) (drop-map only_edge (length x) targets)
+    ∙ ap (λ (ns : List (List ℕ)). x ∷ ns) (letters-one_track xs (drop (length x) targets) (omega (arith, total, same, length-drop (length x) targets)))

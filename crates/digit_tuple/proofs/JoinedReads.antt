@@ -12,7 +12,7 @@ use Rattle.digit_tuple.specs.declared.edges.Edge.{Edge}
 use Rattle.digit_tuple.proofs.DfaLemmas.{target_by-first, target_by-other}
 
 -- each digit has the row at its place
-joined-take : (w : ℕ) (ds : List ℕ) (rows : List (List Edge)) → joined w ds (take (length ds) rows) ≡ joined w ds rows
+pub joined-take : (w : ℕ) (ds : List ℕ) (rows : List (List Edge)) → joined w ds (take (length ds) rows) ≡ joined w ds rows
 joined-take w [] rows = refl
 joined-take w (d ∷ ds) [] = refl
 joined-take w (d ∷ ds) (r ∷ rows) = ap (λ es. map (behind (d * w)) r ++ es) (joined-take w ds rows)

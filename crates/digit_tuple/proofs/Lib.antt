@@ -55,5 +55,8 @@ pub mod RowGrowthLemmas
 pub mod BlockLemmas
 pub mod SparseRowLemmas
 pub mod CellLemmas
+pub mod AscendingRows
+pub mod LetterCellLemmas
+pub mod BlockCellLemmas
 pub mod RowBlockLemmas
 pub mod SameRows

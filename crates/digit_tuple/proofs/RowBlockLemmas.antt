@@ -1,22 +1,16 @@
 -- Rows that are kept in blocks: blocks with one more, blocks with the same rows, and the cells of all blocks.
-use Rattle.std.proofs.Common.{◌≡◌, ℕ, ◌+◌, ◌-◌, ◌*◌, ◌<◌, ◌≤◌, Some, List, [], ◌∷◌, ◌++◌, map, set, take, suc, zero, get_or, length, refl, sym, ap, ◌∙◌, subst, append_assoc, arith}
-use Rattle.std.specs.List.{sum_by, slice_get, AllByRecursion, flat_map}
+use Rattle.std.proofs.Common.{◌≡◌, ℕ, ◌+◌, ◌-◌, ◌≤◌, Some, List, [], ◌∷◌, ◌++◌, map, set, take, suc, zero, get_or, length, sym, ap, ◌∙◌, subst, append_assoc, arith}
+use Rattle.std.specs.List.{slice_get, AllByRecursion, flat_map}
 use Rattle.std.proofs.lemmas.Option.{get_or_from_slice_get}
-use Rattle.std.proofs.lemmas.Nat.{mul-le}
 use Rattle.std.proofs.Math.Seq.{get_or-append_seam, map-set_same, set-append_seam}
 use Rattle.std.proofs.lemmas.List.{length-append, map-append, flat_map_more, take_all, take_more}
-use Rattle.std.proofs.lemmas.List.Sums.{sum_by-append, sum_by-cons, sum_by_push}
 use Rattle.digit_tuple.specs.Blocks.{AreBlocks}
-use Rattle.digit_tuple.specs.CellCounts.{cells_of}
-use Rattle.digit_tuple.specs.Decisions.{rows_in, sizes_in, cells_in, IsSound}
-use Rattle.digit_tuple.specs.SparseRows.{deciding, block_rows, AreOver, IsFullOver, AreOpenBlocks, AreRowBlocks, HaveSameRows}
+use Rattle.digit_tuple.specs.Decisions.{rows_in, sizes_in, IsSound}
+use Rattle.digit_tuple.specs.SparseRows.{DecideRows, block_rows, AreOver, IsFullOver, AreOpenBlocks, AreRowBlocks, HaveSameRows}
 use Rattle.digit_tuple.specs.declared.edges.Edge.{Edge}
 use Rattle.digit_tuple.specs.declared.decisions.Decisions.{Decisions}
 use Rattle.digit_tuple.proofs.BlockLemmas.{AreBlocks-push, AreBlocks-full, AreBlocks-short, flat_map-same}
-use Rattle.digit_tuple.proofs.CellLemmas.{cells-deciding}
 use Rattle.digit_tuple.proofs.DecisionLemmas.{all_push}
-use Rattle.digit_tuple.proofs.DecisionReads.{few-cells}
-use Rattle.digit_tuple.proofs.SparseRowLemmas.{deciding-few}
 
 all_before : {A : Type 0} (P : A → Type 0) (xs : List A) (x : A) → AllByRecursion P (xs ++ x ∷ []) → AllByRecursion P xs
 all_before P [] x all = tt
@@ -64,18 +58,18 @@ pub all_sound : (sizes : List ℕ) (xs : List Decisions) → AllByRecursion (Are
 all_sound sizes [] over = tt
 all_sound sizes (x ∷ xs) over = (over.0.sound, all_sound sizes xs over.1)
 
-over-tracks : (sizes : List ℕ) (xs : List Decisions) → AllByRecursion (AreOver sizes) xs → AllByRecursion (λ tracks. tracks ≡ deciding sizes) (map sizes_in xs)
+over-tracks : (sizes : List ℕ) (xs : List Decisions) → AllByRecursion (AreOver sizes) xs → AllByRecursion (DecideRows sizes) (map sizes_in xs)
 over-tracks sizes [] over = tt
 over-tracks sizes (x ∷ xs) over = (over.0.tracks, over-tracks sizes xs over.1)
 
-to_over : (sizes : List ℕ) (xs : List Decisions) → AllByRecursion IsSound xs → AllByRecursion (λ tracks. tracks ≡ deciding sizes) (map sizes_in xs) → AllByRecursion (AreOver sizes) xs
+to_over : (sizes : List ℕ) (xs : List Decisions) → AllByRecursion IsSound xs → AllByRecursion (DecideRows sizes) (map sizes_in xs) → AllByRecursion (AreOver sizes) xs
 to_over sizes [] sound tracks = tt
 to_over sizes (x ∷ xs) sound tracks = (record { sound = sound.0; tracks = tracks.0 }, to_over sizes xs sound.1 tracks.1)
 
 -- blocks with the same rows are blocks by the same tracks
 pub HaveSameRows-blocks : (sizes : List ℕ) (blocks others : List Decisions) → HaveSameRows blocks others → AreRowBlocks sizes blocks → AreRowBlocks sizes others
 HaveSameRows-blocks sizes blocks others same are = record {
-  over = to_over sizes others same.sound (subst (AllByRecursion (λ tracks. tracks ≡ deciding sizes)) (sym same.tracks) (over-tracks sizes blocks are.over));
+  over = to_over sizes others same.sound (subst (AllByRecursion (DecideRows sizes)) (sym same.tracks) (over-tracks sizes blocks are.over));
   rows = subst (AreBlocks block_rows) (sym same.rows) are.rows;
 }
 
@@ -94,6 +88,16 @@ all_set P [] i y all here = tt
 all_set P (x ∷ xs) zero y all here = (here, all.1)
 all_set P (x ∷ xs) (suc i) y all here = (all.0, all_set P xs i y all.1 here)
 
+-- a block that is changed for one with the same rows
+pub AreRowBlocks-set : (sizes : List ℕ) (xs : List Decisions) (i : ℕ) (x y : Decisions) → AreRowBlocks sizes xs → x ≡ get_or xs i x → AreOver sizes y → rows_in y ≡ rows_in x → AreRowBlocks sizes (set xs i y)
+AreRowBlocks-set sizes xs i x y are there over rows = record {
+  over = all_set (AreOver sizes) xs i y are.over over;
+  rows = subst (AreBlocks block_rows) (sym (map-set_same rows_in xs i y x (rows ∙ ap rows_in there))) are.rows;
+}
+
+pub rows-set : (xs : List Decisions) (i : ℕ) (x y : Decisions) → x ≡ get_or xs i x → rows_in y ≡ rows_in x → flat_map rows_in (set xs i y) ≡ flat_map rows_in xs
+rows-set xs i x y there rows = flat_map-same rows_in (set xs i y) xs (map-set_same rows_in xs i y x (rows ∙ ap rows_in there))
+
 pub HaveSameRows-set : (xs : List Decisions) (i : ℕ) (x y : Decisions) → AllByRecursion IsSound xs → x ≡ get_or xs i x → IsSound y → sizes_in y ≡ sizes_in x → rows_in y ≡ rows_in x → HaveSameRows xs (set xs i y)
 HaveSameRows-set xs i x y all there sound tracks rows = record {
   sound = all_set IsSound xs i y all sound;
@@ -101,32 +105,14 @@ HaveSameRows-set xs i x y all there sound tracks rows = record {
   rows = map-set_same rows_in xs i y x (rows ∙ ap rows_in there);
 }
 
--- the rows of blocks of which the last has one row more, and how many edges they have
+-- the rows of blocks of which the last has one row more
 pub rows-pushed : (xs : List Decisions) (x y : Decisions) (row : List Edge) → rows_in y ≡ rows_in x ++ row ∷ [] → flat_map rows_in (xs ++ y ∷ []) ≡ (flat_map rows_in xs ++ rows_in x) ++ row ∷ []
 rows-pushed xs x y row rows = sym (flat_map_more rows_in [] xs y) ∙ ap (λ rs. flat_map rows_in xs ++ rs) rows ∙ sym (append_assoc (flat_map rows_in xs) (rows_in x) (row ∷ []))
-
-pub edges-pushed : (xs : List Decisions) (x y : Decisions) (row : List Edge) → rows_in y ≡ rows_in x ++ row ∷ [] → sum_by length (flat_map rows_in (xs ++ y ∷ [])) ≡ sum_by length (flat_map rows_in xs ++ rows_in x) + length row
-edges-pushed xs x y row rows = ap (sum_by length) (rows-pushed xs x y row rows) ∙ sum_by_push length (flat_map rows_in xs ++ rows_in x) row
-
--- the digits that all blocks keep are the cells of their rows
-pub block_cells : (sizes : List ℕ) (xs : List Decisions) → AllByRecursion (AreOver sizes) xs → 0 < length sizes → sum_by cells_in xs ≡ sum_by (cells_of sizes) (flat_map rows_in xs)
-block_cells sizes [] over some = refl
-block_cells sizes (x ∷ xs) over some =
-    omega (arith, cells-deciding sizes x over.0.sound over.0.tracks some, block_cells sizes xs over.1 some, sum_by-cons cells_in x xs, sum_by-append (cells_of sizes) (rows_in x) (flat_map rows_in xs))
-
-pub few-block_cells : (sizes : List ℕ) (xs : List Decisions) → AllByRecursion (AreOver sizes) xs → 0 < length sizes → sum_by cells_in xs ≤ length sizes * sum_by length (flat_map rows_in xs)
-few-block_cells sizes [] over some = omega arith
-few-block_cells sizes (x ∷ xs) over some =
-    let few = few-cells x over.0.sound in
-    let short : length (sizes_in x) ≤ length sizes = omega (arith, ap length over.0.tracks, deciding-few sizes some) in
-    let bound = mul-le (length (sizes_in x)) (sum_by length (rows_in x)) (length sizes) (sum_by length (rows_in x)) short (omega arith) in
-    let both : length sizes * sum_by length (rows_in x ++ flat_map rows_in xs) ≡ length sizes * (sum_by length (rows_in x) + sum_by length (flat_map rows_in xs)) = ap (λ n. length sizes * n) (sum_by-append length (rows_in x) (flat_map rows_in xs)) in
-    omega (arith, few, bound, few-block_cells sizes xs over.1 some, both, sum_by-cons cells_in x xs)
 
 -- full blocks stay so where they keep their rows
 pub HaveSameRows-full : (sizes : List ℕ) (blocks others : List Decisions) → HaveSameRows blocks others → AllByRecursion (IsFullOver sizes) blocks → AllByRecursion (IsFullOver sizes) others
 HaveSameRows-full sizes blocks others same full =
-    to_full sizes others (to_over sizes others same.sound (subst (AllByRecursion (λ tracks. tracks ≡ deciding sizes)) (sym same.tracks) (over-tracks sizes blocks (full-over sizes blocks full))))
+    to_full sizes others (to_over sizes others same.sound (subst (AllByRecursion (DecideRows sizes)) (sym same.tracks) (over-tracks sizes blocks (full-over sizes blocks full))))
     (same-full others (subst (AllByRecursion (λ rows. length rows ≡ block_rows)) (sym same.rows) (rows-full blocks (full-rows sizes blocks full))))
   where
     rows-full : (xs : List Decisions) → AllByRecursion (λ x. length (rows_in x) ≡ block_rows) xs → AllByRecursion (λ rows. length rows ≡ block_rows) (map rows_in xs)
@@ -137,38 +123,33 @@ HaveSameRows-full sizes blocks others same full =
     same-full [] each = tt
     same-full (x ∷ xs) each = (each.0, same-full xs each.1)
 
--- blocks that are not none end with the last one
-pub last_split : (blocks : List Decisions) (at : ℕ) (last : Decisions) → at + 1 ≡ length blocks → last ≡ get_or blocks at last → blocks ≡ take at blocks ++ last ∷ []
-last_split blocks at last end is =
-    sym (take_all (at + 1) blocks (omega (arith, end))) ∙ take_more blocks at last (omega (arith, end)) ∙ ap (λ x. take at blocks ++ x ∷ []) (sym is)
-
-pub last_block : (blocks : List Decisions) (last : Decisions) → Some last ≡ slice_get blocks (length blocks - 1) → blocks ≡ take (length blocks - 1) blocks ++ last ∷ []
-last_block [] last is = absurd (cc)
-last_block (b ∷ blocks) last is =
-    let at = length (b ∷ blocks) - 1 in
-    last_split (b ∷ blocks) at last (omega arith) (sym (get_or_from_slice_get (b ∷ blocks) at last last (sym is)))
-
-module _ (sizes : List ℕ) (blocks : List Decisions) (opened : AreOpenBlocks sizes blocks) (at : ℕ) (end : at + 1 ≡ length blocks) where
-  at_last : at ≡ length opened.before
-  at_last = omega (arith, end, ap length opened.are, length-append opened.before (opened.last ∷ []))
+module _ (sizes : List ℕ) (blocks : List Decisions) (opened : AreOpenBlocks sizes blocks) (count : ℕ) (all : count ≡ length blocks) where
+  at_last : count - 1 ≡ length opened.before
+  at_last = omega (arith, all, ap length opened.are, length-append opened.before (opened.last ∷ []))
 
   -- the open block is the last one
-  pub open-last : (d : Decisions) → get_or blocks at d ≡ opened.last
-  open-last d = ap (λ bs. get_or bs at d) opened.are ∙ ap (λ i. get_or (opened.before ++ opened.last ∷ []) i d) at_last ∙ get_or-append_seam opened.before opened.last [] d
+  pub open-last : (d : Decisions) → get_or blocks (count - 1) d ≡ opened.last
+  open-last d = ap (λ bs. get_or bs (count - 1) d) opened.are ∙ ap (λ i. get_or (opened.before ++ opened.last ∷ []) i d) at_last ∙ get_or-append_seam opened.before opened.last [] d
 
-  module _ (grown : Decisions) (row : List Edge) (sound : IsSound grown) (tracks : sizes_in grown ≡ sizes_in opened.last) (rows : rows_in grown ≡ rows_in opened.last ++ row ∷ []) where
-    grown_are : set blocks at grown ≡ opened.before ++ grown ∷ []
-    grown_are = ap (λ bs. set bs at grown) opened.are ∙ ap (λ i. set (opened.before ++ opened.last ∷ []) i grown) at_last ∙ set-append_seam opened.before opened.last [] grown
+  module _ (here : Decisions) (is : here ≡ get_or blocks (count - 1) here) (grown : Decisions) (row : List Edge) (sound : IsSound grown) (tracks : sizes_in grown ≡ sizes_in here) (rows : rows_in grown ≡ rows_in here ++ row ∷ []) where
+    here_last : here ≡ opened.last
+    here_last = is ∙ open-last here
+
+    grown_rows : rows_in grown ≡ rows_in opened.last ++ row ∷ []
+    grown_rows = rows ∙ ap (λ (d : Decisions). rows_in d ++ row ∷ []) here_last
+
+    grown_are : set blocks (count - 1) grown ≡ opened.before ++ grown ∷ []
+    grown_are = ap (λ bs. set bs (count - 1) grown) opened.are ∙ ap (λ i. set (opened.before ++ opened.last ∷ []) i grown) at_last ∙ set-append_seam opened.before opened.last [] grown
 
     -- it takes one more row
-    pub open-grown : AreRowBlocks sizes (set blocks at grown)
+    pub open-grown : AreRowBlocks sizes (set blocks (count - 1) grown)
     open-grown = subst (AreRowBlocks sizes) (sym grown_are) (AreRowBlocks-push sizes opened.before grown (record {
       full = opened.full;
-      over = record { sound = sound; tracks = tracks ∙ opened.over.tracks };
-      rows = omega (arith, ap length rows, length-append (rows_in opened.last) (row ∷ []), opened.room);
+      over = record { sound = sound; tracks = subst (DecideRows sizes) (sym (tracks ∙ ap sizes_in here_last)) opened.over.tracks };
+      rows = omega (arith, ap length grown_rows, length-append (rows_in opened.last) (row ∷ []), opened.room);
     }))
 
-    pub open-rows : flat_map rows_in (set blocks at grown) ≡ flat_map rows_in blocks ++ row ∷ []
+    pub open-rows : flat_map rows_in (set blocks (count - 1) grown) ≡ flat_map rows_in blocks ++ row ∷ []
     open-rows =
-        ap (flat_map rows_in) grown_are ∙ rows-pushed opened.before opened.last grown row rows
+        ap (flat_map rows_in) grown_are ∙ rows-pushed opened.before opened.last grown row grown_rows
         ∙ ap (λ rs. rs ++ row ∷ []) (flat_map_more rows_in [] opened.before opened.last ∙ ap (flat_map rows_in) (sym opened.are))

@@ -1,44 +1,20 @@
--- Rows that are kept by tracks: the tracks that decide, and an edge behind the last one.
-use Rattle.std.proofs.Common.{◌≡◌, ◌==◌, ℕ, suc, zero, ◌+◌, ◌*◌, ◌/◌, ◌<◌, ◌≤◌, Bool, true, false, List, [], ◌∷◌, take, drop, length, get_or, Some, refl, sym, ap, ◌∙◌, if◌then◌else◌, arith}
+-- Rows that are kept by tracks: the tracks that decide, and edges before a place.
+use Rattle.std.proofs.Common.{◌≡◌, ℕ, suc, zero, ◌+◌, ◌*◌, ◌/◌, ◌<◌, ◌≤◌, inl, inr, List, [], ◌∷◌, take, drop, length, get_or, Some, refl, ap, ◌∙◌, arith}
 use Rattle.std.specs.List.{slice_get}
-use Rattle.std.proofs.lemmas.Bool.Decides.{Decides-eqb}
 use Rattle.std.proofs.lemmas.Nat.{div-mul-add}
 use Rattle.digit_tuple.specs.Letters.{product}
-use Rattle.digit_tuple.specs.SparseRows.{some_track, deciding}
+use Rattle.digit_tuple.specs.SparseRows.{DecideRows}
 use Rattle.digit_tuple.specs.declared.edges.Edge.{Edge}
 use Rattle.digit_tuple.proofs.LetterLemmas.{positive_left}
 
-some_track-product : (sizes : List ℕ) → product (some_track sizes) ≡ product sizes
-some_track-product [] = omega arith
-some_track-product (s ∷ ss) = refl
+-- tracks by which rows are decided have the letters of the alphabet, and there is one at least
+pub decide-product : (sizes tracks : List ℕ) → DecideRows sizes tracks → product tracks ≡ product sizes
+decide-product sizes tracks (inl same) = ap product same.0
+decide-product sizes tracks (inr one) = let letters : product tracks ≡ product sizes * 1 = ap product one in omega (arith, letters)
 
--- the tracks that decide have the same letters
-pub deciding-product : (sizes : List ℕ) → product (deciding sizes) ≡ product sizes
-deciding-product sizes = by (product sizes == 0) refl
-  where
-    by : (b : Bool) → (product sizes == 0) ≡ b → product (if b then 0 ∷ [] else some_track sizes) ≡ product sizes
-    by true none = sym ((Decides-eqb (product sizes) 0).0 none)
-    by false some = some_track-product sizes
-
-pub deciding-some : (sizes : List ℕ) → 0 < length (deciding sizes)
-deciding-some sizes = by (product sizes == 0)
-  where
-    by : (b : Bool) → 0 < length (if b then 0 ∷ [] else some_track sizes)
-    by true = omega arith
-    by false = at sizes
-      where
-        at : (ss : List ℕ) → 0 < length (some_track ss)
-        at [] = omega arith
-        at (s ∷ ss) = omega arith
-
--- they are no more than the tracks, where there is one
-pub deciding-few : (sizes : List ℕ) → 0 < length sizes → length (deciding sizes) ≤ length sizes
-deciding-few [] some = absurd (omega arith)
-deciding-few (s ∷ ss) some = by (product (s ∷ ss) == 0)
-  where
-    by : (b : Bool) → length (if b then 0 ∷ [] else some_track (s ∷ ss)) ≤ length (s ∷ ss)
-    by true = omega arith
-    by false = omega arith
+pub decide-some : (sizes tracks : List ℕ) → DecideRows sizes tracks → 0 < length tracks
+decide-some sizes tracks (inl same) = omega (arith, same.1, ap length same.0)
+decide-some sizes tracks (inr one) = omega (arith, ap length one)
 
 pub get_or-taken : (es : List Edge) (i k : ℕ) (d : Edge) → k < i → i ≤ length es → get_or (take i es) k d ≡ get_or es k d
 get_or-taken [] i k d less within = absurd (omega arith)

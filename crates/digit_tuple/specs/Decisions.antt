@@ -32,6 +32,10 @@ abbrev pub joined_rows : ℕ → List (List ℕ) → List (List Edge) → List (
 joined_rows weight [] rows = []
 joined_rows weight (digits ∷ lists) rows = joined weight digits (take (length digits) rows) ∷ joined_rows weight lists (drop (length digits) rows)
 
+-- the letters of the edges
+abbrev pub letters_in : List Edge → List ℕ
+letters_in edges = map (λ edge. edge.letter) edges
+
 -- the edge of a row on no track
 abbrev pub only_edge : ℕ → List Edge
 only_edge target = edge_to 0 target ∷ []

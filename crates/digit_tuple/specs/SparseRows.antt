@@ -1,5 +1,5 @@
 -- Rows of edges by letters of tracks, kept as decisions by these tracks.
-use Rattle.std.specs.Prelude.{◌≡◌, ◌==◌, ℕ, ◌<◌, List, [], ◌∷◌, ◌++◌, length, map, slice_index_or, if◌then◌else◌}
+use Rattle.std.specs.Prelude.{◌≡◌, ℕ, ◌<◌, ◌⊎◌, List, [], ◌∷◌, ◌++◌, length, map, slice_index_or}
 use Rattle.std.specs.List.{AllByRecursion}
 use Rattle.digit_tuple.specs.Blocks.{AreBlocks}
 use Rattle.digit_tuple.specs.Letters.{product}
@@ -15,23 +15,18 @@ pub record Rows : Type 0 where
 abbrev pub row_at : Rows → ℕ → List Edge
 row_at table place = slice_index_or table.rows place []
 
--- the tracks, or one track of one digit where there is none
-abbrev pub some_track : List ℕ → List ℕ
-some_track [] = 1 ∷ []
-some_track (size ∷ sizes) = size ∷ sizes
+-- tracks by which rows over an alphabet are decided: those of the alphabet, where it has any, or one whose digits are the letters
+abbrev pub DecideRows : List ℕ → List ℕ → Type 0
+DecideRows sizes tracks = ((tracks ≡ sizes) × (0 < length sizes)) ⊎ (tracks ≡ product sizes ∷ [])
 
--- the tracks by which decisions are kept: where there is no letter one track of no digit, and where there is no track one of one digit
-abbrev pub deciding : List ℕ → List ℕ
-deciding sizes = if product sizes == 0 then 0 ∷ [] else some_track sizes
-
--- the decisions are sound and by these tracks
+-- the decisions are sound and by such tracks
 pub record AreOver (sizes : List ℕ) (decisions : Decisions) : Type 0 where
   pub sound : IsSound decisions
-  pub tracks : sizes_in decisions ≡ deciding sizes
+  pub tracks : DecideRows sizes (sizes_in decisions)
 
 -- how many rows a full block has
 abbrev pub block_rows : ℕ
-block_rows = 256
+block_rows = 1024
 
 -- the block is by the tracks, and full
 pub record IsFullOver (sizes : List ℕ) (block : Decisions) : Type 0 where

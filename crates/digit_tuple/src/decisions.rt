@@ -1,7 +1,7 @@
 //! Rows of edges as decisions by tracks.
 
 ghost use Rattle.std.specs.Prelude.{◌≡◌, ◌≢◌, ℕ, ◌+◌, ◌*◌, ◌<◌, ◌≤◌, ◌↔◌, ◌^◌, ◌++◌, ◌∷◌, [], List, length, map, Some, IfOk, OnOk, IfSome, IfNone, IsTrue, slice_index, slice_index_or, sum_by, take, drop};
-ghost use Rattle.digit_tuple.specs.Decisions.{rows_in, sizes_in, cells_in, joined_rows, only_edge, IsFrom, IsSound, IsTrack, LeadsAs, ahead, behind};
+ghost use Rattle.digit_tuple.specs.Decisions.{rows_in, sizes_in, cells_in, joined_rows, only_edge, IsFrom, IsSound, IsTrack, LeadsAs, ahead, behind, letters_in};
 ghost use Rattle.std.specs.List.{All, AllPairs, AllByRecursion};
 ghost use Rattle.digit_tuple.specs.Deterministic.{IsByEarlier, target_by};
 ghost use Rattle.digit_tuple.specs.Letters.{product};
@@ -242,11 +242,27 @@ impl Decisions {
 
     // The targets of rows on no track.
     fn targets(&self) -> Option<&[u32]>
-        ensures { IfSome result (λ targets. rows_in self.now ≡ map only_edge targets.now) }
+        ensures targets { IfSome result (λ targets. (rows_in self.now ≡ map only_edge targets.now) × (sizes_in self.now ≡ [])) }
+        ensures tracks { IfNone result (0 < length (sizes_in self.now)) }
     {
         match self {
             Decisions::Targets(targets) => Some(targets),
             Decisions::OnTrack(_, _) => None,
+        }
+    }
+
+    /// The digits of each row, where there is one track: the letters of its edges.
+    pub(crate) fn only_digits(&self) -> Option<&NumberLists>
+        requires { IsSound self.now }
+        ensures one { IfSome result (λ digits. (length (sizes_in self.now) ≡ 1) × (digits.now ≡ map letters_in (rows_in self.now))) }
+        ensures other { IfNone result (length (sizes_in self.now) ≢ 1) }
+    {
+        match self {
+            Decisions::Targets(_) => None,
+            Decisions::OnTrack(track, below) => match below.targets() {
+                Some(_) => Some(&track.digits),
+                None => None,
+            },
         }
     }
 

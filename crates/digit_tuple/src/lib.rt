@@ -55,6 +55,15 @@ mod number_lists;
 /// Rows of edges as decisions by tracks.
 mod decisions;
 
+/// Rows that are decided by whole letters, and the same rows by tracks.
+mod by_tracks;
+
+/// How many digits ascending letters take as decisions by tracks.
+mod letter_cells;
+
+/// How many digits rows take as decisions by tracks.
+mod block_cells;
+
 /// Sparse rows: edges by letters of tracks, of which only those that are there take a place.
 mod sparse_rows;
 

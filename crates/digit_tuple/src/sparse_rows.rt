@@ -1,14 +1,16 @@
 //! Sparse rows: edges by letters of tracks, of which only those that are there take a place.
 
-ghost use Rattle.std.specs.Prelude.{◌≡◌, ℕ, ◌*◌, ◌%◌, ◌<◌, ◌≤◌, ◌^◌, ◌↔◌, ◌++◌, ◌∷◌, [], length, slice_index_or, sum_by, IfOk, OnErr, OnOk, IsTrue};
+ghost use Rattle.std.specs.Prelude.{◌≡◌, ℕ, ◌*◌, ◌%◌, ◌<◌, ◌≤◌, ◌^◌, ◌↔◌, ◌++◌, ◌∷◌, [], List, length, slice_index_or, sum_by, IfOk, OnErr, OnOk, IsTrue};
 ghost use Rattle.std.specs.List.{All, AllByRecursion, AllPairs, flat_map};
 ghost use Rattle.digit_tuple.specs.CellCounts.{cells_of};
-ghost use Rattle.digit_tuple.specs.Decisions.{rows_in, sizes_in, cells_in, IsSound};
+ghost use Rattle.digit_tuple.specs.Decisions.{rows_in, sizes_in, IsSound};
 ghost use Rattle.digit_tuple.specs.Deterministic.{IsByEarlier, target_by};
 ghost use Rattle.digit_tuple.specs.Letters.{product, IsAlphabet};
 ghost use Rattle.digit_tuple.specs.SparseRows.{Rows, row_at, block_rows, AreOver, IsFullOver, AreOpenBlocks, AreRowBlocks, HaveSameRows};
 
 use crate::alphabet::Alphabet;
+use crate::block_cells::block_cells;
+use crate::by_tracks::{by_tracks, is_whole};
 use crate::decisions::Decisions;
 use crate::edges::Edge;
 use crate::faults::OutOfMemory;
@@ -16,12 +18,17 @@ use std::alloc::Global;
 use std::marker::Model;
 
 // How many rows a full block has.
-const BLOCK_ROWS: usize = 256;
+const BLOCK_ROWS: usize = 1024;
+
+// From so many edges on a block decides by tracks, also where it is not full.
+const MANY_EDGES: u64 = 65_536;
 
 /// Rows of edges, each by ascending letters. A row is kept as a decision by tracks: the digits on the
 /// first track that go on, behind each the digits on the next, and behind those on the last track the
 /// targets. A letter without an edge takes no place. The rows stand in blocks, so that a table grows
-/// without a copy of its rows.
+/// without a copy of its rows. The last block, which still grows, keeps a row as a decision by the whole
+/// letter, as if all tracks were one, until it is full or has many edges: small tables, of which a
+/// statement makes many, are then written and read without a walk of their tracks.
 #[derive(Drop)]
 pub(crate) struct SparseRows {
     tracks: Alphabet,
@@ -147,7 +154,7 @@ impl SparseRows {
         if self.tracks.tracks() == 0 {
             return 0;
         }
-        count_cells(&self.blocks)
+        count_cells(&self.tracks, &self.blocks)
     }
 
     /// Gives back memory that is not in use.
@@ -205,36 +212,53 @@ fn open_block(tracks: &Alphabet, blocks: &mut Vec<Decisions>) -> Result<(), OutO
     ensures opened { OnOk result (AreOpenBlocks tracks.now blocks.new.items) }
     ensures rows { OnOk result (flat_map rows_in blocks.new.items ≡ flat_map rows_in blocks.old.items) }
 {
-    if has_room(tracks, blocks) {
+    part_last(tracks, blocks)?;
+    if has_room(blocks) {
         return Ok(());
     }
     shrink_last(blocks);
     let alloc = *blocks.allocator();
-    blocks.push(no_decisions(alloc, tracks)?)?;
+    blocks.push(Decisions::on_one_track(alloc, tracks.letters())?)?;
+    Ok(())
+}
+
+// Makes the last block decide by all tracks where it is full or has many edges. What a refused call leaves is of
+// no use.
+fn part_last(tracks: &Alphabet, blocks: &mut Vec<Decisions>) -> Result<(), OutOfMemory>
+    requires { AreRowBlocks tracks.now blocks.old.items }
+    ensures blocks { OnOk result (AreRowBlocks tracks.now blocks.new.items) }
+    ensures rows { OnOk result (flat_map rows_in blocks.new.items ≡ flat_map rows_in blocks.old.items) }
+{
+    let alloc = *blocks.allocator();
+    if let Some(last) = blocks.last_mut() {
+        if is_whole(tracks, last) && (last.len() >= BLOCK_ROWS || last.edges() >= MANY_EDGES) {
+            *last = by_tracks(alloc, tracks, last)?;
+        }
+    }
     Ok(())
 }
 
 // Whether the last block has room for one more row.
-fn has_room(tracks: &Alphabet, blocks: &[Decisions]) -> bool
-    requires { AreRowBlocks tracks.now blocks.now }
-    ensures opened { IsTrue result → AreOpenBlocks tracks.now blocks.now }
-    ensures full { ¬ IsTrue result → AllByRecursion (IsFullOver tracks.now) blocks.now }
+fn has_room(blocks: &[Decisions]) -> bool
+    ensures opened { IsTrue result → (sizes : List ℕ) → AreRowBlocks sizes blocks.now → AreOpenBlocks sizes blocks.now }
+    ensures full { ¬ IsTrue result → (sizes : List ℕ) → AreRowBlocks sizes blocks.now → AllByRecursion (IsFullOver sizes) blocks.now }
 {
-    let _tracks = tracks.tracks();
     match blocks.last() {
         Some(last) => last.len() < BLOCK_ROWS,
         None => false,
     }
 }
 
-// How many digits are kept in all blocks.
-fn count_cells(blocks: &[Decisions]) -> u64
-    requires { sum_by cells_in blocks.now < 2 ^ 64 }
-    ensures { result ≡ sum_by cells_in blocks.now }
+// How many digits the rows of all blocks take by tracks.
+fn count_cells(tracks: &Alphabet, blocks: &[Decisions]) -> u64
+    requires over { AllByRecursion (AreOver tracks.now) blocks.now }
+    requires some { 0 < length tracks.now }
+    requires few { length tracks.now * sum_by length (flat_map rows_in blocks.now) < 2 ^ 64 }
+    ensures { result ≡ sum_by (cells_of tracks.now) (flat_map rows_in blocks.now) }
 {
     let mut cells = 0;
     for block in blocks {
-        cells += block.cells();
+        cells += block_cells(tracks, block);
     }
     cells
 }
@@ -268,18 +292,4 @@ fn copy_blocks(alloc: Global, blocks: &[Decisions]) -> Result<Vec<Decisions>, Ou
         copied.push(block.copy(alloc)?)?;
     }
     Ok(copied)
-}
-
-// No rows, by the tracks of an alphabet.
-fn no_decisions(alloc: Global, alphabet: &Alphabet) -> Result<Decisions, OutOfMemory>
-    ensures over { IfOk result (AreOver alphabet.now) }
-    ensures rows { IfOk result (λ decisions. rows_in decisions ≡ []) }
-{
-    if alphabet.letters() == 0 {
-        return Decisions::on_one_track(alloc, 0);
-    }
-    if alphabet.tracks() == 0 {
-        return Decisions::on_one_track(alloc, 1);
-    }
-    Decisions::bare(alloc, alphabet.sizes(), alphabet.letters())
 }

@@ -1,4 +1,4 @@
-use Rattle.std.proofs.Common.{◌≡◌, ◌+◌, ◌-◌, ◌∷◌, ◌++◌, [], length, length-append, sym, ap, ◌∙◌, subst, arith}
+use Rattle.std.proofs.Common.{◌≡◌, ◌∷◌, ◌++◌, [], length, sym, ap, ◌∙◌, subst, arith}
 use Rattle.digit_tuple.specs.Decisions.{IsSound, rows_in, sizes_in}
 use Rattle.digit_tuple.specs.declared.decisions.Decisions.{Decisions}
 use Rattle.digit_tuple.proofs.RowGrowthLemmas.{map-ahead_zero}
@@ -9,29 +9,24 @@ pub add_row-requires-clause-sound : goal.add_row-requires-clause-sound
 add_row-requires-clause-sound c =
     let blocks = c.open_block.new.blocks in
     let opened = c.in_ok-open_block.ensures.opened in
-    let at = c.len-last.result - 1 in
-    let end : at + 1 ≡ length blocks.items = omega (arith, c.len-last.ensures, blocks.ok, ap length opened.are, length-append opened.before (opened.last ∷ [])) in
-    subst IsSound (sym (c.index_mut.ensures.value ∙ open-last c.args.tracks.now blocks.items opened at end c.index_mut.result.now)) opened.over.sound
+    let all : c.len-last.result ≡ length blocks.items = omega (arith, c.len-last.ensures, blocks.ok) in
+    subst IsSound (sym (c.index_mut.ensures.value ∙ open-last c.args.tracks.now blocks.items opened c.len-last.result all c.index_mut.result.now)) opened.over.sound
 
 pub returns-clause-blocks : goal.returns-clause-blocks
 returns-clause-blocks c =
     let blocks = c.open_block.new.blocks in
     let opened = c.in_ok-open_block.ensures.opened in
-    let at = c.len-last.result - 1 in
-    let end : at + 1 ≡ length blocks.items = omega (arith, c.len-last.ensures, blocks.ok, ap length opened.are, length-append opened.before (opened.last ∷ [])) in
-    let last : c.index_mut.result.now ≡ opened.last = c.index_mut.ensures.value ∙ open-last c.args.tracks.now blocks.items opened at end c.index_mut.result.now in
-    open-grown c.args.tracks.now blocks.items opened at end c.add_row.new.self c.args.edges.now c.in_ok-add_row.ensures.sound
-    (c.in_ok-add_row.ensures.sizes ∙ ap sizes_in last)
-    (c.in_ok-add_row.ensures.rows ∙ ap (λ es. rows_in c.index_mut.result.now ++ es ∷ []) (map-ahead_zero c.args.edges.now) ∙ ap (λ (d : Decisions). rows_in d ++ c.args.edges.now ∷ []) last)
+    let all : c.len-last.result ≡ length blocks.items = omega (arith, c.len-last.ensures, blocks.ok) in
+    open-grown c.args.tracks.now blocks.items opened c.len-last.result all c.index_mut.result.now c.index_mut.ensures.value c.add_row.new.self c.args.edges.now
+    c.in_ok-add_row.ensures.sound c.in_ok-add_row.ensures.sizes
+    (c.in_ok-add_row.ensures.rows ∙ ap (λ es. rows_in c.index_mut.result.now ++ es ∷ []) (map-ahead_zero c.args.edges.now))
 
 pub returns-clause-rows : goal.returns-clause-rows
 returns-clause-rows c =
     let blocks = c.open_block.new.blocks in
     let opened = c.in_ok-open_block.ensures.opened in
-    let at = c.len-last.result - 1 in
-    let end : at + 1 ≡ length blocks.items = omega (arith, c.len-last.ensures, blocks.ok, ap length opened.are, length-append opened.before (opened.last ∷ [])) in
-    let last : c.index_mut.result.now ≡ opened.last = c.index_mut.ensures.value ∙ open-last c.args.tracks.now blocks.items opened at end c.index_mut.result.now in
-    open-rows c.args.tracks.now blocks.items opened at end c.add_row.new.self c.args.edges.now c.in_ok-add_row.ensures.sound
-    (c.in_ok-add_row.ensures.sizes ∙ ap sizes_in last)
-    (c.in_ok-add_row.ensures.rows ∙ ap (λ es. rows_in c.index_mut.result.now ++ es ∷ []) (map-ahead_zero c.args.edges.now) ∙ ap (λ (d : Decisions). rows_in d ++ c.args.edges.now ∷ []) last)
+    let all : c.len-last.result ≡ length blocks.items = omega (arith, c.len-last.ensures, blocks.ok) in
+    open-rows c.args.tracks.now blocks.items opened c.len-last.result all c.index_mut.result.now c.index_mut.ensures.value c.add_row.new.self c.args.edges.now
+    c.in_ok-add_row.ensures.sound c.in_ok-add_row.ensures.sizes
+    (c.in_ok-add_row.ensures.rows ∙ ap (λ es. rows_in c.index_mut.result.now ++ es ∷ []) (map-ahead_zero c.args.edges.now))
     ∙ ap (λ rs. rs ++ c.args.edges.now ∷ []) c.in_ok-open_block.ensures.rows

@@ -13,7 +13,7 @@ last_row_into-requires-clause-track t c =
     let track = c.in-OnTrack.track in
     let below = c.in-OnTrack.below.value in
     let on = IsRowOn-sound _ track _ below c.args.place c.in-OnTrack.is c.requires.sound c.requires.place in
-    subst (IsTrack track track.weight) (ap rows_in (sym c.deref.ensures) ∙ c.in-Some.ensures) (subst (λ n. IsTrack track n (rows_in below)) (sym on.track_is.weight) on.track_is)
+    subst (IsTrack track track.weight) (ap rows_in (sym c.deref.ensures) ∙ c.in-Some.ensures.targets.0) (subst (λ n. IsTrack track n (rows_in below)) (sym on.track_is.weight) on.track_is)
 
 pub last_row_into-requires-clause-place : goal.last_row_into-requires-clause-place
 last_row_into-requires-clause-place t c = (IsRowOn-sound _ c.in-OnTrack.track _ c.in-OnTrack.below.value c.args.place c.in-OnTrack.is c.requires.sound c.requires.place).at.within
@@ -29,7 +29,7 @@ last_row_into-requires-clause-base t c =
 pub returns-in-Some : goal.returns-in-Some
 returns-in-Some t c =
     let track = c.in-OnTrack.track in
-    let same : map only_edge c.in-Some.targets.now ≡ rows_in c.in-OnTrack.below.value = sym c.in-Some.ensures ∙ ap rows_in c.deref.ensures in
+    let same : map only_edge c.in-Some.targets.now ≡ rows_in c.in-OnTrack.below.value = sym c.in-Some.ensures.targets.0 ∙ ap rows_in c.deref.ensures in
     subst (λ (row : List Edge). OnOk c.last_row_into.result (c.last_row_into.new.row.items ≡ c.args.row.now.items ++ map (behind c.args.base) row))
     (ap (λ (rows : List (List Edge)). get_or (joined_rows track.weight track.digits rows) c.args.place []) same ∙ ap (λ (d : Decisions). get_or (rows_in d) c.args.place []) (sym c.in-OnTrack.is))
     c.last_row_into.ensures
