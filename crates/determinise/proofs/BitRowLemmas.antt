@@ -1,5 +1,5 @@
 -- Rows of bits that are set for the members of a set.
-use Rattle.std.proofs.Common.{◌≡◌, ◌≢◌, ℕ, ◌+◌, ◌*◌, ◌/◌, ◌%◌, ◌^◌, ◌-◌, ◌<◌, ◌≤◌, Bool, cond, filter, List, [], ◌∷◌, ◌++◌, replicate, take, length, get_or, map, ◌↔◌, ◌⊎◌, inl, inr, refl, sym, ap, ◌∙◌, subst, arith}
+use Rattle.std.proofs.Common.{◌≡◌, ◌≢◌, ℕ, suc, ◌+◌, ◌*◌, ◌/◌, ◌%◌, ◌^◌, ◌-◌, ◌<◌, ◌≤◌, Bool, cond, filter, List, [], ◌∷◌, ◌++◌, replicate, take, length, get_or, map, min, ◌↔◌, ◌⊎◌, inl, inr, refl, sym, ap, ◌∙◌, subst, arith}
 use Rattle.std.specs.Prelude.{bit_and, Vec}
 use Rattle.std.specs.Int.{bit_at, bit_not}
 use Rattle.std.specs.List.{All, Contains, range_with_len}
@@ -8,8 +8,9 @@ use Rattle.std.specs.declared.alloc.Global.{Global}
 use Rattle.std.proofs.lemmas.Bool.{cases_eq, cases_lt}
 use Rattle.std.proofs.lemmas.List.{take_more, get_or-map, length-map, map-append, get_or_push, get_or_append_left}
 use Rattle.std.proofs.lemmas.List.Elements.{All-map, Contains-append_left, Contains-push, Contains-push_cases}
-use Rattle.std.proofs.lemmas.Nat.{and_le_l, div-mul-add, mod-mul-add, div-add-mod', mod_below, div_below, mul-add-lt}
-use Rattle.std.proofs.lemmas.Nat.Bits.{bit_at_and, bit_at-lt, bit_at-zero, bit_at_above, bit_at_clear_same, bit_at_clear_other}
+use Rattle.std.proofs.Math.Nat.{pow-suc}
+use Rattle.std.proofs.lemmas.Nat.{and_le_l, pow_pos, div-mul-add, mod-mul-add, div-add-mod', mod_below, div_below, mul-add-lt}
+use Rattle.std.proofs.lemmas.Nat.Bits.{bit_at_and, bit_at-lt, bit_at-zero, bit_at_above, bit_at_cat_low, bit_at_cat_high, bit_at_clear_same, bit_at_clear_other, bit_at_ones_above, bit_at-pow_same, bit_at-pow_other, same_from_bits_below}
 use mir.Syntax.{w32}
 use Rattle.digit_tuple.specs.declared.edges.Edge.{Edge}
 use Rattle.determinise.specs.BitRows.{word_of}
@@ -35,6 +36,49 @@ without_bit-same n k within = bit_at_clear_same w32 n k within
 
 pub without_bit-none : (n k i : ℕ) → bit_at n i ≡ 0 → bit_at (without_bit n k) i ≡ 0
 without_bit-none n k i none = omega (arith, bit_at_and n (bit_not w32 (1 * 2 ^ k % 2 ^ 32)) i, none)
+
+-- the number less one has all bits above the lowest one, and not that one
+pub without_bit-lowest : (n k : ℕ) → n < 2 ^ 32 → k < 32 → bit_at n k ≡ 1 → ((i : ℕ) → i < k → bit_at n i ≡ 0) → bit_and n (n - 1) ≡ without_bit n k
+without_bit-lowest n k small within is low =
+    let left = and_le_l n (n - 1) in
+    let right = and_le_l n (bit_not w32 (1 * 2 ^ k % 2 ^ 32)) in
+    same_from_bits_below 32 (bit_and n (n - 1)) (without_bit n k) (omega (arith, left, small)) (omega (arith, right, small)) (λ i below. bit_at_and n (n - 1) i ∙ by i below (cases_lt i k) (cases_eq i k))
+  where
+    q : ℕ
+    q = n / 2 ^ (k + 1)
+
+    halves : 2 ^ (k + 1) ≡ 2 ^ k + 2 ^ k
+    halves = let next : k + 1 ≡ suc k = omega arith in omega (arith, ap (λ m. 2 ^ m) next, pow-suc 2 k)
+
+    some : 0 < 2 ^ k
+    some = pow_pos k
+
+    split : n ≡ q * 2 ^ (k + 1) + n % 2 ^ (k + 1)
+    split = sym (div-add-mod' n (2 ^ (k + 1)))
+
+    rest : n % 2 ^ (k + 1) ≡ 2 ^ k
+    rest = same_from_bits_below (k + 1) (n % 2 ^ (k + 1)) (2 ^ k) (mod_below n (2 ^ (k + 1)) (omega (arith, halves, some))) (omega (arith, halves, some))
+        (λ i below. sym (bit_at_cat_low q (k + 1) (n % 2 ^ (k + 1)) i below) ∙ ap (λ m. bit_at m i) (sym split) ∙ each i below (cases_eq i k))
+      where
+        each : (i : ℕ) → i < k + 1 → (i ≡ k) ⊎ (i ≡ k → ⊥) → bit_at n i ≡ bit_at (2 ^ k) i
+        each i below (inl same) = ap (bit_at n) same ∙ is ∙ sym (ap (bit_at (2 ^ k)) same ∙ bit_at-pow_same k)
+        each i below (inr other) = low i (omega (arith, below, other)) ∙ sym (bit_at-pow_other k i other)
+
+    whole : n ≡ q * 2 ^ (k + 1) + 2 ^ k
+    whole = split ∙ ap (λ r. q * 2 ^ (k + 1) + r) rest
+
+    less : n - 1 ≡ q * 2 ^ (k + 1) + (2 ^ k - 1)
+    less = omega (arith, whole, some)
+
+    by : (i : ℕ) → i < 32 → (i < k) ⊎ (k ≤ i) → (i ≡ k) ⊎ (i ≡ k → ⊥) → min (bit_at n i) (bit_at (n - 1) i) ≡ bit_at (without_bit n k) i
+    by i below where_i (inl same) =
+        omega (arith, ap (bit_at (n - 1)) same ∙ ap (λ m. bit_at m k) less ∙ bit_at_cat_low q (k + 1) (2 ^ k - 1) k (omega arith) ∙ bit_at_ones_above k k (omega arith), ap (bit_at (without_bit n k)) same ∙ without_bit-same n k within)
+    by i below (inl before) (inr other) = omega (arith, low i before, bit_at_clear_other w32 n k within i below other)
+    by i below (inr after) (inr other) =
+        let above : bit_at (n - 1) i ≡ bit_at n i =
+        ap (λ m. bit_at m i) less ∙ bit_at_cat_high q (k + 1) (2 ^ k - 1) i (omega (arith, halves, some)) (omega (arith, after, other))
+        ∙ sym (ap (λ m. bit_at m i) whole ∙ bit_at_cat_high q (k + 1) (2 ^ k) i (omega (arith, halves, some)) (omega (arith, after, other))) in
+        omega (arith, above, bit_at_clear_other w32 n k within i below other)
 
 -- no other bit is lost
 pub without_bit-other : (n k i : ℕ) → n < 2 ^ 32 → k < 32 → i ≢ k → bit_at (without_bit n k) i ≡ 0 → bit_at n i ≡ 0

@@ -12,7 +12,8 @@ use Rattle.std.proofs.lemmas.Nat.{div-add-mod', div_below}
 use Rattle.std.proofs.lemmas.Nat.Bits.{bit_at-lt, bit_at-zero, bit_at-pow_same, bit_at-pow_other, same_from_bits}
 use Rattle.digit_tuple.specs.Groups.{some_set}
 use Rattle.digit_tuple.proofs.MemberLemmas.{Contains-head, Contains-tail, Contains-cases, Contains-none, Contains-filter, Contains-from_filter, list_any-contains, same_ascending}
-use Rattle.determinise.specs.Bits.{HasBit, HasMember, with_bit, with_bits, bits_of, members_of, some_bits}
+use Rattle.digit_tuple.specs.Keys.{some_nonzero}
+use Rattle.determinise.specs.Bits.{HasBit, HasMember, with_bit, with_bits, bits_of, members_of}
 use Rattle.determinise.specs.SubsetLaws.{All-range, AllPairs-range}
 use Rattle.determinise.proofs.BitLemmas.{HasBit-or, HasBit-replicate, HasBit-within}
 use Rattle.determinise.proofs.SubsetLemmas.{Contains-range}
@@ -131,13 +132,13 @@ same_bits words others size iff = ext_get_or 0 words others size
         by (inr none) (inr other) = omega (arith, none, other)
 
 -- bits of a set that is not empty are some
-pub some_bits-bits_of : (width : ℕ) (numbers : List ℕ) → All (λ x. x < 32 * width) numbers → some_bits (bits_of width numbers) ≡ option_map (bits_of width) (some_set numbers)
-some_bits-bits_of width [] small = ap (λ b. if b then Some (replicate width 0) else None) (none width)
+pub some_nonzero-bits_of : (width : ℕ) (numbers : List ℕ) → All (λ x. x < 32 * width) numbers → some_nonzero (bits_of width numbers) ≡ option_map (bits_of width) (some_set numbers)
+some_nonzero-bits_of width [] small = ap (λ b. if b then Some (replicate width 0) else None) (none width)
   where
     none : (w : ℕ) → list_any (λ word. not (word == 0)) (replicate w 0) ≡ false
     none zero = refl
     none (suc w) = none w
-some_bits-bits_of width (x ∷ xs) small = ap (λ b. if b then Some (bits_of width (x ∷ xs)) else None) some
+some_nonzero-bits_of width (x ∷ xs) small = ap (λ b. if b then Some (bits_of width (x ∷ xs)) else None) some
   where
     some : list_any (λ word. not (word == 0)) (bits_of width (x ∷ xs)) ≡ true
     some = by (get_or (bits_of width (x ∷ xs)) (x / 32) 0) refl

@@ -10,18 +10,18 @@ use Rattle.std.proofs.lemmas.Nat.{div_below, row_fits, same_from_place}
 use Rattle.digit_tuple.specs.declared.edges.Edge.{Edge}
 use Rattle.digit_tuple.specs.Automaton.{Branching, IsBranchTable, Leads, accepting_of, edges_of, letters_of, states_of}
 use Rattle.digit_tuple.specs.Groups.{some_set}
-use Rattle.digit_tuple.specs.Keys.{KeyEdge, AreKeyEdges}
+use Rattle.digit_tuple.specs.Keys.{KeyEdge, AreKeyEdges, part_of, some_nonzero}
 use Rattle.digit_tuple.proofs.MemberLemmas.{Contains-map, Contains-from_map, Contains-filter, Contains-from_filter, list_any-contains, contains_from_list_any}
 use Rattle.digit_tuple.proofs.TableLemmas.{Leads-in_range}
 use Rattle.determinise.specs.declared.bit_words.BitWord.{BitWord}
 use Rattle.determinise.specs.declared.bit_rows.BitRows.{BitRows}
-use Rattle.determinise.specs.Bits.{HasBit, HasMember, RowHas, AreGathered, AreUnited, members_in, row_at, rows_in, part_of, some_bits}
+use Rattle.determinise.specs.Bits.{HasBit, HasMember, RowHas, AreGathered, AreUnited, members_in, row_at, rows_in}
 use Rattle.determinise.specs.BitRows.{AreBitRows, word_of, words_of}
 use Rattle.determinise.specs.BitSubsets.{IsStateBits, state_bits, states_in, bits_after, bits_accept}
 use Rattle.determinise.specs.SubsetLaws.{All-range, AllPairs-range}
 use Rattle.determinise.specs.Subsets.{IsStateSet, leads_to, targets_of, set_after}
 use Rattle.determinise.proofs.BitLemmas.{HasBit-within}
-use Rattle.determinise.proofs.BitSetLemmas.{StandsAt, only_bit, length-bits_of, HasBit-bits_of, HasMember-bits_of, members_of-bits_of, members_of-iff, same_bits, some_bits-bits_of}
+use Rattle.determinise.proofs.BitSetLemmas.{StandsAt, only_bit, length-bits_of, HasBit-bits_of, HasMember-bits_of, members_of-bits_of, members_of-iff, same_bits, some_nonzero-bits_of}
 use Rattle.determinise.proofs.ReversalLemmas.{same_bool}
 use Rattle.determinise.proofs.SubsetLemmas.{Contains-range, targets_of-iff}
 
@@ -115,12 +115,12 @@ module _ (n : Branching) (table : IsBranchTable (letters_of n) n.states) where
             (subst (λ p. p < w) there.2.0 column, (gathered (a * w + place) bit).1 (from.0, from.1, subst (λ row. RowHas row (a * w + place) bit) (sym (are from.0 within)) row))
 
     -- the parts of the letters are the edges from the set
-    pub AreKeyEdges-parts : (edges : List KeyEdge) → AreKeyEdges (letters_of n) (λ letter. some_bits (part_of words (words_of (states_of n)) letter)) edges → AreKeyEdges (letters_of n) (bits_after n (state_bits n set)) edges
+    pub AreKeyEdges-parts : (edges : List KeyEdge) → AreKeyEdges (letters_of n) (λ letter. some_nonzero (part_of words (words_of (states_of n)) letter)) edges → AreKeyEdges (letters_of n) (bits_after n (state_bits n set)) edges
     AreKeyEdges-parts edges parts = record {
       in_range = parts.in_range;
       ascending = parts.ascending;
-      lead = λ a small. parts.lead a small ∙ ap some_bits (part_of-targets a small)
-          ∙ some_bits-bits_of (words_of (states_of n)) (targets_of n set a) (small_set (targets_of n set a) (targets_in_range set a))
+      lead = λ a small. parts.lead a small ∙ ap some_nonzero (part_of-targets a small)
+          ∙ some_nonzero-bits_of (words_of (states_of n)) (targets_of n set a) (small_set (targets_of n set a) (targets_in_range set a))
           ∙ ap (λ s. option_map (state_bits n) (set_after n s a)) (sym (states_in-bits set is));
     }
 
@@ -169,15 +169,15 @@ few_words states few = omega arith
 
 -- what the rows write for a set are the edges from it
 pub AreKeyEdges-rows : (n : Branching) (table : IsBranchTable (letters_of n) n.states) (r : BitRows) → AreBitRows n r → (key : List ℕ) → IsStateBits n key
-    → (rows : List (List BitWord)) → rows ≡ rows_in r.rows.items → (words items : List ℕ) → words ≡ items → length items ≡ r.letters * r.width → AreUnited rows key items
-    → (edges : List KeyEdge) → AreKeyEdges r.letters (λ letter. some_bits (part_of words r.width letter)) edges → AreKeyEdges (letters_of n) (bits_after n key) edges
-AreKeyEdges-rows n table r are key is rows same words items read size united edges parts =
+    → (rows : List (List BitWord)) → rows ≡ rows_in r.rows.items → (words : List ℕ) → length words ≡ r.letters * r.width → AreUnited rows key words
+    → (edges : List KeyEdge) → AreKeyEdges r.letters (λ letter. some_nonzero (part_of words r.width letter)) edges → AreKeyEdges (letters_of n) (bits_after n key) edges
+AreKeyEdges-rows n table r are key is rows same words size united edges parts =
     subst (λ k. AreKeyEdges (letters_of n) (bits_after n k) edges) (sym is.bits)
     (AreKeyEdges-parts n table rows (λ q within. ap (λ rs. row_at rs q) same ∙ are.rows q within) is.set is.is_set words
-    (ap length read ∙ size ∙ ap (λ l. l * r.width) are.letters ∙ ap (λ w. letters_of n * w) are.width)
-    (AreGathered-united n table rows is.set is.is_set words (subst (λ k. AreUnited rows k words) is.bits (subst (λ ws. AreUnited rows key ws) (sym read) united))) edges
-    (subst (λ w. AreKeyEdges (letters_of n) (λ letter. some_bits (part_of words w letter)) edges) are.width
-    (subst (λ l. AreKeyEdges l (λ letter. some_bits (part_of words r.width letter)) edges) are.letters parts)))
+    (size ∙ ap (λ l. l * r.width) are.letters ∙ ap (λ w. letters_of n * w) are.width)
+    (AreGathered-united n table rows is.set is.is_set words (subst (λ k. AreUnited rows k words) is.bits united)) edges
+    (subst (λ w. AreKeyEdges (letters_of n) (λ letter. some_nonzero (part_of words w letter)) edges) are.width
+    (subst (λ l. AreKeyEdges l (λ letter. some_nonzero (part_of words r.width letter)) edges) are.letters parts)))
 
 -- what the rows write for a list are the edges from it
 pub AreKeyEdges-row_lists : (n : Branching) (r : BitRows) → AreBitRows n r → (set : List ℕ) → IsStateSet n set

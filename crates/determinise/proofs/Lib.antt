@@ -3,7 +3,6 @@ pub mod TrimmedLemmas
 pub mod ReversalLemmas
 pub mod BitLemmas
 pub mod BitRowLemmas
-pub mod KeyEdgeLemmas
 pub mod BitSetLemmas
 pub mod BitSubsetLemmas
 pub mod ViewedKeyLemmas

@@ -1,9 +1,8 @@
 -- Sets of numbers as bits.
-use Rattle.std.specs.Prelude.{◌≡◌, ◌==◌, ℕ, ◌+◌, ◌*◌, ◌/◌, ◌%◌, ◌^◌, ◌<◌, ◌↔◌, ◌⊎◌, List, [], ◌∷◌, map, replicate, filter, slice_index, slice_index_or, slice_set, slice_range, length, not, Option, None, Some, if◌then◌else◌, Vec, bit_or}
+use Rattle.std.specs.Prelude.{◌≡◌, ◌==◌, ℕ, ◌+◌, ◌*◌, ◌/◌, ◌%◌, ◌^◌, ◌<◌, ◌↔◌, ◌⊎◌, List, [], ◌∷◌, map, replicate, filter, slice_index, slice_index_or, slice_set, length, Vec, bit_or}
 use Rattle.std.specs.Int.{bit_at}
 use Rattle.std.specs.declared.alloc.Global.{Global}
-use Rattle.std.specs.List.{AllPairs, Contains, list_any, range_with_len}
-use Rattle.digit_tuple.specs.Keys.{KeyEdge}
+use Rattle.std.specs.List.{AllPairs, Contains, range_with_len}
 use Rattle.determinise.specs.declared.bit_words.BitWord.{BitWord}
 
 -- the word at the place has the bit
@@ -41,19 +40,6 @@ AreUnited rows set words = (place bit : ℕ) → HasBit words place bit ↔ ((q 
 -- the words have the bits of the rows of the list's members, and no others
 abbrev pub AreGathered : List (List BitWord) → List ℕ → List ℕ → Type 0
 AreGathered rows set words = (place bit : ℕ) → HasBit words place bit ↔ ((q : ℕ) × Contains set q × RowHas (row_at rows q) place bit)
-
--- the part of the words that is the letter's
-abbrev pub part_of : List ℕ → ℕ → ℕ → List ℕ
-part_of words width letter = slice_range words (letter * width) (letter * width + width)
-
--- the words, unless none has a bit
-abbrev pub some_bits : List ℕ → Option (List ℕ)
-some_bits words = if list_any (λ word. not (word == 0)) words then Some words else None
-
--- the edge by a letter to a key, if it leads to one
-abbrev pub edges_to : ℕ → Option (List ℕ) → List KeyEdge
-edges_to letter None = []
-edges_to letter (Some key) = (record { letter = letter; key = key }) ∷ []
 
 -- the words with the bit of the number set: bit number mod 32 of word number / 32
 abbrev pub with_bit : List ℕ → ℕ → List ℕ

@@ -3,8 +3,8 @@
 ghost use Rattle.std.specs.Prelude.{◌≡◌, ◌+◌, ◌*◌, ◌<◌, ◌≤◌, ◌^◌, ◌++◌, [], length, OnOk};
 ghost use Rattle.std.specs.List.{All, AllPairs};
 ghost use Rattle.digit_tuple.specs.Groups.{some_set};
-ghost use Rattle.digit_tuple.specs.Keys.{AreKeyEdges};
-ghost use Rattle.determinise.specs.Bits.{AddsMembers, edges_to, members_in, part_of};
+ghost use Rattle.digit_tuple.specs.Keys.{AreKeyEdges, edges_to, part_of};
+ghost use Rattle.determinise.specs.Bits.{AddsMembers, members_in};
 
 use digit_tuple::faults::OutOfMemory;
 use digit_tuple::key_edges::KeyEdges;
@@ -66,7 +66,7 @@ fn push_bits(first: u32, word: u32, members: &mut Vec<u32>) -> Result<(), OutOfM
     while rest != 0 {
         let low = rest.trailing_zeros();
         members.push(first + low)?;
-        rest &= !(1 << low);
+        rest &= rest - 1;
     }
     Ok(())
 }

@@ -1,17 +1,15 @@
 //! The edges of a nondeterministic automaton as rows of bits.
 
-ghost use Rattle.std.specs.Prelude.{◌≡◌, ℕ, ◌+◌, ◌*◌, ◌/◌, ◌<◌, ◌≤◌, ◌^◌, [], length, IfOk, OnOk, IsTrue, map, filter, not, ◌==◌, ◌++◌};
+ghost use Rattle.std.specs.Prelude.{◌≡◌, ℕ, ◌+◌, ◌*◌, ◌/◌, ◌<◌, ◌≤◌, ◌^◌, [], length, IfOk, OnOk, IsTrue, map, filter};
 ghost use Rattle.std.specs.Int.{bit_at};
-ghost use Rattle.std.specs.List.{All, list_any, range_with_len};
+ghost use Rattle.std.specs.List.{All, range_with_len};
 ghost use Rattle.digit_tuple.specs.Automaton.{accepting_of, states_of, letters_of, IsBranchTable};
-ghost use Rattle.digit_tuple.specs.Keys.{AreKeyEdges};
-ghost use Rattle.determinise.specs.Bits.{HasMember, rows_in, AreRowsSet, AreGathered, AreUnited, part_of, some_bits, edges_to};
+ghost use Rattle.determinise.specs.Bits.{HasMember, rows_in, AreRowsSet, AreGathered, AreUnited};
 ghost use Rattle.determinise.specs.BitRows.{AreBitRows, HasFewWords, word_of, words_of};
 
 use crate::bit_words::{BitWord, bits_of, set_row};
 use digit_tuple::edges::Edge;
 use digit_tuple::faults::OutOfMemory;
-use digit_tuple::key_edges::KeyEdges;
 use digit_tuple::nfa::Nfa;
 use std::alloc::Global;
 
@@ -114,24 +112,25 @@ fn accepting_states(alloc: Global, nfa: &Nfa) -> Result<Vec<u32>, OutOfMemory>
     Ok(states)
 }
 
-/// The bits of the rows of a set's members together, in so many words.
-pub fn united(
-    alloc: Global,
+/// Writes the bits of the rows of a set's members together, in so many words, to an empty list.
+pub fn unite(
     rows: &[Vec<BitWord>],
     room: usize,
     set: &[u32],
-) -> Result<Vec<u32>, OutOfMemory>
+    words: &mut Vec<u32>,
+) -> Result<(), OutOfMemory>
     requires few { length set.now ≤ 16 }
     requires there { (q : ℕ) → HasMember set.now q → q < length rows.now }
     requires within { All (λ row. All (λ word. word.place < room) row.items) rows.now }
-    ensures length { IfOk result (λ words. length words.items ≡ room) }
-    ensures bits { IfOk result (λ words. AreUnited (rows_in rows.now) set.now words.items) }
+    requires empty { words.old.items ≡ [] }
+    ensures length { OnOk result (length words.new.items ≡ room) }
+    ensures bits { OnOk result (AreUnited (rows_in rows.now) set.now words.new.items) }
 {
-    let mut words = vec![in alloc; 0; room]?;
+    words.resize(room, 0)?;
     for place in 0..set.len() {
-        set_rows(&mut words, rows, place * 32, set[place]);
+        set_rows(words, rows, place * 32, set[place]);
     }
-    Ok(words)
+    Ok(())
 }
 
 /// How many words the rows of a list's members have.
@@ -145,23 +144,24 @@ pub fn row_words(rows: &[Vec<BitWord>], set: &[u32]) -> usize
     count
 }
 
-/// The bits of the rows of a list's members together, in so many words.
-pub fn gathered(
-    alloc: Global,
+/// Writes the bits of the rows of a list's members together, in so many words, to an empty list.
+pub fn gather(
     rows: &[Vec<BitWord>],
     room: usize,
     set: &[u32],
-) -> Result<Vec<u32>, OutOfMemory>
+    words: &mut Vec<u32>,
+) -> Result<(), OutOfMemory>
     requires there { All (λ q. q < length rows.now) set.now }
     requires within { All (λ row. All (λ word. word.place < room) row.items) rows.now }
-    ensures length { IfOk result (λ words. length words.items ≡ room) }
-    ensures bits { IfOk result (λ words. AreGathered (rows_in rows.now) set.now words.items) }
+    requires empty { words.old.items ≡ [] }
+    ensures length { OnOk result (length words.new.items ≡ room) }
+    ensures bits { OnOk result (AreGathered (rows_in rows.now) set.now words.new.items) }
 {
-    let mut words = vec![in alloc; 0; room]?;
+    words.resize(room, 0)?;
     for state in set {
-        set_row(&mut words, &rows[*state as usize]);
+        set_row(words, &rows[*state as usize]);
     }
-    Ok(words)
+    Ok(())
 }
 
 // Sets the bits of the rows whose numbers, from the first one on, are the bits of the members.
@@ -174,41 +174,6 @@ fn set_rows(words: &mut [u32], rows: &[Vec<BitWord>], first: usize, members: u32
     while rest != 0 {
         let low = rest.trailing_zeros();
         set_row(words, &rows[first + low as usize]);
-        rest &= !(1 << low);
+        rest &= rest - 1;
     }
-}
-
-/// Adds for each letter with a bit among its words an edge to them.
-pub fn push_letters(
-    words: &[u32],
-    letters: u32,
-    width: u32,
-    out: &mut KeyEdges,
-) -> Result<(), OutOfMemory>
-    requires room { length words.now ≡ letters * width }
-    requires empty { out.old ≡ [] }
-    ensures { OnOk result (AreKeyEdges letters (λ letter. some_bits (part_of words.now width letter)) out.new) }
-{
-    for letter in 0..letters {
-        let start = letter as usize * width as usize;
-        push_some(letter, &words[start..start + width as usize], out)?;
-    }
-    Ok(())
-}
-
-// Adds an edge to the words, if one of them has a bit.
-fn push_some(letter: u32, words: &[u32], out: &mut KeyEdges) -> Result<(), OutOfMemory>
-    ensures { OnOk result (out.new ≡ out.old ++ edges_to letter (some_bits words.now)) }
-{
-    if has_some(words) {
-        out.push(letter, words)?;
-    }
-    Ok(())
-}
-
-// Whether a word has a bit.
-fn has_some(words: &[u32]) -> bool
-    ensures { result ≡ list_any (λ word. not (word == 0)) words.now }
-{
-    words.iter().any(|word| *word != 0)
 }

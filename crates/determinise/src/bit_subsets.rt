@@ -7,7 +7,7 @@ ghost use Rattle.determinise.specs.BitRows.{AreBitRows, words_of};
 ghost use Rattle.determinise.specs.BitSubsets.{IsStateBits, bits_after, bits_accept, after_is_state_bits};
 ghost use Rattle.determinise.specs.Subsets.{IsStateSet};
 
-use crate::bit_rows::{BitRows, push_letters, united};
+use crate::bit_rows::{BitRows, unite};
 use crate::bit_words::{bits_of, meet};
 use digit_tuple::faults::OutOfMemory;
 use digit_tuple::key_edges::KeyEdges;
@@ -51,8 +51,9 @@ impl KeyGraph for BitSubsets<'_> {
     fn edges(&self, alloc: Global, key: &[u32], out: &mut KeyEdges) -> Result<(), OutOfMemory> {
         let rows = self.rows;
         let room = rows.letters as usize * rows.width as usize;
-        let words = united(alloc, &rows.rows, room, key)?;
-        push_letters(&words, rows.letters, rows.width, out)
+        let mut words = out.take_spare(alloc);
+        unite(&rows.rows, room, key, &mut words)?;
+        out.lead_to_parts(words, rows.letters, rows.width)
     }
 
     fn is_accepting(&self, key: &[u32]) -> bool {

@@ -6,7 +6,7 @@ ghost use Rattle.determinise.specs.Subsets.{IsStateSet, set_after, has_accepting
 ghost use Rattle.determinise.specs.SubsetLaws.{after_is_state_set};
 
 use crate::bit_members::push_member_letters;
-use crate::bit_rows::{BitRows, gathered, row_words};
+use crate::bit_rows::{BitRows, gather, row_words};
 use crate::subsets::Subsets;
 use digit_tuple::faults::OutOfMemory;
 use digit_tuple::key_edges::KeyEdges;
@@ -58,8 +58,11 @@ impl KeyGraph for RowSubsets<'_> {
             };
             return subsets.edges(alloc, key, out);
         }
-        let words = gathered(alloc, &rows.rows, room, key)?;
-        push_member_letters(alloc, &words, rows.letters, rows.width, out)
+        let mut words = out.take_spare(alloc);
+        gather(&rows.rows, room, key, &mut words)?;
+        push_member_letters(alloc, &words, rows.letters, rows.width, out)?;
+        out.give_spare(words);
+        Ok(())
     }
 
     fn is_accepting(&self, key: &[u32]) -> bool {

@@ -1,11 +1,12 @@
 -- Keys that stand in a list of numbers.
-use Rattle.std.proofs.Common.{◌≡◌, ℕ, suc, ◌+◌, ◌-◌, ◌≤◌, List, [], ◌∷◌, ◌++◌, take, drop, length, refl, ap, ◌∙◌, length-append, length-drop, arith}
-use Rattle.std.specs.List.{slice_range}
+use Rattle.std.proofs.Common.{◌≡◌, ◌==◌, ℕ, suc, ◌+◌, ◌*◌, ◌-◌, ◌≤◌, Bool, true, false, not, List, [], ◌∷◌, ◌++◌, take, drop, length, None, Some, refl, sym, ap, ◌∙◌, append-nil, length-append, length-drop, arith}
+use Rattle.std.specs.Prelude.{if◌then◌else◌}
+use Rattle.std.specs.List.{list_any, slice_range}
 use Rattle.std.proofs.lemmas.List.{map-append, take-append-le, drop-append-le, take_all}
 use Rattle.std.proofs.lemmas.List.Elements.{All-push}
 use Rattle.std.proofs.Math.Seq.{drop-append_seam}
 use Rattle.digit_tuple.specs.declared.key_edges.KeySpan.{KeySpan}
-use Rattle.digit_tuple.specs.Keys.{KeyEdge}
+use Rattle.digit_tuple.specs.Keys.{KeyEdge, edges_to, part_of, some_nonzero}
 use Rattle.digit_tuple.specs.KeySpans.{edge_in, edges_in, AreSpans}
 
 -- a part of a list stays as the list grows
@@ -46,3 +47,14 @@ AreSpans-push numbers key spans letter start end are from to =
     All-push (λ (span : KeySpan). (span.start ≤ span.end) × (span.end ≤ length (numbers ++ key))) spans (record { letter = letter; start = start; end = end })
     (AreSpans-more (length numbers) (length (numbers ++ key)) spans (omega (arith, length-append numbers key)) are)
     (omega (arith, from, to), omega (arith, to, length-append numbers key))
+
+-- the edge to a letter's part of the numbers
+module _ (numbers : List ℕ) (spans : List KeySpan) (letter width : ℕ) (some : Bool) (is : some ≡ list_any (λ number. not (number == 0)) (part_of numbers width letter)) where
+  pub edges_in-part : some ≡ true → edges_in numbers (spans ++ (record { letter = letter; start = letter * width; end = letter * width + width }) ∷ []) ≡ edges_in numbers spans ++ edges_to letter (some_nonzero (part_of numbers width letter))
+  edges_in-part is_some =
+      map-append (edge_in numbers) spans ((record { letter = letter; start = letter * width; end = letter * width + width }) ∷ [])
+      ∙ ap (λ b. edges_in numbers spans ++ edges_to letter (if b then Some (part_of numbers width letter) else None)) (sym is_some ∙ is)
+
+  pub edges_in-no_part : some ≡ false → edges_in numbers spans ≡ edges_in numbers spans ++ edges_to letter (some_nonzero (part_of numbers width letter))
+  edges_in-no_part is_none =
+      sym (append-nil (edges_in numbers spans)) ∙ ap (λ b. edges_in numbers spans ++ edges_to letter (if b then Some (part_of numbers width letter) else None)) (sym is_none ∙ is)

@@ -44,6 +44,7 @@ pub mod FrontierLemmas
 pub mod ExploredLemmas
 pub mod RoundLemmas
 pub mod LetterEdges
+pub mod LetterKeyEdges
 pub mod ReflaggedLemmas
 pub mod StartLemmas
 pub mod NumberListLemmas

@@ -1,6 +1,6 @@
 -- Keys that letters lead to, and where words lead.
-use Rattle.std.specs.Prelude.{◌≡◌, ◌==◌, ℕ, ◌<◌, Bool, false, List, [], ◌∷◌, Option, None, Some, slice_index_or, if◌then◌else◌}
-use Rattle.std.specs.List.{All, AllPairs}
+use Rattle.std.specs.Prelude.{◌≡◌, ◌==◌, ℕ, ◌+◌, ◌*◌, ◌<◌, Bool, false, List, [], ◌∷◌, Option, None, Some, slice_index_or, slice_range, not, if◌then◌else◌}
+use Rattle.std.specs.List.{All, AllPairs, list_any}
 use Rattle.std.specs.Option.{option_map_or, option_and_then}
 
 -- an edge from a key: its letter, and the key that it leads to
@@ -29,6 +29,19 @@ pub record AreKeyEdges (letters : ℕ) (after : ℕ → Option (List ℕ)) (edge
   pub in_range : All (λ edge. edge.letter < letters) edges
   pub ascending : AllPairs IsByEarlier edges
   pub lead : (letter : ℕ) → letter < letters → key_by edges letter ≡ after letter
+
+-- the edge by a letter to a key, if it leads to one
+abbrev pub edges_to : ℕ → Option (List ℕ) → List KeyEdge
+edges_to letter None = []
+edges_to letter (Some key) = (record { letter = letter; key = key }) ∷ []
+
+-- the part of the numbers that is the letter's, where each letter in turn has so many
+abbrev pub part_of : List ℕ → ℕ → ℕ → List ℕ
+part_of numbers width letter = slice_range numbers (letter * width) (letter * width + width)
+
+-- the numbers, unless all of them are 0
+abbrev pub some_nonzero : List ℕ → Option (List ℕ)
+some_nonzero numbers = if list_any (λ number. not (number == 0)) numbers then Some numbers else None
 
 -- where a word leads from a key
 abbrev pub key_run : (List ℕ → ℕ → Option (List ℕ)) → List ℕ → List ℕ → Option (List ℕ)

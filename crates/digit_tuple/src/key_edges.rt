@@ -1,18 +1,23 @@
 //! Edges from a key, in one buffer.
 
-ghost use Rattle.std.specs.Prelude.{◌≡◌, ℕ, ◌<◌, ◌++◌, ◌∷◌, [], List, length, map, OnOk, OnErr};
-ghost use Rattle.digit_tuple.specs.Keys.{KeyEdge, edge_at};
+ghost use Rattle.std.specs.Prelude.{◌≡◌, ◌==◌, ℕ, ◌*◌, ◌<◌, ◌++◌, ◌∷◌, [], List, length, map, not, OnOk, OnErr};
+ghost use Rattle.std.specs.List.{list_any};
+ghost use Rattle.digit_tuple.specs.Keys.{AreKeyEdges, KeyEdge, edge_at, part_of, some_nonzero};
+ghost use Rattle.digit_tuple.specs.KeySpans.{AreSpans, edges_in};
 
 use crate::edges::Edge;
 use crate::faults::OutOfMemory;
 use std::alloc::Global;
 use std::marker::Model;
+use std::mem;
 
-/// Edges from a key, each a letter and the key that it leads to, in one buffer that is used again.
+/// Edges from a key, each a letter and the key that it leads to, in one buffer that is used again. Beside
+/// them there is a spare buffer, in which numbers may be gathered before they are edges.
 #[derive(Drop)]
 pub struct KeyEdges {
     spans: Vec<KeySpan>,
     numbers: Vec<u32>,
+    spare: Vec<u32>,
 }
 
 // The letter of an edge, and where its key stands among the numbers.
@@ -43,6 +48,7 @@ impl KeyEdges {
         KeyEdges {
             spans: Vec::new(alloc),
             numbers: Vec::new(alloc),
+            spare: Vec::new(alloc),
         }
     }
 
@@ -76,6 +82,41 @@ impl KeyEdges {
     {
         self.spans.clear();
         self.numbers.clear();
+    }
+
+    /// Takes the spare buffer out, as an empty list, which keeps the memory that a list given back had.
+    pub fn take_spare(&mut self, alloc: Global) -> Vec<u32>
+        ensures list { result.items ≡ [] }
+        ensures edges { self.new ≡ self.old }
+    {
+        let mut list = mem::replace(&mut self.spare, Vec::new(alloc));
+        list.clear();
+        list
+    }
+
+    /// Gives a list back, whose memory is the spare buffer from then on.
+    pub fn give_spare(&mut self, list: Vec<u32>)
+        ensures { self.new ≡ self.old }
+    {
+        self.spare = list;
+    }
+
+    /// Makes each letter in turn lead to its part of the numbers, which has so many, unless all of them are 0.
+    /// The numbers are not copied, and the buffer that they replace is the spare one from then on. After a refused
+    /// call some of the edges are missing.
+    pub fn lead_to_parts(
+        &mut self,
+        numbers: Vec<u32>,
+        letters: u32,
+        width: u32,
+    ) -> Result<(), OutOfMemory>
+        requires room { length numbers.items ≡ letters * width }
+        requires empty { self.old ≡ [] }
+        ensures { OnOk result (AreKeyEdges letters (λ letter. some_nonzero (part_of numbers.items width letter)) self.new) }
+    {
+        self.spans.clear();
+        self.spare = mem::replace(&mut self.numbers, numbers);
+        add_parts(&mut self.spans, &self.numbers, letters, width)
     }
 
     /// Adds an edge. A refused call leaves the edges.
@@ -112,4 +153,33 @@ fn add_targets(numbers: &mut Vec<u32>, edges: &[Edge]) -> Result<(), OutOfMemory
         numbers.push(edge.target)?;
     }
     Ok(())
+}
+
+// Adds for each letter in turn where its part of the numbers stands, unless all of them are 0.
+fn add_parts(
+    spans: &mut Vec<KeySpan>,
+    numbers: &[u32],
+    letters: u32,
+    width: u32,
+) -> Result<(), OutOfMemory>
+    requires room { length numbers.now ≡ letters * width }
+    requires empty { spans.old.items ≡ [] }
+    ensures within { AreSpans (length numbers.now) spans.new.items }
+    ensures parts { OnOk result (AreKeyEdges letters (λ letter. some_nonzero (part_of numbers.now width letter)) (edges_in numbers.now spans.new.items)) }
+{
+    for letter in 0..letters {
+        let start = letter as usize * width as usize;
+        let end = start + width as usize;
+        if has_nonzero(&numbers[start..end]) {
+            spans.push(KeySpan { letter, start, end })?;
+        }
+    }
+    Ok(())
+}
+
+// Whether a number is not 0.
+fn has_nonzero(numbers: &[u32]) -> bool
+    ensures { result ≡ list_any (λ number. not (number == 0)) numbers.now }
+{
+    numbers.iter().any(|number| *number != 0)
 }

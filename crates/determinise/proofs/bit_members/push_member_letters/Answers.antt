@@ -1,8 +1,8 @@
 use Rattle.std.proofs.Common.{ℕ, ◌≡◌, ◌+◌, List, ◌++◌, Option, sym, ap, ◌∙◌, subst}
 use Rattle.digit_tuple.specs.Groups.{some_set}
-use Rattle.digit_tuple.specs.Keys.{AreKeyEdges}
-use Rattle.determinise.specs.Bits.{edges_to, members_in, part_of}
-use Rattle.determinise.proofs.KeyEdgeLemmas.{AreKeyEdges-more}
+use Rattle.digit_tuple.specs.Keys.{AreKeyEdges, edges_to, part_of}
+use Rattle.determinise.specs.Bits.{members_in}
+use Rattle.digit_tuple.proofs.LetterKeyEdges.{AreKeyEdges-more}
 use Rattle.determinise.proofs.bit_members.push_member_letters.Goals as goal
 
 pub loop-letter-preserved : goal.loop-letter-preserved

@@ -1,6 +1,6 @@
 use Rattle.digit_tuple.specs.Groups.{some_set}
-use Rattle.digit_tuple.specs.Keys.{AreKeyEdges}
-use Rattle.determinise.specs.Bits.{members_in, part_of}
+use Rattle.digit_tuple.specs.Keys.{AreKeyEdges, part_of}
+use Rattle.determinise.specs.Bits.{members_in}
 use Rattle.determinise.proofs.bit_members.push_member_letters.Given as goal
 
 abbrev pub invariant-loop-letter : goal.invariant-loop-letter

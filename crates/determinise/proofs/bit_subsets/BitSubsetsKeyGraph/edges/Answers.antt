@@ -8,14 +8,14 @@ use Rattle.determinise.proofs.BitSetLemmas.{HasMember-bits_of, length-bits_of}
 use Rattle.determinise.proofs.BitSubsetLemmas.{AreKeyEdges-rows, small_set, few_words}
 use Rattle.determinise.proofs.bit_subsets.BitSubsetsKeyGraph.edges.Goals as goal
 
-pub united-requires-clause-few : goal.united-requires-clause-few
-united-requires-clause-few c =
+pub unite-requires-clause-few : goal.unite-requires-clause-few
+unite-requires-clause-few c =
     let n = c.args.self.now.nfa.now in
     let few = few_words (states_of n) c.requires.graph.2 in
     omega (arith, ap length c.requires.key.bits ∙ length-bits_of (words_of (states_of n)) c.requires.key.set, few)
 
-pub united-requires-clause-there : goal.united-requires-clause-there
-united-requires-clause-there c q has =
+pub unite-requires-clause-there : goal.unite-requires-clause-there
+unite-requires-clause-there c q has =
     let n = c.args.self.now.nfa.now in
     let key = c.requires.key in
     let member = (HasMember-bits_of (words_of (states_of n)) key.set (small_set n c.requires.graph.1.table key.set key.is_set.in_range) q).0 (subst (λ ws. HasMember ws q) key.bits has) in
@@ -24,7 +24,7 @@ united-requires-clause-there c q has =
 
 pub returns : goal.returns
 returns c =
-    on_ok_weaker c.push_letters.result
+    on_ok_weaker c.lead_to_parts.result
     (AreKeyEdges-rows c.args.self.now.nfa.now c.requires.graph.1.table c.args.self.now.rows.now c.requires.graph.1 c.args.key.now c.requires.key (rows_in c.deref.result.now) (ap rows_in c.deref.ensures.value)
-    c.deref-2.result.now c.in_ok-words.words.items c.deref-2.ensures.value c.in_ok-words.ensures.length c.in_ok-words.ensures.bits c.push_letters.new.out)
-    c.push_letters.ensures
+    c.unite.new.words.items c.in_ok-unite.ensures.length c.in_ok-unite.ensures.bits c.lead_to_parts.new.self)
+    c.lead_to_parts.ensures

@@ -1,12 +1,14 @@
-use Rattle.std.proofs.Common.{ap}
-use Rattle.std.proofs.lemmas.Result.{on_ok_weaker}
+use Rattle.std.proofs.Common.{sym, ap, subst}
+use Rattle.digit_tuple.specs.Automaton.{letters_of}
+use Rattle.digit_tuple.specs.Keys.{AreKeyEdges}
 use Rattle.determinise.specs.Bits.{rows_in}
+use Rattle.determinise.specs.Subsets.{set_after}
 use Rattle.determinise.proofs.BitSubsetLemmas.{AreKeyEdges-row_lists}
 use Rattle.determinise.proofs.row_subsets.RowSubsetsKeyGraph.edges.Goals as goal
 
 pub returns : goal.returns
 returns c =
-    on_ok_weaker c.push_member_letters.result
-    (AreKeyEdges-row_lists c.args.self.now.nfa.now c.args.self.now.rows.now c.requires.graph.1 c.args.key.now c.requires.key (rows_in c.deref-2.result.now) (ap rows_in c.deref-2.ensures.value)
-    c.deref-3.result.now c.in_ok-words.words.items c.deref-3.ensures.value c.in_ok-words.ensures.length c.in_ok-words.ensures.bits c.push_member_letters.new.out)
-    c.push_member_letters.ensures
+    let n = c.args.self.now.nfa.now in
+    subst (AreKeyEdges (letters_of n) (set_after n c.args.key.now)) (sym c.give_spare.ensures)
+    (AreKeyEdges-row_lists n c.args.self.now.rows.now c.requires.graph.1 c.args.key.now c.requires.key (rows_in c.deref-2.result.now) (ap rows_in c.deref-2.ensures.value)
+    c.deref-3.result.now c.gather.new.words.items c.deref-3.ensures.value c.in_ok-gather.ensures.length c.in_ok-gather.ensures.bits c.push_member_letters.new.out c.in_ok-push_member_letters.ensures)

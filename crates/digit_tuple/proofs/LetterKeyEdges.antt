@@ -5,9 +5,8 @@ use Rattle.std.specs.List.{All}
 use Rattle.std.proofs.lemmas.Bool.{cases_eq, ne_eqb}
 use Rattle.std.proofs.lemmas.List.Elements.{All-push}
 use Rattle.std.proofs.lemmas.List.Quantifiers.{all_pairs_push}
-use Rattle.digit_tuple.specs.Keys.{KeyEdge, AreKeyEdges, IsByEarlier, key_by}
+use Rattle.digit_tuple.specs.Keys.{KeyEdge, AreKeyEdges, IsByEarlier, key_by, edges_to}
 use Rattle.digit_tuple.proofs.GroupLemmas.{key_by-push, key_by-push_other}
-use Rattle.determinise.specs.Bits.{edges_to}
 
 -- no edge is by a letter past all
 key_by-past : (letter : ℕ) (edges : List KeyEdge) → All (λ edge. edge.letter < letter) edges → key_by edges letter ≡ None

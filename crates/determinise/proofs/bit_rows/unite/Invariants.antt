@@ -1,7 +1,7 @@
 use Rattle.std.proofs.Common.{◌≡◌, ℕ, length, ◌↔◌}
 use Rattle.determinise.specs.Bits.{HasBit, rows_in}
 use Rattle.determinise.proofs.BitRowLemmas.{MembersHave}
-use Rattle.determinise.proofs.bit_rows.united.Given as goal
+use Rattle.determinise.proofs.bit_rows.unite.Given as goal
 
 abbrev pub invariant-loop-place : goal.invariant-loop-place
 invariant-loop-place l = record {

@@ -5,7 +5,7 @@ use Rattle.std.proofs.lemmas.List.{take_all, take_at}
 use Rattle.determinise.specs.declared.bit_words.BitWord.{BitWord}
 use Rattle.determinise.specs.Bits.{AreGathered, AreSet, row_at, rows_in}
 use Rattle.determinise.proofs.BitRowLemmas.{AreGathered-more, row_at-in}
-use Rattle.determinise.proofs.bit_rows.gathered.Goals as goal
+use Rattle.determinise.proofs.bit_rows.gather.Goals as goal
 
 pub loop-state-preserved : goal.loop-state-preserved
 loop-state-preserved c =

@@ -2,7 +2,7 @@ use Rattle.std.proofs.Common.{◌≡◌, ℕ, ◌+◌, ◌*◌, ◌<◌, ◌^◌
 use Rattle.std.proofs.lemmas.List.{take_at}
 use Rattle.determinise.specs.Bits.{HasBit, AreRowsSet, rows_in}
 use Rattle.determinise.proofs.BitRowLemmas.{MembersHave, MembersHave-more, MembersHave-all, member_at}
-use Rattle.determinise.proofs.bit_rows.united.Goals as goal
+use Rattle.determinise.proofs.bit_rows.unite.Goals as goal
 
 pub set_rows-requires-clause-there : goal.set_rows-requires-clause-there
 set_rows-requires-clause-there c bit is =

@@ -1,6 +1,6 @@
 use Rattle.std.proofs.Common.{◌≡◌, length, take}
 use Rattle.determinise.specs.Bits.{AreGathered, rows_in}
-use Rattle.determinise.proofs.bit_rows.gathered.Given as goal
+use Rattle.determinise.proofs.bit_rows.gather.Given as goal
 
 abbrev pub invariant-loop-state : goal.invariant-loop-state
 invariant-loop-state l = record {
