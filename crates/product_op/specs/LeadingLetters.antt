@@ -1,6 +1,6 @@
 -- Letters by which states lead on.
-use Rattle.std.specs.Prelude.{◌≡◌, ℕ, ◌<◌, List, Option, None}
-use Rattle.std.specs.List.{All, AllPairs, Contains, flat_map}
+use Rattle.std.specs.Prelude.{◌≡◌, ℕ, ◌<◌, ◌⊎◌, List, [], Option, None}
+use Rattle.std.specs.List.{All, AllPairs, Contains, flat_map, range_with_len}
 use Rattle.digit_tuple.specs.Deterministic.{edges_of}
 use Rattle.digit_tuple.specs.Keys.{KeyEdge}
 use Rattle.digit_tuple.specs.PartIndex.{letters_with}
@@ -15,6 +15,10 @@ pub record AreLeading (letters : ℕ) (after : ℕ → Option (List ℕ)) (some 
   pub in_range : All (λ a. a < letters) some
   pub ascending : AllPairs (λ a b. a < b) some
   pub others : (a : ℕ) → a < letters → ¬ Contains some a → after a ≡ None
+
+-- none of the letters, or all of them
+abbrev pub AreFewLetters : ℕ → List ℕ → Type 0
+AreFewLetters letters few = (few ≡ []) ⊎ (few ≡ range_with_len 0 letters)
 
 -- the edge by the letter to the key
 abbrev pub key_edge : ℕ → List ℕ → KeyEdge

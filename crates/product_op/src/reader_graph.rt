@@ -1,12 +1,12 @@
 //! The graph of the states that letters lead automata to that read side by side.
 
-ghost use Rattle.std.specs.Prelude.{◌≡◌, ◌++◌, ◌<◌, ℕ, List, length, IfOk, OnOk};
+ghost use Rattle.std.specs.Prelude.{◌≡◌, ◌++◌, ◌<◌, ℕ, List, [], length, IfOk, OnOk};
 ghost use Rattle.std.specs.Option.{option_map, option_to_list};
 ghost use Rattle.digit_tuple.specs.Keys.{AreKeyEdges};
 ghost use Rattle.product_op.specs.Readings.{readings_in, AreSideBySide, AreStates, first_key, flags_at, combined};
 ghost use Rattle.product_op.specs.ReadingLaws.{first_is_key, live_key_is_key};
 ghost use Rattle.product_op.specs.SinkKeys.{is_dead_key, live_key, live_key_after};
-ghost use Rattle.product_op.specs.LeadingLetters.{AreLeading, key_edge};
+ghost use Rattle.product_op.specs.LeadingLetters.{AreFewLetters, AreLeading, key_edge};
 
 use crate::next_row::next_rows;
 use crate::numbers_below::numbers_below;
@@ -22,19 +22,32 @@ use std::alloc::Global;
 // So many letters are all tried, since to gather those with an edge would take longer.
 const FEW_LETTERS: u32 = 32;
 
-/// Automata that read side by side, the rule by which they accept, and how many letters there are.
-/// A key has a state of each. Where all are sinks and the rule refuses, there is no key.
+/// All letters below this number where they are few, else none.
+pub fn few_letters(alloc: Global, letters: u32) -> Result<Vec<u32>, OutOfMemory>
+    ensures { IfOk result (λ few. AreFewLetters letters few.items) }
+{
+    if letters <= FEW_LETTERS {
+        numbers_below(alloc, letters)
+    } else {
+        Ok(Vec::new(alloc))
+    }
+}
+
+/// Automata that read side by side, the rule by which they accept, how many letters there are, and
+/// all of them where they are few, else none. A key has a state of each. Where all are sinks and the
+/// rule refuses, there is no key.
 #[derive(Clone, Copy)]
 pub struct SideBySide<'a> {
     pub readers: &'a [Reader<'a>],
     pub rule: Rule,
     pub letters: u32,
+    pub few: &'a [u32],
 }
 
 impl KeyGraph for SideBySide<'_> {
     ghost letters = { λ s. s.letters };
 
-    ghost is_graph = { λ s. AreSideBySide s.letters (readings_in s.readers.now) s.rule };
+    ghost is_graph = { λ s. AreSideBySide s.letters (readings_in s.readers.now) s.rule × AreFewLetters s.letters s.few.now };
 
     ghost is_key = { λ s. AreStates (readings_in s.readers.now) };
 
@@ -44,9 +57,9 @@ impl KeyGraph for SideBySide<'_> {
 
     ghost accepts = { λ s key. combined s.rule (flags_at (readings_in s.readers.now) key) };
 
-    ghost start_is_key = { λ s graph. first_is_key s.letters (readings_in s.readers.now) graph.readings_are };
+    ghost start_is_key = { λ s graph. first_is_key s.letters (readings_in s.readers.now) graph.0.readings_are };
 
-    ghost after_is_key = { λ s key letter graph is small. live_key_is_key s.letters (readings_in s.readers.now) graph.readings_are s.rule key letter };
+    ghost after_is_key = { λ s key letter graph is small. live_key_is_key s.letters (readings_in s.readers.now) graph.0.readings_are s.rule key letter };
 
     fn first_key(&self, alloc: Global) -> Result<Vec<u32>, OutOfMemory> {
         first_states(alloc, self.readers)
@@ -54,15 +67,11 @@ impl KeyGraph for SideBySide<'_> {
 
     fn edges(&self, alloc: Global, key: &[u32], out: &mut KeyEdges) -> Result<(), OutOfMemory> {
         let mut edges = Vec::new(alloc);
-        let letters = self.leading_letters(alloc, key, &mut edges)?;
-        let rows = next_rows(alloc, self.readers, key, letters.len(), &mut edges)?;
-        let mut states = vec![in alloc; 0; self.readers.len()]?;
-        let next = states.as_mut_slice();
-        for letter in &letters {
-            next_states(self.readers, key, &rows, *letter, next);
-            self.push_live(*letter, next, out)?;
+        if !self.few.is_empty() {
+            return self.push_edges(key, self.few, &mut edges, out);
         }
-        Ok(())
+        let letters = self.leading_letters(alloc, key, &mut edges)?;
+        self.push_edges(key, &letters, &mut edges, out)
     }
 
     fn is_accepting(&self, key: &[u32]) -> bool {
@@ -88,8 +97,8 @@ impl SideBySide<'_> {
     }
 
     // Letters in order, such that each other leads to no key: those by whose parts an edge leads on
-    // from some state, or all where these are not fewer, or where there is a key of sinks or letters are
-    // few. The edges are written over.
+    // from some state, or all where these are not fewer, or where there is a key of sinks. The edges are
+    // written over.
     fn leading_letters(
         &self,
         alloc: Global,
@@ -100,9 +109,6 @@ impl SideBySide<'_> {
         requires key { AreStates (readings_in self.now.readers.now) key.now }
         ensures { IfOk result (λ letters. AreLeading self.now.letters (live_key_after self.now.rule (readings_in self.now.readers.now) key.now) letters.items) }
     {
-        if self.letters <= FEW_LETTERS {
-            return numbers_below(alloc, self.letters);
-        }
         if !self.rule.refuses_all_sinks(self.readers.len()) {
             return numbers_below(alloc, self.letters);
         }
@@ -116,6 +122,33 @@ impl SideBySide<'_> {
         letters.sort_unstable();
         letters.dedup();
         Ok(letters)
+    }
+
+    // Adds the edges from a key by these letters. The row is written over.
+    fn push_edges(
+        &self,
+        key: &[u32],
+        letters: &[u32],
+        row: &mut Vec<Edge>,
+        out: &mut KeyEdges,
+    ) -> Result<(), OutOfMemory>
+        requires graph { AreSideBySide self.now.letters (readings_in self.now.readers.now) self.now.rule }
+        requires key { AreStates (readings_in self.now.readers.now) key.now }
+        requires letters { AreLeading self.now.letters (live_key_after self.now.rule (readings_in self.now.readers.now) key.now) letters.now }
+        requires empty { out.old ≡ [] }
+        ensures { OnOk result (AreKeyEdges self.now.letters (live_key_after self.now.rule (readings_in self.now.readers.now) key.now) out.new) }
+    {
+        let alloc = *row.allocator();
+        let rows = next_rows(alloc, self.readers, key, letters.len(), row)?;
+        let mut states = out.take_spare(alloc);
+        states.resize(self.readers.len(), 0)?;
+        let next = states.as_mut_slice();
+        for letter in letters {
+            next_states(self.readers, key, &rows, *letter, next);
+            self.push_live(*letter, next, out)?;
+        }
+        out.give_spare(states);
+        Ok(())
     }
 
     // Adds an edge to these states, unless no word is accepted from them.

@@ -10,7 +10,7 @@ ghost use Rattle.minimise.specs.Canonical.{IsCanonical};
 ghost use Rattle.product_op.specs.Readings.{readings_in, AreSideBySide, AreCanonical, AreAlike, flags_of, combined};
 
 use crate::reader::Reader;
-use crate::reader_graph::SideBySide;
+use crate::reader_graph::{SideBySide, few_letters};
 use crate::reader_states::first_states;
 use crate::rule::Rule;
 use digit_tuple::alphabet::Alphabet;
@@ -78,10 +78,13 @@ fn side_by_side(
     ensures states { IsErrOf result OpFault.States → HasApart (AreAlike (readings_in readers.now)) (product alphabet) (limit + 1) }
     ensures no_letters { ¬ IsErrOf result OpFault.Letters }
 {
+    let letters = alphabet.letters();
+    let few = few_letters(alloc, letters)?;
     let graph = SideBySide {
         readers,
         rule,
-        letters: alphabet.letters(),
+        letters,
+        few: few.as_slice(),
     };
     let first = first_states(alloc, readers)?;
     if graph.is_dead(&first) {

@@ -11,7 +11,7 @@ ghost use Rattle.product_op.specs.Readings.{readings_in, AreReadings};
 ghost use Rattle.product_op.specs.Tuples.{AreTuples, LeadToOne};
 
 use crate::reader::Reader;
-use crate::reader_graph::SideBySide;
+use crate::reader_graph::{SideBySide, few_letters};
 use crate::reader_states::first_states;
 use crate::rule::Rule;
 use digit_tuple::alphabet::Alphabet;
@@ -45,10 +45,13 @@ pub fn explore_tuples(
     ensures states { IsErrOf result OpFault.States → HasApart (LeadToOne (readings_in readers.now)) (product alphabet) (limit + 1) }
     ensures no_letters { ¬ IsErrOf result OpFault.Letters }
 {
+    let letters = alphabet.letters();
+    let few = few_letters(alloc, letters)?;
     let graph = SideBySide {
         readers,
         rule: Rule::All,
-        letters: alphabet.letters(),
+        letters,
+        few: few.as_slice(),
     };
     let first = first_states(alloc, readers)?;
     if graph.is_dead(&first) {

@@ -54,7 +54,7 @@ returns-clause-tuples c =
     IfOk-three c.explore_keys.result _ _ _ _
     (λ stepped table explored keys.
     AreTuples-live rs rules.All live (product c.args.alphabet) (λ key. combined rules.All (flags_at rs key)) stepped.result.keys stepped.result.dfa
-    (subst (λ n. IsExplored n (first_key rs) (live_key_after rules.All rs) (λ key. combined rules.All (flags_at rs key)) stepped.result.keys stepped.result.dfa) c.letters.ensures.value explored) table.initial keys)
+    (subst (λ n. IsExplored n (first_key rs) (live_key_after rules.All rs) (λ key. combined rules.All (flags_at rs key)) stepped.result.keys stepped.result.dfa) c.letters-letters.ensures.value explored) table.initial keys)
     c.explore_keys.ensures.table c.explore_keys.ensures.explored c.explore_keys.ensures.keys
 
 pub returns-clause-width : goal.returns-clause-width
@@ -63,7 +63,7 @@ returns-clause-width c =
     let first = c.deref.ensures.value ∙ c.in_ok-first.ensures in
     let live : is_dead_key rules.All rs (first_key rs) ≡ false = ap (is_dead_key rules.All rs) (sym first) ∙ sym c.is_dead.ensures ∙ c.if-is_dead.false in
     IfOk-weaker c.explore_keys.result _ _
-    (λ stepped width. width-live rs rules.All live (product c.args.alphabet) stepped.width (subst (λ n. HasWidth (LeadAlike (live_key_after rules.All rs) (first_key rs)) n stepped.width) c.letters.ensures.value width))
+    (λ stepped width. width-live rs rules.All live (product c.args.alphabet) stepped.width (subst (λ n. HasWidth (LeadAlike (live_key_after rules.All rs) (first_key rs)) n stepped.width) c.letters-letters.ensures.value width))
     c.explore_keys.ensures.width
 
 pub returns-clause-states : goal.returns-clause-states
@@ -72,4 +72,4 @@ returns-clause-states c refused =
     let first = c.deref.ensures.value ∙ c.in_ok-first.ensures in
     let live : is_dead_key rules.All rs (first_key rs) ≡ false = ap (is_dead_key rules.All rs) (sym first) ∙ sym c.is_dead.ensures ∙ c.if-is_dead.false in
     apart-live rs rules.All live (product c.args.alphabet) (c.args.limit + 1)
-    (subst (λ n. HasApart (LeadAlike (live_key_after rules.All rs) (first_key rs)) n (c.args.limit + 1)) c.letters.ensures.value (c.explore_keys.ensures.states refused))
+    (subst (λ n. HasApart (LeadAlike (live_key_after rules.All rs) (first_key rs)) n (c.args.limit + 1)) c.letters-letters.ensures.value (c.explore_keys.ensures.states refused))

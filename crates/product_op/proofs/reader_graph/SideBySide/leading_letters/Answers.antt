@@ -8,15 +8,10 @@ use Rattle.product_op.proofs.ReaderLemmas.{length-readings, reading_at-reader}
 use Rattle.product_op.proofs.FoundLetters.{letters_to, letters_to_more, AreLeading-found, AreLeading-all}
 use Rattle.product_op.proofs.reader_graph.SideBySide.leading_letters.Goals as goal
 
-pub returns-then-self-le-FEW_LETTERS : goal.returns-then-self-le-FEW_LETTERS
-returns-then-self-le-FEW_LETTERS c =
-    let s = c.args.self.now in
-    IfOk-weaker c.numbers_below.result _ _ (λ letters are. AreLeading-all s.letters (live_key_after s.rule (readings_in s.readers.now) c.args.key.now) letters.items are) c.numbers_below.ensures
-
 pub returns-then-not-refuses_all_sinks : goal.returns-then-not-refuses_all_sinks
 returns-then-not-refuses_all_sinks c =
     let s = c.args.self.now in
-    IfOk-weaker c.numbers_below-then-not-refuses_all_sinks.result _ _ (λ letters are. AreLeading-all s.letters (live_key_after s.rule (readings_in s.readers.now) c.args.key.now) letters.items are) c.numbers_below-then-not-refuses_all_sinks.ensures
+    IfOk-weaker c.numbers_below.result _ _ (λ letters are. AreLeading-all s.letters (live_key_after s.rule (readings_in s.readers.now) c.args.key.now) letters.items are) c.numbers_below.ensures
 
 pub returns-then-len-self : goal.returns-then-len-self
 returns-then-len-self c =

@@ -1,36 +1,14 @@
-use Rattle.std.proofs.Common.{◌++◌, get_or, take, sym, ap, ◌∙◌, subst}
-use Rattle.std.specs.Option.{option_map, option_to_list}
-use Rattle.std.proofs.lemmas.List.{take_all}
-use Rattle.digit_tuple.specs.Keys.{AreKeyEdges}
+use Rattle.std.proofs.Common.{◌==◌, ℕ, List, length, inl, inr, sym, ap, ◌∙◌}
+use Rattle.std.proofs.lemmas.Bool.{false≢true}
 use Rattle.product_op.specs.Readings.{readings_in}
-use Rattle.product_op.specs.SinkKeys.{live_key, live_key_after}
-use Rattle.product_op.specs.LeadingLetters.{AreLeading, key_edge}
-use Rattle.product_op.proofs.LeadingLemmas.{edges_by, edges_by_more, AreKeyEdges-leading}
+use Rattle.product_op.specs.SinkKeys.{live_key_after}
+use Rattle.product_op.specs.LeadingLetters.{AreFewLetters, AreLeading}
+use Rattle.product_op.proofs.FoundLetters.{AreLeading-all}
 use Rattle.product_op.proofs.reader_graph.SideBySideKeyGraph.edges.Goals as goal
 
-pub next_states-requires-clause-readers : goal.next_states-requires-clause-readers
-next_states-requires-clause-readers c =
-    let s = c.args.self.now in
-    let are = subst (AreLeading s.letters (live_key_after s.rule (readings_in s.readers.now) c.args.key.now)) (sym c.deref-letter-items.ensures.value) c.in_ok-letters.ensures in
-    (s.letters, c.requires.graph.readings_are, are.in_range c.loop-letter.letter-index 0 c.loop-letter-test.true)
-
-pub loop-letter-preserved : goal.loop-letter-preserved
-loop-letter-preserved c =
-    let s = c.args.self.now in
-    let rs = readings_in s.readers.now in
-    let after = live_key_after s.rule rs c.args.key.now in
-    let letters = c.deref-letter-items.result.now in
-    let place = c.loop-letter.letter-index in
-    let letter = get_or letters place 0 in
-    c.in_ok-push_live.ensures
-    ∙ ap (λ es. es ++ option_to_list (option_map (key_edge letter) (live_key s.rule rs c.next_states.new.next))) c.loop-letter.invariant
-    ∙ ap (λ key. edges_by after (take place letters) ++ option_to_list (option_map (key_edge letter) (live_key s.rule rs key))) c.next_states.ensures
-    ∙ sym (edges_by_more after letters place c.loop-letter-test.true)
-
-pub returns : goal.returns
-returns c =
-    let s = c.args.self.now in
-    let after = live_key_after s.rule (readings_in s.readers.now) c.args.key.now in
-    let letters = c.deref-letter-items.result.now in
-    let all = c.loop-letter.invariant ∙ ap (edges_by after) (take_all c.loop-letter.letter-index letters c.loop-letter-test.false ∙ c.deref-letter-items.ensures.value) in
-    subst (AreKeyEdges s.letters after) (sym all) (AreKeyEdges-leading s.letters after c.in_ok-letters.letters.items c.in_ok-letters.ensures)
+pub push_edges-requires-clause-letters : goal.push_edges-requires-clause-letters
+push_edges-requires-clause-letters c = by c.requires.graph.1
+  where
+    by : AreFewLetters c.args.self.now.letters c.args.self.now.few.now → AreLeading c.args.self.now.letters (live_key_after c.args.self.now.rule (readings_in c.args.self.now.readers.now) c.args.key.now) c.args.self.now.few.now
+    by (inl none) = absurd (false≢true (sym c.if-not-is_empty.true ∙ c.is_empty.ensures ∙ ap (λ (ns : List ℕ). length ns == 0) none))
+    by (inr all) = AreLeading-all c.args.self.now.letters (live_key_after c.args.self.now.rule (readings_in c.args.self.now.readers.now) c.args.key.now) c.args.self.now.few.now all
