@@ -145,6 +145,14 @@ module _ (d : Automaton) (starts : List ℕ) (letters : Option (List ℕ)) (targ
       edge : (z : Edge) → get_or (edges_of d q) (place - class_of starts q) z ≡ flat_edge letters targets (class_of starts q) place
       edge z = flat.edges q (place - class_of starts q) z less inside ∙ ap (flat_edge letters targets (class_of starts q)) back
 
+  -- where letters are places, an edge is by the letter of its place
+  pub edge_by_place : letters ≡ None → (q k : ℕ) (z : Edge) → q < states_of d → k < length (edges_of d q) → get_or (edges_of d q) k z ≡ record { letter = k; target = class_of targets (class_of starts q + k) }
+  edge_by_place none q k z less inside =
+      let letter : class_of starts q + k - class_of starts q ≡ k = omega arith in
+      flat.edges q k z less inside
+      ∙ ap (λ (ls : Option (List ℕ)). flat_edge ls targets (class_of starts q) (class_of starts q + k)) none
+      ∙ ap (λ (l : ℕ). let e : Edge = record { letter = l; target = class_of targets (class_of starts q + k) } in e) letter
+
   -- the start that is read
   pub start_read : (q start : ℕ) → q ≤ states_of d → start ≡ get_or starts q start → start ≡ class_of starts q
   start_read q start low is = is ∙ get_or_default starts q start 0 (omega (arith, low, flat.width))

@@ -1,33 +1,95 @@
 -- Hashes of states.
-use Rattle.std.proofs.Common.{◌≡◌, ◌≢◌, ℕ, ◌+◌, ◌<◌, List, [], ◌∷◌, ◌++◌, take, length, get_or, refl, sym, ap, ◌∙◌, arith}
+use Rattle.std.proofs.Common.{◌≡◌, ◌==◌, ℕ, zero, suc, ◌+◌, ◌-◌, ◌*◌, ◌%◌, ◌^◌, ◌<◌, ◌≤◌, ◌⊎◌, inl, inr, Bool, true, false, ◌&&◌, nat_le, nat_lt, if◌then◌else◌, List, [], ◌∷◌, ◌++◌, take, length, get_or, refl, sym, ap, ◌∙◌, arith}
+use Rattle.std.proofs.lemmas.Bool.{cases_lt, and_left, and_right, lt-leb, le-ltb}
+use Rattle.std.proofs.lemmas.List.{take_more, take_all}
 use Rattle.digit_tuple.specs.Deterministic.{Automaton, IsTable, letters_of, states_of, edges_of}
 use Rattle.digit_tuple.specs.KeyHashes.{mixed}
 use Rattle.digit_tuple.specs.declared.edges.Edge.{Edge}
 use Rattle.minimise.specs.Classes.{class_of, dead_class}
 use Rattle.minimise.specs.CoarseClasses.{AreCoarseClasses, AreCoarseNumbers}
 use Rattle.minimise.specs.FirstPlaces.{AreFirstPlaces}
-use Rattle.minimise.specs.Hashes.{AreHashed, hash_edges, hash_of, output_hash}
+use Rattle.minimise.specs.Hashes.{AreHashed, hash_edge, hash_edges, hash_of, output_hash}
 use Rattle.minimise.specs.Refinement.{AreAlike}
 use Rattle.minimise.specs.Signatures.{class_edges}
 use Rattle.minimise.proofs.FirstPlaceLemmas.{All-first_places, same_first_place}
 use Rattle.minimise.proofs.ResidualLemmas.{alike_residual}
-use Rattle.minimise.proofs.SignatureLemmas.{class_edge, class_edges-dead, class_edges-live}
+use Rattle.minimise.proofs.SignatureLemmas.{class_edge, class_edges-push}
 use Rattle.minimise.proofs.StabilityLemmas.{rows_from_alike}
 
--- one more edge
-hash_edges-push : (hash : ℕ) (es : List Edge) (e : Edge) → hash_edges hash (es ++ e ∷ []) ≡ mixed (mixed (hash_edges hash es) e.letter) e.target
-hash_edges-push hash [] e = refl
-hash_edges-push hash (f ∷ es) e = hash_edges-push (mixed (mixed hash f.letter) f.target) es e
+-- more edges
+hash_edges-append : (first end hash : ℕ) (es fs : List Edge) → hash_edges first end hash (es ++ fs) ≡ hash_edges first end (hash_edges first end hash es) fs
+hash_edges-append first end hash [] fs = refl
+hash_edges-append first end hash (e ∷ es) fs = hash_edges-append first end (hash_edge first end hash e) es fs
 
-module _ (hashes : List ℕ) (dead start : ℕ) (es : List Edge) (k : ℕ) (z : Edge) (within : k < length es) (hash : ℕ) (so_far : hash ≡ hash_edges start (class_edges hashes dead (take k es))) where
-  pub hash_edges-dead : class_of hashes (get_or es k z).target ≡ dead → hash ≡ hash_edges start (class_edges hashes dead (take (k + 1) es))
-  hash_edges-dead is = so_far ∙ ap (hash_edges start) (class_edges-dead hashes dead es k z within is)
+-- the next edge of a row
+pub hash_edges-more : (first end start : ℕ) (hashes : List ℕ) (dead : ℕ) (es : List Edge) (k : ℕ) (z : Edge) → k < length es
+    → hash_edges first end (hash_edges first end start (class_edges hashes dead (take k es))) (class_edges hashes dead (get_or es k z ∷ [])) ≡ hash_edges first end start (class_edges hashes dead (take (k + 1) es))
+hash_edges-more first end start hashes dead es k z within = sym (ap (λ (fs : List Edge). hash_edges first end start (class_edges hashes dead fs)) (take_more es k z within)
+    ∙ ap (hash_edges first end start) (class_edges-push hashes dead (take k es) (get_or es k z))
+    ∙ hash_edges-append first end start (class_edges hashes dead (take k es)) (class_edges hashes dead (get_or es k z ∷ [])))
 
-  pub hash_edges-live : class_of hashes (get_or es k z).target ≢ dead → mixed (mixed hash (get_or es k z).letter) (class_of hashes (get_or es k z).target) ≡ hash_edges start (class_edges hashes dead (take (k + 1) es))
-  hash_edges-live other =
-      ap (λ h. mixed (mixed h (get_or es k z).letter) (class_of hashes (get_or es k z).target)) so_far
-      ∙ sym (hash_edges-push start (class_edges hashes dead (take k es)) (class_edge hashes (get_or es k z)))
-      ∙ ap (hash_edges start) (class_edges-live hashes dead es k z within other)
+module _ (first end start : ℕ) (hashes : List ℕ) (dead : ℕ) (es : List Edge) where
+  -- the hash with the first edges
+  abbrev pub so_far : ℕ → ℕ
+  so_far n = hash_edges first end start (class_edges hashes dead (take n es))
+
+  -- an edge that is not looked at
+  hash_edges-apart : (hash : ℕ) (e : Edge) → (nat_le first e.letter && nat_lt e.letter end) ≡ false → hash_edges first end hash (class_edges hashes dead (e ∷ [])) ≡ hash
+  hash_edges-apart hash e apart = by (class_of hashes e.target == dead)
+    where
+      by : (b : Bool) → hash_edges first end hash (if b then [] else class_edge hashes e ∷ []) ≡ hash
+      by true = refl
+      by false = ap (λ (b : Bool). if b then mixed ((hash * 3 % 2 ^ 64 + e.letter) % 2 ^ 64) (class_of hashes e.target) else hash) apart
+
+  -- a letter before the first is not looked at
+  pub before_first : (letter : ℕ) → letter < first → (nat_le first letter && nat_lt letter end) ≡ false
+  before_first letter less = and_left (nat_le first letter) (nat_lt letter end) (lt-leb first letter less)
+
+  -- nor is one from the end on
+  from_end : (letter : ℕ) → end ≤ letter → (nat_le first letter && nat_lt letter end) ≡ false
+  from_end letter past = and_right (nat_le first letter) (nat_lt letter end) (le-ltb letter end past)
+
+  -- the next edge, where it is not looked at
+  pub hash_edges-skip : (k : ℕ) (z : Edge) → k < length es → (nat_le first (get_or es k z).letter && nat_lt (get_or es k z).letter end) ≡ false → so_far k ≡ so_far (k + 1)
+  hash_edges-skip k z inside apart = sym (hash_edges-apart (so_far k) (get_or es k z) apart) ∙ hash_edges-more first end start hashes dead es k z inside
+
+  -- the next edges, where they are not looked at
+  hash_edges-still : (m j : ℕ) (z : Edge) → m + j ≤ length es → ((k : ℕ) → m ≤ k → k < m + j → (nat_le first (get_or es k z).letter && nat_lt (get_or es k z).letter end) ≡ false) → so_far m ≡ so_far (m + j)
+  hash_edges-still m zero z inside apart = ap so_far (omega arith)
+  hash_edges-still m (suc j) z inside apart =
+      let next : m + j + 1 ≡ m + suc j = omega arith in
+      hash_edges-still m j z (omega (arith, inside)) (λ k after before. apart k after (omega (arith, before)))
+      ∙ hash_edges-skip (m + j) z (omega (arith, inside)) (apart (m + j) (omega arith) (omega arith))
+      ∙ ap so_far next
+
+  -- where the others are by letters from the end on
+  pub hash_edges-rest : (n : ℕ) (z : Edge) → ((k : ℕ) → n ≤ k → k < length es → end ≤ (get_or es k z).letter) → so_far n ≡ hash_edges first end start (class_edges hashes dead es)
+  hash_edges-rest n z past = by (cases_lt n (length es))
+    where
+      by : (n < length es) ⊎ (length es ≤ n) → so_far n ≡ hash_edges first end start (class_edges hashes dead es)
+      by (inl less) = hash_edges-still n (length es - n) z (omega (arith, less)) (λ k after before. from_end (get_or es k z).letter (past k after (omega (arith, before, less))))
+          ∙ ap (λ (fs : List Edge). hash_edges first end start (class_edges hashes dead fs)) (take_all (n + (length es - n)) es (omega (arith, less)))
+      by (inr all) = ap (λ (fs : List Edge). hash_edges first end start (class_edges hashes dead fs)) (take_all n es all)
+
+  -- where the letters of edges are their places
+  module _ (z : Edge) (full : (k : ℕ) → k < length es → (get_or es k z).letter ≡ k) where
+    -- those before the first letter
+    pub hash_edges-begin : start ≡ so_far first
+    hash_edges-begin = by (cases_lt first (length es))
+      where
+        low : (k : ℕ) → k < length es → k < first → (nat_le first (get_or es k z).letter && nat_lt (get_or es k z).letter end) ≡ false
+        low k inside less = before_first (get_or es k z).letter (omega (arith, full k inside))
+
+        by : (first < length es) ⊎ (length es ≤ first) → start ≡ so_far first
+        by (inl less) = let all : 0 + first ≡ first = omega arith in
+            hash_edges-still 0 first z (omega (arith, less)) (λ k after before. low k (omega (arith, before, less)) (omega (arith, before))) ∙ ap so_far all
+        by (inr past) = hash_edges-still 0 (length es) z (omega arith) (λ k after before. low k (omega (arith, before)) (omega (arith, before, past)))
+            ∙ ap (λ (fs : List Edge). hash_edges first end start (class_edges hashes dead fs)) (take_all (0 + length es) es (omega arith) ∙ sym (take_all first es past))
+
+    -- those from the end on
+    pub hash_edges-end : (n : ℕ) → (length es ≤ n) ⊎ (end ≤ n) → so_far n ≡ hash_edges first end start (class_edges hashes dead es)
+    hash_edges-end n (inl all) = ap (λ (fs : List Edge). hash_edges first end start (class_edges hashes dead fs)) (take_all n es all)
+    hash_edges-end n (inr past) = hash_edges-rest n z (λ k after inside. omega (arith, full k inside, after, past))
 
 module _ (d : Automaton) (outputs : List ℕ) (given : length outputs ≡ states_of d) where
   -- by their outputs
@@ -39,16 +101,16 @@ module _ (d : Automaton) (outputs : List ℕ) (given : length outputs ≡ states
 
   module _ (table : IsTable (letters_of d) d.states) where
     -- states that are alike have one hash
-    one_hash : (hashes : List ℕ) (p q : ℕ) → AreAlike d hashes p q → hash_of d hashes p ≡ hash_of d hashes q
-    one_hash hashes p q alike =
-        ap (λ (c : ℕ). hash_edges c (class_edges hashes (dead_class d hashes) (edges_of d p))) alike.own
-        ∙ ap (hash_edges (class_of hashes q)) (rows_from_alike d hashes table p q alike)
+    one_hash : (first end : ℕ) (hashes : List ℕ) (p q : ℕ) → AreAlike d hashes p q → hash_of d first end hashes p ≡ hash_of d first end hashes q
+    one_hash first end hashes p q alike =
+        ap (λ (c : ℕ). hash_edges first end c (class_edges hashes (dead_class d hashes) (edges_of d p))) alike.own
+        ∙ ap (hash_edges first end (class_of hashes q)) (rows_from_alike d hashes table p q alike)
 
-    -- after a round
-    pub AreCoarseNumbers-hashed : (old new : List ℕ) → AreCoarseNumbers d outputs old → AreHashed d old new → AreCoarseNumbers d outputs new
-    AreCoarseNumbers-hashed old new are hashed = record {
+    -- after a part of a round
+    pub AreCoarseNumbers-hashed : (first end : ℕ) (old new : List ℕ) → AreCoarseNumbers d outputs old → AreHashed d first end old new → AreCoarseNumbers d outputs new
+    AreCoarseNumbers-hashed first end old new are hashed = record {
       width = hashed.width;
-      coarse = λ p q small low same. hashed.are p small ∙ one_hash old p q (alike_residual d outputs given table old p q are.coarse small low same) ∙ sym (hashed.are q low);
+      coarse = λ p q small low same. hashed.are p small ∙ one_hash first end old p q (alike_residual d outputs given table old p q are.coarse small low same) ∙ sym (hashed.are q low);
     }
 
 -- states of one number have the class of the first that has it

@@ -1,50 +1,129 @@
 //! Hashes of states: one number for states that are alike, mostly different ones for others. Nothing
 //! rests on that they differ.
 
-ghost use Rattle.std.specs.Prelude.{◌≡◌, ◌+◌, ◌<◌, ◌≤◌, length};
+ghost use Rattle.std.specs.Prelude.{◌≡◌, ◌+◌, ◌<◌, ◌≤◌, [], ◌∷◌, None, length};
 ghost use Rattle.digit_tuple.specs.Deterministic.{edges_of, states_of};
 ghost use Rattle.minimise.specs.Classes.{dead_class};
-ghost use Rattle.minimise.specs.FlatEdges.{AreFlat};
+ghost use Rattle.minimise.specs.EdgeLetters.{listed};
+ghost use Rattle.minimise.specs.FlatEdges.{AreLaidOut};
 ghost use Rattle.minimise.specs.Signatures.{class_edges};
 ghost use Rattle.minimise.specs.Hashes.{hash_edges, hash_of};
 
-use crate::flat_edges::FlatEdges;
+use crate::edge_letters::EdgeLetters;
 use digit_tuple::dfa::Dfa;
+use digit_tuple::edges::Edge;
 use digit_tuple::key_hashes::mix;
 
-/// The hash of a state or the sink, by the hashes that all had before: of its own, and of the letters and the
-/// targets' hashes of its edges to states that had another hash than the sink.
-pub fn state_hash(dfa: &Dfa, flat: &FlatEdges, hashes: &[u64], state: u32) -> u64
-    requires flat { AreFlat dfa.now flat.now }
-    requires width { length hashes.now ≡ states_of dfa.now + 1 }
-    requires state { state ≤ states_of dfa.now }
-    ensures { result ≡ hash_of dfa.now hashes.now state }
-{
-    let own = hashes[state as usize];
-    if state == dfa.states() {
-        return own;
-    }
-    mix_edges(own, dfa, flat, hashes, state)
+/// The letters from a first one on to before an end.
+#[derive(Clone, Copy)]
+pub struct LetterSpan {
+    pub first: u32,
+    pub end: u32,
 }
 
-// The hash with the edges of a state to states that had another hash than the sink.
-fn mix_edges(start: u64, dfa: &Dfa, flat: &FlatEdges, hashes: &[u64], state: u32) -> u64
-    requires flat { AreFlat dfa.now flat.now }
-    requires width { length hashes.now ≡ states_of dfa.now + 1 }
-    requires state { state < states_of dfa.now }
-    ensures { result ≡ hash_edges start (class_edges hashes.now (dead_class dfa.now hashes.now) (edges_of dfa.now state)) }
-{
-    let dead = hashes[dfa.states() as usize];
-    let mut hash = start;
-    let first = flat.starts[state as usize] as usize;
-    for place in first..flat.starts[state as usize + 1] as usize {
-        let target = hashes[flat.targets[place] as usize];
-        if target != dead {
-            hash = mix(
-                mix(hash, u64::from(flat.letters.letter(first, place))),
-                target,
-            );
+/// What a part of a round reads: an automaton, its edges in a flat table, the hashes that its states and last the sink
+/// had, and the letters by which edges are looked at.
+#[derive(Clone, Copy)]
+pub struct RoundPart<'a> {
+    pub dfa: &'a Dfa,
+    pub starts: &'a [u32],
+    pub letters: &'a EdgeLetters,
+    pub targets: &'a [u32],
+    pub hashes: &'a [u64],
+    pub span: LetterSpan,
+}
+
+impl RoundPart<'_> {
+    /// The hash of a state or the sink: of the hash that it had, and of the letters and the targets' hashes of the
+    /// edges that are looked at and lead to states that had another hash than the sink.
+    pub fn state_hash(&self, state: u32) -> u64
+        requires flat { AreLaidOut self.now.dfa.now self.now.starts.now (listed self.now.letters.now) self.now.targets.now (states_of self.now.dfa.now) }
+        requires width { length self.now.hashes.now ≡ states_of self.now.dfa.now + 1 }
+        requires state { state ≤ states_of self.now.dfa.now }
+        ensures { result ≡ hash_of self.now.dfa.now self.now.span.first self.now.span.end self.now.hashes.now state }
+    {
+        let own = self.hashes[state as usize];
+        if state as usize + 1 == self.hashes.len() {
+            return own;
+        }
+        self.mix_edges(own, state)
+    }
+
+    // The hash with the edges of a state.
+    fn mix_edges(&self, start: u64, state: u32) -> u64
+        requires flat { AreLaidOut self.now.dfa.now self.now.starts.now (listed self.now.letters.now) self.now.targets.now (states_of self.now.dfa.now) }
+        requires width { length self.now.hashes.now ≡ states_of self.now.dfa.now + 1 }
+        requires state { state < states_of self.now.dfa.now }
+        ensures { result ≡ hash_edges self.now.span.first self.now.span.end start (class_edges self.now.hashes.now (dead_class self.now.dfa.now self.now.hashes.now) (edges_of self.now.dfa.now state)) }
+    {
+        match self.letters {
+            EdgeLetters::Full => self.mix_full(start, state),
+            EdgeLetters::Listed(_) => self.mix_listed(start, state),
         }
     }
-    hash
+
+    // The hash with the edges of a state whose letters are their places.
+    fn mix_full(&self, start: u64, state: u32) -> u64
+        requires flat { AreLaidOut self.now.dfa.now self.now.starts.now (listed self.now.letters.now) self.now.targets.now (states_of self.now.dfa.now) }
+        requires width { length self.now.hashes.now ≡ states_of self.now.dfa.now + 1 }
+        requires state { state < states_of self.now.dfa.now }
+        requires full { listed self.now.letters.now ≡ None }
+        ensures { result ≡ hash_edges self.now.span.first self.now.span.end start (class_edges self.now.hashes.now (dead_class self.now.dfa.now self.now.hashes.now) (edges_of self.now.dfa.now state)) }
+    {
+        // That the states and edges are a table.
+        let _states = self.dfa.states();
+        let mut hash = start;
+        let first = self.starts[state as usize] as usize;
+        let count = self.starts[state as usize + 1] as usize - first;
+        for letter in self.span.first as usize..count.min(self.span.end as usize) {
+            let edge = Edge {
+                letter: letter as u32,
+                target: self.targets[first + letter],
+            };
+            hash = self.mix_target(hash, edge);
+        }
+        hash
+    }
+
+    // The hash with the edges of a state whose letters may be any.
+    fn mix_listed(&self, start: u64, state: u32) -> u64
+        requires flat { AreLaidOut self.now.dfa.now self.now.starts.now (listed self.now.letters.now) self.now.targets.now (states_of self.now.dfa.now) }
+        requires width { length self.now.hashes.now ≡ states_of self.now.dfa.now + 1 }
+        requires state { state < states_of self.now.dfa.now }
+        ensures { result ≡ hash_edges self.now.span.first self.now.span.end start (class_edges self.now.hashes.now (dead_class self.now.dfa.now self.now.hashes.now) (edges_of self.now.dfa.now state)) }
+    {
+        // That the states and edges are a table.
+        let _states = self.dfa.states();
+        let mut hash = start;
+        let first = self.starts[state as usize] as usize;
+        for place in first..self.starts[state as usize + 1] as usize {
+            let letter = self.letters.letter(first, place);
+            let target = self.targets[place];
+            if letter >= self.span.end {
+                return hash;
+            }
+            if letter >= self.span.first {
+                hash = self.mix_target(hash, Edge { letter, target });
+            }
+        }
+        hash
+    }
+
+    // The hash with an edge that is looked at, where it leads to a state that had another hash than the sink.
+    fn mix_target(&self, hash: u64, edge: Edge) -> u64
+        requires width { length self.now.hashes.now ≡ states_of self.now.dfa.now + 1 }
+        requires target { edge.target ≤ states_of self.now.dfa.now }
+        requires from { self.now.span.first ≤ edge.letter }
+        requires before { edge.letter < self.now.span.end }
+        ensures { result ≡ hash_edges self.now.span.first self.now.span.end hash (class_edges self.now.hashes.now (dead_class self.now.dfa.now self.now.hashes.now) (edge ∷ [])) }
+    {
+        let target = self.hashes[edge.target as usize];
+        if target == self.hashes[self.hashes.len() - 1] {
+            return hash;
+        }
+        mix(
+            hash.wrapping_mul(3).wrapping_add(u64::from(edge.letter)),
+            target,
+        )
+    }
 }

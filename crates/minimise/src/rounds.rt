@@ -22,11 +22,11 @@ pub struct RoundClasses {
     pub stable: bool,
 }
 
-/// The classes after rounds. They end where none parts the classes. After the first they also end where one more could cost
-/// too much: a round looks at each edge once, and to part what they leave by smaller parts takes one look more, and on
-/// average half the binary logarithm of the size of the largest class. All of them are to be no more than the binary digits
-/// of the number of states. Classes are numbered where a round is not seen to part any, and to be counted where by the last
-/// count they could be too large, as a round leaves none that is larger.
+/// The classes after rounds. They end where none parts the classes, or where no two states are counted in one. After the
+/// first they also end where one more could cost too much: a round looks at each edge once, and to part what they leave by
+/// smaller parts takes one look more, and on average half the binary logarithm of the size of the largest class. All of them
+/// are to be no more than the binary digits of the number of states. Classes are numbered where a round is not seen to part
+/// any, and to be counted where by the last count they could be too large, as a round leaves none that is larger.
 pub fn classes_by_rounds(alloc: Global, machine: &Machine) -> Result<RoundClasses, OutOfMemory>
     requires { HasOutputs machine.now }
     ensures coarse { IfOk result (λ left. AreCoarseClasses machine.now.dfa.now machine.now.outputs.now left.classes.items) }
@@ -56,8 +56,12 @@ fn classes_after_rounds(
         if is_too_dear(states, round, largest) {
             let classes = hashes.classes(alloc, machine)?;
             largest = largest_class(alloc, &classes[..states as usize])?;
-            if is_too_dear(states, round, largest) {
-                return compared(alloc, machine, flat, classes);
+            let is_last = is_too_dear(states, round, largest);
+            if is_last || largest <= 1 {
+                let left = compared(alloc, machine, flat, classes)?;
+                if is_last || left.stable {
+                    return Ok(left);
+                }
             }
         }
         if !hashes.advance(alloc, machine, flat)? {

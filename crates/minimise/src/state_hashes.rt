@@ -10,7 +10,7 @@ ghost use Rattle.minimise.specs.Outputs.{HasOutputs};
 
 use crate::first_places::first_places;
 use crate::flat_edges::FlatEdges;
-use crate::hashing::state_hash;
+use crate::hashing::{LetterSpan, RoundPart};
 use crate::machine::Machine;
 use digit_tuple::dfa::Dfa;
 use digit_tuple::faults::OutOfMemory;
@@ -46,8 +46,10 @@ impl StateHashes {
         })
     }
 
-    /// A round: the hashes of states by their edges to those that were told apart. Gives whether it is seen to part states,
-    /// which may stay unseen where it parts few. Its time follows the edges, and 8 bytes a state are free again at its end.
+    /// A round: the hashes of states by their edges to those that were told apart. The edges by the first half of the letters
+    /// are looked at before the others, which lead to what is told apart by then, so that few rounds tell of long words.
+    /// Gives whether it is seen to part states, which may stay unseen where it parts few. Its time follows the edges, and 8
+    /// bytes a state are free again at its end.
     pub fn advance(
         &mut self,
         alloc: Global,
@@ -59,12 +61,22 @@ impl StateHashes {
         requires hashes { AreCoarseNumbers machine.now.dfa.now machine.now.outputs.now self.old.hashes.items }
         ensures { OnOk result (AreCoarseNumbers machine.now.dfa.now machine.now.outputs.now self.new.hashes.items) }
     {
-        // That the states are a table.
-        let _states = machine.dfa.states();
-        let new = rehashed(alloc, machine.dfa, flat, &self.hashes)?;
-        let parts = is_seen_to_part(&self.hashes, &new, &mut self.sample);
-        self.hashes = new;
-        Ok(parts)
+        let dfa = machine.dfa;
+        let letters = dfa.alphabet().letters();
+        let middle = letters - letters / 2;
+        let lower = LetterSpan {
+            first: 0,
+            end: middle,
+        };
+        let upper = LetterSpan {
+            first: middle,
+            end: letters,
+        };
+        let mut between = vec![in alloc; 0; self.hashes.len()]?;
+        write_hashes(dfa, flat, &self.hashes, lower, &mut between);
+        let parts = is_seen_to_part(&self.hashes, &between, &mut self.sample);
+        write_hashes(dfa, flat, &between, upper, &mut self.hashes);
+        Ok(parts || is_seen_to_part(&between, &self.hashes, &mut self.sample))
     }
 
     /// The classes of states that have one hash.
@@ -89,23 +101,26 @@ fn output_hashes(alloc: Global, machine: &Machine, count: usize) -> Result<Vec<u
     Ok(hashes)
 }
 
-// The hashes that a round makes of the old ones.
-fn rehashed(
-    alloc: Global,
-    dfa: &Dfa,
-    flat: &FlatEdges,
-    old: &[u64],
-) -> Result<Vec<u64>, OutOfMemory>
+// Writes the hashes that a part of a round makes of the old ones.
+fn write_hashes(dfa: &Dfa, flat: &FlatEdges, old: &[u64], span: LetterSpan, out: &mut Vec<u64>)
     requires flat { AreFlat dfa.now flat.now }
     requires width { length old.now ≡ states_of dfa.now + 1 }
-    ensures { IfOk result (λ new. AreHashed dfa.now old.now new.items) }
+    requires out { length out.old.items ≡ length old.now }
+    ensures { AreHashed dfa.now span.first span.end old.now out.new.items }
 {
-    let count = dfa.states() as usize + 1;
-    let mut new = Vec::with_capacity(alloc, count)?;
-    for state in 0..count {
-        new.push(state_hash(dfa, flat, old, state as u32))?;
+    // That states are numbered by 32 bits.
+    let _states = dfa.states();
+    let part = RoundPart {
+        dfa,
+        starts: &flat.starts,
+        letters: &flat.letters,
+        targets: &flat.targets,
+        hashes: old,
+        span,
+    };
+    for state in 0..old.len() {
+        out[state] = part.state_hash(state as u32);
     }
-    Ok(new)
 }
 
 // Whether a state that had one hash with one of the sample has another now. The sample goes on with the states that are
