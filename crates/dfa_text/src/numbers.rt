@@ -7,10 +7,14 @@ ghost use Rattle.std.specs.List.{join_by};
 use digit_tuple::faults::OutOfMemory;
 use itoa::Buffer;
 
-/// Appends a number.
+/// Appends a number. One of a single digit, as members of tracks mostly are, takes no more than that byte.
 pub fn push_number(out: &mut Vec<u8>, number: u32) -> Result<(), OutOfMemory>
     ensures { OnOk result (out.new.items ≡ out.old.items ++ decimal number) }
 {
+    if number < 10 {
+        out.push(b'0' + number as u8)?;
+        return Ok(());
+    }
     let mut buffer = Buffer::new();
     out.extend_from_slice(buffer.format(number).as_bytes())?;
     Ok(())
@@ -20,6 +24,9 @@ pub fn push_number(out: &mut Vec<u8>, number: u32) -> Result<(), OutOfMemory>
 pub fn push_integer(out: &mut Vec<u8>, number: i32) -> Result<(), OutOfMemory>
     ensures { OnOk result (out.new.items ≡ out.old.items ++ signed_decimal number) }
 {
+    if number >= 0 {
+        return push_number(out, number as u32);
+    }
     let mut buffer = Buffer::new();
     out.extend_from_slice(buffer.format(number).as_bytes())?;
     Ok(())
