@@ -5,6 +5,12 @@
 mod numbers;
 // the line of a header
 mod header_text;
+// the text of a tuple in a line
+mod tuple_text;
+// what the lines of letters begin with, made once for each letter
+mod line_fronts;
+// room for the text of an automaton
+mod text_room;
 // the text of a deterministic automaton whose states have outputs
 mod word_text;
 // the text of a deterministic automaton that accepts words

@@ -23,7 +23,7 @@ pub fn print_relation(alloc: Global, header: &Header, d: &Dfa) -> Result<Vec<u8>
 }
 
 /// The text of an automaton as `print_relation` gives it, or None where it has more than `most` bytes. Of a text that is longer
-/// no more is made than `most` bytes, the header and the lines of one state. Out of memory gives no answer.
+/// no more is made than `print_word_within` makes. Out of memory gives no answer.
 #[tactic(auto, unfolding(crate::specs::RelationText::relation_text))]
 pub fn print_within(
     alloc: Global,
@@ -43,7 +43,7 @@ pub fn print_within(
 fn outputs(alloc: Global, d: &Dfa) -> Result<Vec<i32>, OutOfMemory>
     ensures { IfOk result (λ outputs. outputs.items ≡ outputs_of d.now) }
 {
-    let mut outputs = Vec::new(alloc);
+    let mut outputs = Vec::with_capacity(alloc, d.states() as usize)?;
     for state in 0..d.states() {
         outputs.push(output(d.accepting(state)))?;
     }

@@ -1,17 +1,20 @@
 //! The text of a deterministic automaton whose states have outputs.
 
-ghost use Rattle.std.specs.Prelude.{◌≡◌, ◌<◌, ◌≤◌, ◌↔◌, ◌==◌, pos, [], ◌∷◌, ◌++◌, length, slice_index_or, codes, if◌then◌else◌, OnOk, IfOk, IsSome, IfSome};
-ghost use Rattle.std.specs.List.{All, flat_map, join_by};
-ghost use Rattle.std.specs.Fmt.{signed_decimal};
+ghost use Rattle.std.specs.Prelude.{◌≡◌, ◌<◌, ◌≤◌, ◌↔◌, [], ◌∷◌, ◌++◌, length, OnOk, IfOk, IsSome, IfSome};
+ghost use Rattle.std.specs.List.{All, flat_map};
 ghost use Rattle.digit_tuple.specs.Deterministic.{states_of};
-ghost use Rattle.digit_tuple.specs.Letters.{product, AreDigits};
-ghost use Rattle.digit_tuple.specs.Sets.{sizes_of, members_at};
+ghost use Rattle.digit_tuple.specs.Letters.{product};
+ghost use Rattle.digit_tuple.specs.Sets.{sizes_of};
 ghost use Rattle.digit_tuple.specs.Headers.{sets_of};
+ghost use Rattle.dfa_text.specs.LineFronts.{fronts_of, target_text, fronted_text};
 ghost use Rattle.dfa_text.specs.Parts.{state_text, text_of_lines};
-ghost use Rattle.dfa_text.specs.RelationText.{edge_text, step_line, steps_lines, word_text};
+ghost use Rattle.dfa_text.specs.RelationText.{edge_text, steps_lines, word_text};
 
 use crate::header_text::push_header;
-use crate::numbers::{push_after, push_integer, push_number};
+use crate::line_fronts::LineFronts;
+use crate::numbers::{push_after, push_number};
+use crate::text_room::text_room;
+use crate::tuple_text::push_front;
 use digit_tuple::alphabet::Alphabet;
 use digit_tuple::dfa::Dfa;
 use digit_tuple::edges::Edge;
@@ -32,9 +35,9 @@ pub fn print_word(
     requires outputs { length outputs.now ≡ states_of d.now }
     ensures { IfOk result (λ text. text.items ≡ word_text header.now d.now outputs.now) }
 {
-    let mut out = Vec::new(alloc);
+    let mut out = text_room(alloc, d, usize::MAX)?;
     push_header(&mut out, header)?;
-    let mut scratch = Scratch::new(alloc, d)?;
+    let mut scratch = Scratch::new(alloc, header, d)?;
     for state in 0..d.states() {
         push_output(&mut out, state, outputs[state as usize])?;
         push_lines(&mut out, header, d, &mut scratch, state)?;
@@ -43,7 +46,7 @@ pub fn print_word(
 }
 
 /// The text as `print_word` gives it, or None where it has more than `most` bytes. Of a text that is longer no more is made than
-/// `most` bytes, the header and the lines of one state. Out of memory gives no answer.
+/// `most` bytes, the header, the lines of one state, and what the lines of each letter begin with. Out of memory gives no answer.
 #[tactic(auto, unfolding(crate::specs::RelationText::word_text))]
 pub fn print_word_within(
     alloc: Global,
@@ -57,9 +60,9 @@ pub fn print_word_within(
     ensures text { IfOk result (λ text. IfSome text (λ printed. printed.items ≡ word_text header.now d.now outputs.now)) }
     ensures within { IfOk result (λ text. IsSome text ↔ (length (word_text header.now d.now outputs.now) ≤ most)) }
 {
-    let mut out = Vec::new(alloc);
+    let mut out = text_room(alloc, d, most)?;
     push_header(&mut out, header)?;
-    let mut scratch = Scratch::new(alloc, d)?;
+    let mut scratch = Scratch::new(alloc, header, d)?;
     for state in 0..d.states() {
         if out.len() > most {
             return Ok(None);
@@ -77,18 +80,38 @@ struct Scratch {
     places: Vec<u32>,
     // The edges of a state.
     row: Vec<Edge>,
+    // What the lines of each letter begin with, where there are at least as many lines as letters.
+    fronts: Option<LineFronts>,
 }
 
 impl Scratch {
     // Room for the tuples of an automaton.
-    fn new(alloc: Global, d: &Dfa) -> Result<Self, OutOfMemory>
-        ensures { IfOk result (λ scratch. length scratch.places.items ≡ length d.now.sizes) }
+    fn new(alloc: Global, header: &Header, d: &Dfa) -> Result<Self, OutOfMemory>
+        requires { d.now.sizes ≡ sizes_of (sets_of header.now) }
+        ensures tracks { IfOk result (λ scratch. length scratch.places.items ≡ length d.now.sizes) }
+        ensures fronts { IfOk result (λ scratch. IfSome scratch.fronts (λ fronts. fronts ≡ fronts_of (sets_of header.now))) }
     {
         Ok(Scratch {
             places: vec![in alloc; 0; d.alphabet().tracks() as usize]?,
             row: Vec::new(alloc),
+            fronts: fronts_unless_few(alloc, header, d)?,
         })
     }
+}
+
+// What the lines of each letter begin with, or None where there are fewer lines than letters.
+fn fronts_unless_few(
+    alloc: Global,
+    header: &Header,
+    d: &Dfa,
+) -> Result<Option<LineFronts>, OutOfMemory>
+    requires { d.now.sizes ≡ sizes_of (sets_of header.now) }
+    ensures { IfOk result (λ made. IfSome made (λ fronts. fronts ≡ fronts_of (sets_of header.now))) }
+{
+    if d.edges() < u64::from(d.alphabet().letters()) {
+        return Ok(None);
+    }
+    Ok(Some(LineFronts::new(alloc, header, d.alphabet())?))
 }
 
 // A blank line, and the state's number and output.
@@ -113,11 +136,28 @@ fn push_lines(
     requires sizes { d.now.sizes ≡ sizes_of (sets_of header.now) }
     requires tracks { length scratch.old.places.items ≡ length d.now.sizes }
     requires state { state < states_of d.now }
+    requires fronts { IfSome scratch.old.fronts (λ fronts. fronts ≡ fronts_of (sets_of header.now)) }
     ensures text { OnOk result (out.new.items ≡ out.old.items ++ text_of_lines (steps_lines (sets_of header.now) d.now state)) }
     ensures tracks { OnOk result (length scratch.new.places.items ≡ length d.now.sizes) }
+    ensures fronts { OnOk result (IfSome scratch.new.fronts (λ fronts. fronts ≡ fronts_of (sets_of header.now))) }
 {
     d.edges_into(state, &mut scratch.row)?;
-    push_edges(out, header, d.alphabet(), &mut scratch.places, &scratch.row)
+    match &scratch.fronts {
+        Some(fronts) => push_fronted(out, fronts, &scratch.row),
+        None => push_edges(out, header, d.alphabet(), &mut scratch.places, &scratch.row),
+    }
+}
+
+// The lines of edges, of which these are the fronts by their letters.
+fn push_fronted(out: &mut Vec<u8>, fronts: &LineFronts, edges: &[Edge]) -> Result<(), OutOfMemory>
+    requires { All (λ edge. edge.letter < length fronts.now) edges.now }
+    ensures { OnOk result (out.new.items ≡ out.old.items ++ flat_map (fronted_text fronts.now) edges.now) }
+{
+    for edge in edges {
+        out.extend_from_slice(fronts.front(edge.letter))?;
+        push_target(out, edge.target)?;
+    }
+    Ok(())
 }
 
 // The lines of edges.
@@ -152,75 +192,15 @@ fn push_edge(
     requires letter { edge.now.letter < product alphabet.now }
     ensures { OnOk result (out.new.items ≡ out.old.items ++ edge_text (sets_of header.now) edge.now) }
 {
-    alphabet.digits_of(edge.letter, places);
-    push_line(out, header, places, edge.target)
+    push_front(out, header, alphabet, places, edge.letter)?;
+    push_target(out, edge.target)
 }
 
-// The line of a tuple: the members at these places, and where it leads.
-fn push_line(
-    out: &mut Vec<u8>,
-    header: &Header,
-    places: &[u32],
-    target: u32,
-) -> Result<(), OutOfMemory>
-    requires { AreDigits (sizes_of (sets_of header.now)) places.now }
-    ensures { OnOk result (out.new.items ≡ out.old.items ++ (step_line (members_at (sets_of header.now) places.now) target ++ codes "\n")) }
+// Where a line leads, and its end.
+fn push_target(out: &mut Vec<u8>, target: u32) -> Result<(), OutOfMemory>
+    ensures { OnOk result (out.new.items ≡ out.old.items ++ target_text target) }
 {
-    push_tuple(out, header, places)?;
-    out.extend_from_slice(b" -> ")?;
     push_number(out, target)?;
     out.push(b'\n')?;
     Ok(())
-}
-
-// The members at these places.
-fn push_tuple(out: &mut Vec<u8>, header: &Header, places: &[u32]) -> Result<(), OutOfMemory>
-    requires { AreDigits (sizes_of (sets_of header.now)) places.now }
-    ensures { OnOk result (out.new.items ≡ out.old.items ++ join_by signed_decimal (codes " ") (members_at (sets_of header.now) places.now)) }
-{
-    for (track, place) in places.iter().enumerate() {
-        push_digit(out, header, track, *place)?;
-    }
-    Ok(())
-}
-
-// A blank, unless the track is the first, and the member at the place.
-fn push_digit(
-    out: &mut Vec<u8>,
-    header: &Header,
-    track: usize,
-    place: u32,
-) -> Result<(), OutOfMemory>
-    requires track { track < length (sets_of header.now) }
-    requires place { place < length (slice_index_or (sets_of header.now) track []) }
-    ensures { OnOk result (out.new.items ≡ out.old.items ++ ((if track == 0 then [] else codes " ") ++ signed_decimal (slice_index_or (slice_index_or (sets_of header.now) track []) place (pos 0)))) }
-{
-    out.extend_from_slice(blank_before(track))?;
-    push_member(out, header, track, place)
-}
-
-fn blank_before(track: usize) -> &'static [u8]
-    ensures { result.now ≡ (if track == 0 then [] else codes " ") }
-{
-    if track == 0 { b"" } else { b" " }
-}
-
-// The member of a track's set at the place; of a system's digits it is the place itself.
-fn push_member(
-    out: &mut Vec<u8>,
-    header: &Header,
-    track: usize,
-    place: u32,
-) -> Result<(), OutOfMemory>
-    requires track { track < length (sets_of header.now) }
-    requires place { place < length (slice_index_or (sets_of header.now) track []) }
-    ensures { OnOk result (out.new.items ≡ out.old.items ++ signed_decimal (slice_index_or (slice_index_or (sets_of header.now) track []) place (pos 0))) }
-{
-    match header {
-        Header::Sets(sets) => {
-            let set = &sets.as_slice()[track];
-            push_integer(out, set.members()[place as usize])
-        }
-        Header::Systems(_) => push_number(out, place),
-    }
 }

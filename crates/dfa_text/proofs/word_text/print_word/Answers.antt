@@ -14,8 +14,9 @@ loop-state-preserved c =
     let d = c.args.d.now in
     let outputs = c.args.outputs.now in
     let state = c.loop-state.state in
-    let fits : SFits w32 (get_or outputs state (pos 0)) = search rules in (
-      lines_more (state_lines sets d outputs) c.push_header.new.out.items c.loop-state.out.items c.push_lines.new.out.items state c.loop-state.invariant.0
-          (state_more c.loop-state.out.items c.push_output.new.out.items c.push_lines.new.out.items (state_text state (get_or outputs state (pos 0))) (steps_lines sets d state) (simp to_z-of_z at c.in_ok-push_output.ensures) c.in_ok-push_lines.ensures.text),
-      c.in_ok-push_lines.ensures.tracks,
-    )
+    let fits : SFits w32 (get_or outputs state (pos 0)) = search rules in record {
+      text = lines_more (state_lines sets d outputs) c.push_header.new.out.items c.loop-state.out.items c.push_lines.new.out.items state c.loop-state.invariant.text
+          (state_more c.loop-state.out.items c.push_output.new.out.items c.push_lines.new.out.items (state_text state (get_or outputs state (pos 0))) (steps_lines sets d state) (simp to_z-of_z at c.in_ok-push_output.ensures) c.in_ok-push_lines.ensures.text);
+      tracks = c.in_ok-push_lines.ensures.tracks;
+      fronts = c.in_ok-push_lines.ensures.fronts;
+    }

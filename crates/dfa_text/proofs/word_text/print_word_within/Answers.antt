@@ -17,11 +17,12 @@ loop-state-preserved c =
     let d = c.args.d.now in
     let outputs = c.args.outputs.now in
     let state = c.loop-state.state in
-    let fits : SFits w32 (get_or outputs state (pos 0)) = search rules in (
-      lines_more (state_lines sets d outputs) c.push_header.new.out.items c.loop-state.out.items c.push_lines.new.out.items state c.loop-state.invariant.0
-          (state_more c.loop-state.out.items c.push_output.new.out.items c.push_lines.new.out.items (state_text state (get_or outputs state (pos 0))) (steps_lines sets d state) (simp to_z-of_z at c.in_ok-push_output.ensures) c.in_ok-push_lines.ensures.text),
-      c.in_ok-push_lines.ensures.tracks,
-    )
+    let fits : SFits w32 (get_or outputs state (pos 0)) = search rules in record {
+      text = lines_more (state_lines sets d outputs) c.push_header.new.out.items c.loop-state.out.items c.push_lines.new.out.items state c.loop-state.invariant.text
+          (state_more c.loop-state.out.items c.push_output.new.out.items c.push_lines.new.out.items (state_text state (get_or outputs state (pos 0))) (steps_lines sets d state) (simp to_z-of_z at c.in_ok-push_output.ensures) c.in_ok-push_lines.ensures.text);
+      tracks = c.in_ok-push_lines.ensures.tracks;
+      fronts = c.in_ok-push_lines.ensures.fronts;
+    }
 
 -- what was printed is already too long
 pub returns-then-len-most-clause-within : goal.returns-then-len-most-clause-within
@@ -33,5 +34,5 @@ returns-then-len-most-clause-within c =
     let so_far = text_of_lines (flat_map f (range_with_len 0 c.loop-state.state)) in
     let all = text_of_lines (flat_map f (range_with_len 0 states)) in
     let more = longer_by_numbers f c.loop-state.state states (omega (arith, c.loop-state-test.true, c.states-state-end.ensures.value)) in
-    let long : c.args.most < length (head ++ all) = omega (arith, more, ap length c.loop-state.invariant.0, length-append c.push_header.new.out.items so_far, ap length c.in_ok-push_header.ensures, ap length c.new-out.ensures.items, length-append c.new-out.result.items head, length-append head all, c.if-len-most.true, c.len.ensures) in
+    let long : c.args.most < length (head ++ all) = omega (arith, more, ap length c.loop-state.invariant.text, length-append c.push_header.new.out.items so_far, ap length c.in_ok-push_header.ensures, ap length c.in_ok-out.ensures, length-append c.in_ok-out.out.items head, length-append head all, c.if-len-most.true, c.len.ensures) in
     ((λ e. absurd (true≢false (sym e))), (λ h. absurd (omega (arith, long, h))))

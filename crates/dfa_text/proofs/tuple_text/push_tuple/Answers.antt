@@ -5,7 +5,7 @@ use Rattle.digit_tuple.specs.Headers.{sets_of}
 use Rattle.digit_tuple.specs.Sets.{members_at}
 use Rattle.dfa_text.proofs.Joins.{join_more}
 use Rattle.dfa_text.proofs.TupleSteps.{has_member, members_more, length-members, length-places}
-use Rattle.dfa_text.proofs.word_text.push_tuple.Goals as goal
+use Rattle.dfa_text.proofs.tuple_text.push_tuple.Goals as goal
 
 pub push_digit-requires-clause-place : goal.push_digit-requires-clause-place
 push_digit-requires-clause-place c =
