@@ -15,6 +15,9 @@ use digit_tuple::key_edges::KeyEdges;
 use digit_tuple::key_graph::KeyGraph;
 use std::alloc::Global;
 
+// Memory for so many edges is taken at once, as of an alphabet of no more letters most may lead on.
+const FEW_LETTERS: usize = 32;
+
 /// The outputs of an automaton's states, the classes of these and its sink, and a state of each class. A key is a class
 /// other than the dead one, or the initial state's.
 #[derive(Clone, Copy)]
@@ -48,7 +51,8 @@ impl KeyGraph for Quotient<'_> {
 
     fn edges(&self, alloc: Global, key: &[u32], out: &mut KeyEdges) -> Result<(), OutOfMemory> {
         let state = self.leaders[key[0] as usize];
-        let mut edges = Vec::new(alloc);
+        let letters = self.dfa.alphabet().letters() as usize;
+        let mut edges = Vec::with_capacity(alloc, letters.min(FEW_LETTERS))?;
         self.dfa.edges_into(state, &mut edges)?;
         let dead = self.classes[self.dfa.states() as usize];
         add_key_edges(&edges, self.classes, dead, out)
