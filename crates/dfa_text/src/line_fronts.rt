@@ -32,7 +32,8 @@ impl Model for LineFronts {
 }
 
 impl LineFronts {
-    /// What a line of each letter begins with, which takes no more bytes than a line for each letter.
+    /// What a line of each letter begins with. Its memory follows the letters: the bytes of a line for each, and 8 bytes
+    /// more for each where these are not all of one length.
     pub fn new(alloc: Global, header: &Header, alphabet: &Alphabet) -> Result<Self, OutOfMemory>
         requires { alphabet.now ≡ sizes_of (sets_of header.now) }
         ensures { IfOk result (λ fronts. fronts ≡ fronts_of (sets_of header.now)) }
