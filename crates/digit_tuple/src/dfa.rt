@@ -103,9 +103,9 @@ impl Dfa {
         self.table.edges()
     }
 
-    /// How many digits of edges are kept, each with what it leads to: on each track one for each digit by
+    /// How many digits of edges there are, each with what it leads to: on each track one for each digit by
     /// which an edge of a state goes on, behind the same digits on the tracks before. Where there is no
-    /// track there is none.
+    /// track there is none. So many are kept, but for the last rows, which keep one for each edge.
     pub fn cells(&self) -> u64
         ensures count { result ≡ cell_count self.now }
         ensures few { cell_count self.now ≤ length self.now.sizes * edge_count self.now }

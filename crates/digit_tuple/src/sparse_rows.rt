@@ -145,7 +145,8 @@ impl SparseRows {
         self.edges
     }
 
-    /// How many digits are kept, each with what it leads to. Where there is no track there is none.
+    /// How many digits there are where all rows are decisions by tracks, each with what it leads to. Where there is
+    /// no track there is none.
     pub(crate) fn cells(&self) -> u64
         requires { sum_by length self.now.rows < 2 ^ 60 }
         ensures count { result ≡ sum_by (cells_of self.now.sizes) self.now.rows }

@@ -3,7 +3,7 @@ use Rattle.std.proofs.Common.{◌≡◌, ℕ, ◌+◌, ◌-◌, ◌<◌, ◌≤�
 use Rattle.std.specs.List.{sum_by}
 use Rattle.std.specs.Option.{IfSome}
 use Rattle.std.proofs.lemmas.Bool.{cases_lt}
-use Rattle.std.proofs.lemmas.List.{length-map, length-append, length_push, get_or_push, get_or-map, get_or_default, get_or_append_left, get_or-append_right}
+use Rattle.std.proofs.lemmas.List.{length-map, length-append, length_push, get_or_push, get_or-map, get_or_default, get_or_append_left, get_or-append_right, take_all}
 use Rattle.std.proofs.lemmas.List.Sums.{sum_by_more, sum_by_more_le}
 use Rattle.digit_tuple.specs.declared.edges.Edge.{Edge}
 use Rattle.digit_tuple.specs.Deterministic.{Automaton, State, IsTable, edges_of, letters_of, no_state, states_of}
@@ -118,6 +118,12 @@ module _ (d : Automaton) (starts : List ℕ) (letters : Option (List ℕ)) (targ
           ∙ ap (λ (x : ℕ). let e : Edge = record { letter = x; target = (get_or es k z).target } in e) one
           ∙ ap (λ (x : ℕ). let e : Edge = record { letter = letter_at (with_letters es letters) (length targets) (length targets + k); target = x } in e) two
           ∙ ap (λ n. flat_edge (with_letters es letters) after n (n + k)) (sym place)
+
+-- the table has as many targets as there are edges
+pub edge_count-flat : (d : Automaton) (starts : List ℕ) (letters : Option (List ℕ)) (targets : List ℕ) → AreLaidOut d starts letters targets (states_of d) → length targets ≡ edge_count d
+edge_count-flat d starts letters targets flat =
+    sym flat.end ∙ start_is d starts letters targets (states_of d) flat (omega arith) (states_of d) (omega arith)
+    ∙ ap (sum_by (λ (s : State). length s.edges)) (take_all (states_of d) d.states (omega arith))
 
 -- at a place of the table is an edge of a state
 pub record HasPlace (d : Automaton) (starts : List ℕ) (letters : Option (List ℕ)) (targets : List ℕ) (q place : ℕ) : Type 0 where

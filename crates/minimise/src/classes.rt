@@ -23,12 +23,12 @@ pub fn residual_classes(alloc: Global, machine: &Machine) -> Result<Vec<u32>, Ou
     requires { HasOutputs machine.now }
     ensures { IfOk result (λ classes. AreResidualClasses machine.now.dfa.now machine.now.outputs.now classes.items) }
 {
-    let rounds = classes_by_rounds(alloc, machine)?;
+    let flat = FlatEdges::new(alloc, machine.dfa)?;
+    let rounds = classes_by_rounds(alloc, machine, &flat)?;
     if rounds.stable {
         return Ok(rounds.classes);
     }
-    let classes = parted(alloc, machine, rounds.classes)?;
-    let flat = FlatEdges::new(alloc, machine.dfa)?;
+    let classes = parted(alloc, machine, &flat, rounds.classes)?;
     if is_stable(alloc, machine, &flat, &classes)? {
         return Ok(classes);
     }

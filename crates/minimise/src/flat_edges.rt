@@ -1,8 +1,8 @@
 //! The edges of an automaton in one flat table of six bytes an edge and four a state, for passes over all of them. Where each
 //! state has an edge by each letter, an edge takes four.
 
-ghost use Rattle.std.specs.Prelude.{◌≡◌, ◌*◌, ◌++◌, map, IfOk, OnOk, IsTrue};
-ghost use Rattle.digit_tuple.specs.Deterministic.{letters_of, states_of};
+ghost use Rattle.std.specs.Prelude.{◌≡◌, ◌*◌, ◌<◌, ◌++◌, map, IfOk, OnOk, IsTrue};
+ghost use Rattle.digit_tuple.specs.Deterministic.{Automaton, edges_of, letters_of, states_of};
 ghost use Rattle.digit_tuple.specs.EdgeCounts.{edge_count};
 ghost use Rattle.minimise.specs.FlatEdges.{AreFlat};
 
@@ -52,6 +52,23 @@ impl FlatEdges {
             letters,
             targets,
         })
+    }
+
+    /// Writes the edges of a state in place of what the buffer held.
+    pub fn edges_into(&self, state: u32, row: &mut Vec<Edge>) -> Result<(), OutOfMemory>
+        requires { (d : Automaton) × AreFlat d self.now × (state < states_of d) }
+        ensures { OnOk result ((d : Automaton) → AreFlat d self.now → state < states_of d → row.new.items ≡ edges_of d state) }
+    {
+        row.clear();
+        let start = self.starts[state as usize] as usize;
+        let end = self.starts[state as usize + 1] as usize;
+        for place in start..end {
+            row.push(Edge {
+                letter: self.letters.letter(start, place),
+                target: self.targets[place],
+            })?;
+        }
+        Ok(())
     }
 }
 

@@ -23,9 +23,11 @@ ghost use Rattle.std.specs.Prelude.{◌≡◌, ◌≢◌, ℕ, ◌+◌, ◌-◌,
 ghost use Rattle.std.specs.List.{All, Contains};
 ghost use Rattle.minimise.specs.Classes.{class_of};
 ghost use Rattle.minimise.specs.CoarseClasses.{AreCoarseClasses};
+ghost use Rattle.minimise.specs.FlatEdges.{AreFlat};
 ghost use Rattle.minimise.specs.Outputs.{HasOutputs};
 ghost use Rattle.minimise.specs.Partition.{HasGrown, IsCut, IsGiven, IsPartition, IsUnion};
 
+use crate::flat_edges::FlatEdges;
 use crate::gathering::{sources_by_letter, states_by_class};
 use crate::machine::Machine;
 use crate::pending_classes::PendingClasses;
@@ -37,17 +39,22 @@ use digit_tuple::key_edges::KeyEdges;
 use std::alloc::Global;
 
 /// The class of each state, and last that of the sink, where missing edges lead, after the classes are
-/// parted. States from which words lead to the same outputs have one class, as they had before. OutOfMemory
-/// comes too where there are 2^32 edges.
-pub fn parted(alloc: Global, machine: &Machine, classes: Vec<u32>) -> Result<Vec<u32>, OutOfMemory>
+/// parted. States from which words lead to the same outputs have one class, as they had before.
+pub fn parted(
+    alloc: Global,
+    machine: &Machine,
+    flat: &FlatEdges,
+    classes: Vec<u32>,
+) -> Result<Vec<u32>, OutOfMemory>
     requires outputs { HasOutputs machine.now }
+    requires flat { AreFlat machine.now.dfa.now flat.now }
     requires classes { AreCoarseClasses machine.now.dfa.now machine.now.outputs.now classes.items }
     ensures { IfOk result (λ classes. AreCoarseClasses machine.now.dfa.now machine.now.outputs.now classes.items) }
 {
     let parts = live_parts(alloc, machine, &classes)?;
     // Memory goes before more is taken.
     drop(classes);
-    let mut partition = Partition::new(alloc, machine)?;
+    let mut partition = Partition::new(alloc, machine, flat)?;
     partition.part_by_class(machine, &parts)?;
     drop(parts);
     let mut buffers = Buffers::new(alloc);
@@ -85,10 +92,11 @@ pub struct ClassSpan {
 
 impl Partition {
     // One class of all states.
-    fn new(alloc: Global, machine: &Machine) -> Result<Self, OutOfMemory>
+    fn new(alloc: Global, machine: &Machine, flat: &FlatEdges) -> Result<Self, OutOfMemory>
+        requires { AreFlat machine.now.dfa.now flat.now }
         ensures { IfOk result (IsPartition machine.now) }
     {
-        let turned = TurnedEdges::new(alloc, machine.dfa)?;
+        let turned = TurnedEdges::new(alloc, machine.dfa, flat)?;
         let states = machine.dfa.states();
         let most_classes = states as usize + 1;
         let span = ClassSpan {

@@ -27,14 +27,18 @@ pub struct RoundClasses {
 /// smaller parts takes one look more, and on average half the binary logarithm of the size of the largest class. All of them
 /// are to be no more than the binary digits of the number of states. Classes are numbered where a round is not seen to part
 /// any, and to be counted where by the last count they could be too large, as a round leaves none that is larger.
-pub fn classes_by_rounds(alloc: Global, machine: &Machine) -> Result<RoundClasses, OutOfMemory>
-    requires { HasOutputs machine.now }
+pub fn classes_by_rounds(
+    alloc: Global,
+    machine: &Machine,
+    flat: &FlatEdges,
+) -> Result<RoundClasses, OutOfMemory>
+    requires outputs { HasOutputs machine.now }
+    requires flat { AreFlat machine.now.dfa.now flat.now }
     ensures coarse { IfOk result (λ left. AreCoarseClasses machine.now.dfa.now machine.now.outputs.now left.classes.items) }
     ensures stable { IfOk result (λ left. IsTrue left.stable → AreResidualClasses machine.now.dfa.now machine.now.outputs.now left.classes.items) }
 {
-    let flat = FlatEdges::new(alloc, machine.dfa)?;
     let mut hashes = StateHashes::new(alloc, machine)?;
-    classes_after_rounds(alloc, machine, &flat, &mut hashes)
+    classes_after_rounds(alloc, machine, flat, &mut hashes)
 }
 
 // The classes after rounds that go on from hashes.
