@@ -38,7 +38,7 @@ first_held-append [] test flags = refl
 first_held-append (part ∷ parts) test flags = ap (λ (letter : ℤ). if test part then part.value else letter) (first_held-append parts test flags)
 
 -- the flag of one automaton of the code
-pub flag_of_reader : (readers : List Reader) (key : List ℕ) (place : ℕ) (r : Reader) (answer : Bool) → place < length readers → r ≡ get_or readers place r → answer ≡ accepting_of r.table (state_at key place)
+pub flag_of_reader : (readers : List Reader) (key : List ℕ) (place : ℕ) (r : Reader) (answer : Bool) → place < length readers → r ≡ get_or readers place r → answer ≡ accepting_of r.dfa.now (state_at key place)
     → flag_at (flags_at (readings_in readers) key) place ≡ answer
 flag_of_reader readers key place r answer within is says =
     flag_at-is (readings_in readers) key place (omega (arith, length-readings readers, within))

@@ -13,7 +13,7 @@ use Rattle.minimise.proofs.SinkLemmas.{no_edges_past}
 use Rattle.product_op.specs.declared.next_row.NextRow.{NextRow}
 use Rattle.product_op.specs.NextRows.{IsNextRow}
 use Rattle.product_op.specs.NextTables.{next_list}
-use Rattle.product_op.specs.Readings.{Reading, reading_at, state_at}
+use Rattle.product_op.specs.Readings.{state_at}
 
 -- one more edge, by another letter
 target_by-more_other : (es : List Edge) (e : Edge) (letter : ℕ) → e.letter ≢ letter → target_by (es ++ e ∷ []) letter ≡ target_by es letter
@@ -76,17 +76,17 @@ module _ (d : Automaton) (state : ℕ) (next : List ℕ) (is : next ≡ next_lis
   next_list-at letter less = ap (λ xs. get_or xs letter 0) is ∙ get_or-map-range_with_len (next_of d state) 0 (letters_of d) letter letter 0 less (omega arith)
 
 -- a row of the state of each of the first so many
-pub record AreRowsTo (rs : List Reading) (key : List ℕ) (rows : List NextRow) (count : ℕ) : Type 0 where
+pub record AreRowsTo (automata : List Automaton) (key : List ℕ) (rows : List NextRow) (count : ℕ) : Type 0 where
   pub count_is : length rows ≡ count
-  pub each : (i : ℕ) → i < count → (z : NextRow) → IsNextRow (reading_at rs i).automaton (state_at key i) (get_or rows i z)
+  pub each : (i : ℕ) → i < count → (d : Automaton) (z : NextRow) → IsNextRow (get_or automata i d) (state_at key i) (get_or rows i z)
 
 -- one more row
-pub AreRowsTo-more : (rs : List Reading) (key : List ℕ) (rows : List NextRow) (count : ℕ) (row : NextRow) → AreRowsTo rs key rows count
-    → IsNextRow (reading_at rs count).automaton (state_at key count) row → AreRowsTo rs key (rows ++ row ∷ []) (count + 1)
-AreRowsTo-more rs key rows count row are is = record {
+pub AreRowsTo-more : (automata : List Automaton) (key : List ℕ) (rows : List NextRow) (count : ℕ) (d : Automaton) (row : NextRow) → count < length automata → d ≡ get_or automata count d
+    → IsNextRow d (state_at key count) row → AreRowsTo automata key rows count → AreRowsTo automata key (rows ++ row ∷ []) (count + 1)
+AreRowsTo-more automata key rows count d row within here is are = record {
   count_is = omega (arith, length-append rows (row ∷ []), are.count_is);
-  each = below_more (λ i. (z : NextRow) → IsNextRow (reading_at rs i).automaton (state_at key i) (get_or (rows ++ row ∷ []) i z)) count
-      (λ i less z. subst (IsNextRow (reading_at rs i).automaton (state_at key i)) (sym (get_or_append_left rows (row ∷ []) z i (omega (arith, less, are.count_is)))) (are.each i less z))
-      (λ z. subst (IsNextRow (reading_at rs count).automaton (state_at key count))
-      (sym (ap (λ i. get_or (rows ++ row ∷ []) i z) (sym are.count_is) ∙ get_or-append_seam rows row [] z)) is);
+  each = below_more (λ i. (e : Automaton) (z : NextRow) → IsNextRow (get_or automata i e) (state_at key i) (get_or (rows ++ row ∷ []) i z)) count
+      (λ i less e z. subst (IsNextRow (get_or automata i e) (state_at key i)) (sym (get_or_append_left rows (row ∷ []) z i (omega (arith, less, are.count_is)))) (are.each i less e z))
+      (λ e z. subst (λ (a : Automaton). IsNextRow a (state_at key count) (get_or (rows ++ row ∷ []) count z)) (here ∙ get_or_default automata count d e within)
+      (subst (IsNextRow d (state_at key count)) (sym (ap (λ i. get_or (rows ++ row ∷ []) i z) (sym are.count_is) ∙ get_or-append_seam rows row [] z)) is));
 }

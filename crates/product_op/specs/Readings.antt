@@ -18,10 +18,14 @@ pub record Reading : Type 0 where
   pub parts : List ℕ
 
 abbrev pub reading_in : Reader → Reading
-reading_in reader = record { automaton = reader.table; parts = reader.parts }
+reading_in reader = record { automaton = reader.dfa.now; parts = reader.parts }
 
 abbrev pub readings_in : List Reader → List Reading
 readings_in readers = map reading_in readers
+
+-- the automata of all
+abbrev pub automata_in : List Reading → List Automaton
+automata_in readings = map (λ r. r.automaton) readings
 
 -- what stands for an automaton that is not there
 abbrev pub no_reading : Reading

@@ -8,7 +8,6 @@ ghost use Rattle.digit_tuple.specs.Parts.{picked};
 ghost use Rattle.product_op.specs.Readings.{reading_in, readings_in};
 ghost use Rattle.product_op.specs.TrackReadings.{read_on, whole_reading, track_readings, AllFitTracks};
 
-use crate::next_table::NextTable;
 use crate::numbers_below::numbers_below;
 use crate::reader::Reader;
 use digit_tuple::alphabet::Alphabet;
@@ -81,6 +80,5 @@ pub fn reader_on<'a>(
     let own = dfa.alphabet();
     let parts = letter_parts(alloc, alphabet, places, own)?;
     let parts = PartIndex::new(alloc, parts, own.letters())?;
-    let table = NextTable::new(alloc, dfa)?;
-    Ok(Reader { table, parts })
+    Ok(Reader { dfa, parts })
 }

@@ -11,7 +11,7 @@ pub mod joint_tracks;
 mod rule;
 
 /// Where letters lead from all states of an automaton, in one table.
-pub mod next_table;
+mod next_table;
 
 /// Automata that read parts of letters.
 pub mod reader;
@@ -19,8 +19,8 @@ pub mod reader;
 /// Readers of automata on some of the tracks.
 pub mod argument_readers;
 
-/// Where the parts of letters lead from states of readers.
-pub mod next_row;
+/// Where letters lead from the states of a key, as lists.
+mod next_row;
 
 /// The numbers below a number.
 mod numbers_below;

@@ -1,11 +1,11 @@
-//! Where the parts of letters lead from states of readers.
+//! Where letters lead from the states of a key, as lists.
 
-ghost use Rattle.std.specs.Prelude.{◌≡◌, ◌<◌, ℕ, length, IfOk, IfSome, slice_index};
+ghost use Rattle.std.specs.Prelude.{◌≡◌, ◌<◌, ℕ, List, length, IfOk, IfSome};
 ghost use Rattle.digit_tuple.specs.Deterministic.{Automaton, letters_of};
 ghost use Rattle.minimise.specs.Classes.{next_of};
 ghost use Rattle.product_op.specs.NextRows.{AreNextRows, IsNextRow};
 ghost use Rattle.product_op.specs.NextTables.{next_list};
-ghost use Rattle.product_op.specs.Readings.{readings_in};
+ghost use Rattle.product_op.specs.Readings.{AreReadings, automata_in, next_key, readings_in};
 
 use crate::next_table::{NextTable, next_row};
 use crate::reader::Reader;
@@ -13,80 +13,88 @@ use digit_tuple::edges::Edge;
 use digit_tuple::faults::OutOfMemory;
 use std::alloc::Global;
 
-/// Where the parts of letters lead from a state of a reader, or from its sink.
+/// Where each letter of an automaton leads from a state, or from its sink.
 #[derive(Drop)]
 pub enum NextRow<'a> {
-    /// The states that the parts lead to, part by part, as a reader keeps them.
+    /// As a table keeps it.
     Kept(&'a [u32]),
-    /// A list of these states.
+    /// As a list of its own.
     Listed(Vec<u32>),
-    /// No list: each part is searched for in the automaton.
-    Searched,
 }
 
 impl<'a> NextRow<'a> {
     /// The row of a state or of the sink, for so many letters that are to be asked for. Where none is kept it is a
     /// list if they are no fewer than the automaton's letters, and takes time and memory as these are many; else
-    /// it is the search, and takes none. The edges are written over.
+    /// there is none. The edges are written over.
     pub fn of_state(
         alloc: Global,
         table: &'a NextTable<'_>,
         state: u32,
         letters: usize,
         edges: &mut Vec<Edge>,
-    ) -> Result<Self, OutOfMemory>
-        ensures { IfOk result (IsNextRow table.now state) }
+    ) -> Result<Option<Self>, OutOfMemory>
+        ensures { IfOk result (λ row. IfSome row (IsNextRow table.now state)) }
     {
         if let Some(row) = table.row(state) {
-            return Ok(NextRow::Kept(row));
+            return Ok(Some(NextRow::Kept(row)));
         }
         let dfa = table.dfa();
         if letters < dfa.alphabet().letters() as usize {
-            return Ok(NextRow::Searched);
+            return Ok(None);
         }
-        Ok(NextRow::Listed(next_row(alloc, dfa, state, edges)?))
+        let list = next_row(alloc, dfa, state, edges)?;
+        Ok(Some(NextRow::Listed(list)))
     }
 
-    /// Where a letter leads the reader from the state whose row this is.
-    pub fn next(&self, reader: &Reader<'_>, state: u32, letter: u32) -> u32
-        requires letter { letter < length reader.now.parts }
-        requires part { slice_index reader.now.parts letter < letters_of reader.now.table }
-        requires row { IsNextRow reader.now.table state self.now }
-        ensures { result ≡ next_of reader.now.table state (slice_index reader.now.parts letter) }
+    /// Where a letter leads from the state whose row this is.
+    pub fn next(&self, letter: u32) -> u32
+        requires { (d : Automaton) × (state : ℕ) × IsNextRow d state self.now × (letter < letters_of d) }
+        ensures { (d : Automaton) (state : ℕ) → IsNextRow d state self.now → letter < letters_of d → result ≡ next_of d state letter }
     {
-        match self.list() {
-            Some(next) => next[reader.parts.part(letter) as usize],
-            None => reader.next(state, letter),
-        }
+        self.list()[letter as usize]
     }
 
-    // The list of the states, if it is one.
-    fn list(&self) -> Option<&[u32]>
-        ensures { (d : Automaton) (state : ℕ) → IsNextRow d state self.now → IfSome result (λ next. next.now ≡ next_list d state) }
+    // The list of the states that the letters lead to.
+    fn list(&self) -> &[u32]
+        ensures { (d : Automaton) (state : ℕ) → IsNextRow d state self.now → result.now ≡ next_list d state }
     {
         match self {
-            NextRow::Kept(next) => Some(*next),
-            NextRow::Listed(next) => Some(next),
-            NextRow::Searched => None,
+            NextRow::Kept(next) => *next,
+            NextRow::Listed(next) => next,
         }
     }
 }
 
-/// The rows of the states of a key, for so many letters that are to be asked for. They take time and
-/// memory as these letters and the readers are many. The edges are written over.
+/// The rows of the states of a key, for so many letters that are to be asked for, or none where one of them is not
+/// worth its time. They take time and memory as these letters and the automata are many. The edges are written over.
 pub fn next_rows<'a>(
     alloc: Global,
-    readers: &'a [Reader<'_>],
+    tables: &'a [NextTable<'_>],
     key: &[u32],
     letters: usize,
     edges: &mut Vec<Edge>,
-) -> Result<Vec<NextRow<'a>>, OutOfMemory>
-    requires { length key.now ≡ length readers.now }
-    ensures { IfOk result (λ rows. AreNextRows (readings_in readers.now) key.now rows.items) }
+) -> Result<Option<Vec<NextRow<'a>>>, OutOfMemory>
+    requires { length key.now ≡ length tables.now }
+    ensures { IfOk result (λ found. IfSome found (λ rows. AreNextRows tables.now key.now rows.items)) }
 {
-    let mut rows = Vec::with_capacity(alloc, readers.len())?;
-    for (place, reader) in readers.iter().enumerate() {
-        rows.push(NextRow::of_state(alloc, &reader.table, key[place], letters, edges)?)?;
+    let mut rows = Vec::with_capacity(alloc, tables.len())?;
+    for (place, table) in tables.iter().enumerate() {
+        match NextRow::of_state(alloc, table, key[place], letters, edges)? {
+            Some(row) => rows.push(row)?,
+            None => return Ok(None),
+        }
     }
-    Ok(rows)
+    Ok(Some(rows))
+}
+
+/// Writes where the letter leads from each state of a key, whose rows these are.
+pub fn next_by_rows(readers: &[Reader<'_>], rows: &[NextRow<'_>], letter: u32, next: &mut [u32])
+    requires readers { (letters : ℕ) × AreReadings letters (readings_in readers.now) × (letter < letters) }
+    requires rows { (key : List ℕ) × AreNextRows (automata_in (readings_in readers.now)) key rows.now }
+    requires room { length next.old ≡ length readers.now }
+    ensures { (key : List ℕ) → AreNextRows (automata_in (readings_in readers.now)) key rows.now → next.new ≡ next_key (readings_in readers.now) key letter }
+{
+    for (place, reader) in readers.iter().enumerate() {
+        next[place] = rows[place].next(reader.parts.part(letter));
+    }
 }

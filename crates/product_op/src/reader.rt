@@ -6,7 +6,7 @@ ghost use Rattle.minimise.specs.Classes.{next_of, first_of};
 ghost use Rattle.product_op.specs.Readings.{reading_in};
 ghost use Rattle.product_op.specs.LeadingLetters.{letters_on};
 
-use crate::next_table::NextTable;
+use digit_tuple::dfa::Dfa;
 use digit_tuple::edges::Edge;
 use digit_tuple::faults::OutOfMemory;
 use digit_tuple::part_index::PartIndex;
@@ -16,38 +16,38 @@ use minimise::sink::{first_state, is_accepting, next_state};
 /// where missing edges lead: the empty residual.
 #[derive(Drop)]
 pub struct Reader<'a> {
-    pub table: NextTable<'a>,
+    pub dfa: &'a Dfa,
     pub parts: PartIndex,
 }
 
 impl Reader<'_> {
     /// The initial state, or the sink where no word is accepted.
     pub fn first(&self) -> u32
-        ensures { result ≡ first_of self.now.table }
+        ensures { result ≡ first_of self.now.dfa.now }
     {
-        first_state(self.table.dfa())
+        first_state(self.dfa)
     }
 
     /// Where a letter leads from a state or the sink.
     pub fn next(&self, state: u32, letter: u32) -> u32
         requires { letter < length self.now.parts }
-        ensures { result ≡ next_of self.now.table state (slice_index self.now.parts letter) }
+        ensures { result ≡ next_of self.now.dfa.now state (slice_index self.now.parts letter) }
     {
-        next_state(self.table.dfa(), state, self.parts.part(letter))
+        next_state(self.dfa, state, self.parts.part(letter))
     }
 
     /// Whether a state accepts; the sink doesn't.
     pub fn accepts(&self, state: u32) -> bool
-        ensures { result ≡ accepting_of self.now.table state }
+        ensures { result ≡ accepting_of self.now.dfa.now state }
     {
-        is_accepting(self.table.dfa(), state)
+        is_accepting(self.dfa, state)
     }
 
     /// Whether a state is the sink.
     pub fn is_sink(&self, state: u32) -> bool
-        ensures { IsTrue result ↔ (state ≡ states_of self.now.table) }
+        ensures { IsTrue result ↔ (state ≡ states_of self.now.dfa.now) }
     {
-        state == self.table.dfa().states()
+        state == self.dfa.states()
     }
 
     /// Adds the letters by whose parts an edge leads on from a state, those of each part in order.
@@ -60,10 +60,10 @@ impl Reader<'_> {
     ) -> Result<(), OutOfMemory>
         ensures { OnOk result (letters.new.items ≡ letters.old.items ++ letters_on (reading_in self.now) state) }
     {
-        if state >= self.table.dfa().states() {
+        if state >= self.dfa.states() {
             return Ok(());
         }
-        self.table.dfa().edges_into(state, row)?;
+        self.dfa.edges_into(state, row)?;
         for edge in row.iter() {
             letters.extend_from_slice(self.parts.letters(edge.letter))?;
         }

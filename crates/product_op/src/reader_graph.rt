@@ -1,14 +1,16 @@
 //! The graph of the states that letters lead automata to that read side by side.
 
-ghost use Rattle.std.specs.Prelude.{◌≡◌, ◌++◌, ◌<◌, ℕ, List, [], length, IfOk, OnOk};
+ghost use Rattle.std.specs.Prelude.{◌≡◌, ◌++◌, ◌<◌, ℕ, List, [], length, IfOk, IfSome, OnOk};
 ghost use Rattle.std.specs.Option.{option_map, option_to_list};
 ghost use Rattle.digit_tuple.specs.Keys.{AreKeyEdges};
-ghost use Rattle.product_op.specs.Readings.{readings_in, AreSideBySide, AreStates, first_key, flags_at, combined};
+ghost use Rattle.product_op.specs.NextRows.{AreNextRows};
+ghost use Rattle.product_op.specs.Readings.{readings_in, automata_in, AreSideBySide, AreStates, first_key, next_key, flags_at, combined};
 ghost use Rattle.product_op.specs.ReadingLaws.{first_is_key, live_key_is_key};
 ghost use Rattle.product_op.specs.SinkKeys.{is_dead_key, live_key, live_key_after};
 ghost use Rattle.product_op.specs.LeadingLetters.{AreFewLetters, AreLeading, key_edge};
 
-use crate::next_row::next_rows;
+use crate::next_row::{NextRow, next_by_rows, next_rows};
+use crate::next_table::NextTable;
 use crate::numbers_below::numbers_below;
 use crate::reader::Reader;
 use crate::reader_states::{all_accept, are_sinks, first_states, next_states};
@@ -33,12 +35,27 @@ pub fn few_letters(alloc: Global, letters: u32) -> Result<Vec<u32>, OutOfMemory>
     }
 }
 
-/// Automata that read side by side, the rule by which they accept, how many letters there are, and
-/// all of them where they are few, else none. A key has a state of each. Where all are sinks and the
-/// rule refuses, there is no key.
+/// Where the letters of each reader's automaton lead.
+pub fn next_tables<'a>(
+    alloc: Global,
+    readers: &'a [Reader<'_>],
+) -> Result<Vec<NextTable<'a>>, OutOfMemory>
+    ensures { IfOk result (λ tables. tables.items ≡ automata_in (readings_in readers.now)) }
+{
+    let mut tables = Vec::with_capacity(alloc, readers.len())?;
+    for reader in readers {
+        tables.push(NextTable::new(alloc, reader.dfa)?)?;
+    }
+    Ok(tables)
+}
+
+/// Automata that read side by side, where their letters lead, the rule by which they accept, how many
+/// letters there are, and all of them where they are few, else none. A key has a state of each. Where all
+/// are sinks and the rule refuses, there is no key.
 #[derive(Clone, Copy)]
 pub struct SideBySide<'a> {
     pub readers: &'a [Reader<'a>],
+    pub tables: &'a [NextTable<'a>],
     pub rule: Rule,
     pub letters: u32,
     pub few: &'a [u32],
@@ -47,7 +64,7 @@ pub struct SideBySide<'a> {
 impl KeyGraph for SideBySide<'_> {
     ghost letters = { λ s. s.letters };
 
-    ghost is_graph = { λ s. AreSideBySide s.letters (readings_in s.readers.now) s.rule × AreFewLetters s.letters s.few.now };
+    ghost is_graph = { λ s. AreSideBySide s.letters (readings_in s.readers.now) s.rule × AreFewLetters s.letters s.few.now × (s.tables.now ≡ automata_in (readings_in s.readers.now)) };
 
     ghost is_key = { λ s. AreStates (readings_in s.readers.now) };
 
@@ -133,22 +150,44 @@ impl SideBySide<'_> {
         out: &mut KeyEdges,
     ) -> Result<(), OutOfMemory>
         requires graph { AreSideBySide self.now.letters (readings_in self.now.readers.now) self.now.rule }
+        requires tables { self.now.tables.now ≡ automata_in (readings_in self.now.readers.now) }
         requires key { AreStates (readings_in self.now.readers.now) key.now }
         requires letters { AreLeading self.now.letters (live_key_after self.now.rule (readings_in self.now.readers.now) key.now) letters.now }
         requires empty { out.old ≡ [] }
         ensures { OnOk result (AreKeyEdges self.now.letters (live_key_after self.now.rule (readings_in self.now.readers.now) key.now) out.new) }
     {
         let alloc = *row.allocator();
-        let rows = next_rows(alloc, self.readers, key, letters.len(), row)?;
+        let rows = next_rows(alloc, self.tables, key, letters.len(), row)?;
         let mut states = out.take_spare(alloc);
         states.resize(self.readers.len(), 0)?;
         let next = states.as_mut_slice();
         for letter in letters {
-            next_states(self.readers, key, &rows, *letter, next);
+            self.write_next(key, &rows, *letter, next);
             self.push_live(*letter, next, out)?;
         }
         out.give_spare(states);
         Ok(())
+    }
+
+    // Writes where the letter leads from each state of the key, by its rows if there are any.
+    fn write_next(
+        &self,
+        key: &[u32],
+        rows: &Option<Vec<NextRow<'_>>>,
+        letter: u32,
+        next: &mut [u32],
+    )
+        requires graph { AreSideBySide self.now.letters (readings_in self.now.readers.now) self.now.rule }
+        requires letter { letter < self.now.letters }
+        requires key { length key.now ≡ length self.now.readers.now }
+        requires rows { IfSome rows.now (λ all. AreNextRows (automata_in (readings_in self.now.readers.now)) key.now all.items) }
+        requires room { length next.old ≡ length self.now.readers.now }
+        ensures { next.new ≡ next_key (readings_in self.now.readers.now) key.now letter }
+    {
+        match rows {
+            Some(rows) => next_by_rows(self.readers, rows, letter, next),
+            None => next_states(self.readers, key, letter, next),
+        }
     }
 
     // Adds an edge to these states, unless no word is accepted from them.

@@ -2,10 +2,8 @@
 
 ghost use Rattle.std.specs.Prelude.{◌≡◌, ◌<◌, ◌≤◌, ℕ, length, drop, IfOk};
 ghost use Rattle.product_op.specs.Readings.{readings_in, AreReadings, first_key, next_key, flags_at, all_true};
-ghost use Rattle.product_op.specs.NextRows.{AreNextRows};
 ghost use Rattle.product_op.specs.SinkKeys.{are_sinks};
 
-use crate::next_row::NextRow;
 use crate::reader::Reader;
 use digit_tuple::faults::OutOfMemory;
 use std::alloc::Global;
@@ -21,22 +19,15 @@ pub fn first_states(alloc: Global, readers: &[Reader<'_>]) -> Result<Vec<u32>, O
     Ok(key)
 }
 
-/// Writes where the letter leads from each state of the key, whose rows these are.
-pub fn next_states(
-    readers: &[Reader<'_>],
-    key: &[u32],
-    rows: &[NextRow<'_>],
-    letter: u32,
-    next: &mut [u32],
-)
+/// Writes where the letter leads from each state.
+pub fn next_states(readers: &[Reader<'_>], key: &[u32], letter: u32, next: &mut [u32])
     requires readers { (letters : ℕ) × AreReadings letters (readings_in readers.now) × (letter < letters) }
     requires key { length key.now ≡ length readers.now }
-    requires rows { AreNextRows (readings_in readers.now) key.now rows.now }
     requires room { length next.old ≡ length readers.now }
     ensures { next.new ≡ next_key (readings_in readers.now) key.now letter }
 {
     for (place, reader) in readers.iter().enumerate() {
-        next[place] = rows[place].next(reader, key[place], letter);
+        next[place] = reader.next(key[place], letter);
     }
 }
 

@@ -10,7 +10,7 @@ ghost use Rattle.minimise.specs.Canonical.{IsCanonical};
 ghost use Rattle.product_op.specs.Readings.{readings_in, AreSideBySide, AreCanonical, AreAlike, flags_of, combined};
 
 use crate::reader::Reader;
-use crate::reader_graph::{SideBySide, few_letters};
+use crate::reader_graph::{SideBySide, few_letters, next_tables};
 use crate::reader_states::first_states;
 use crate::rule::Rule;
 use digit_tuple::alphabet::Alphabet;
@@ -80,8 +80,10 @@ fn side_by_side(
 {
     let letters = alphabet.letters();
     let few = few_letters(alloc, letters)?;
+    let tables = next_tables(alloc, readers)?;
     let graph = SideBySide {
         readers,
+        tables: tables.as_slice(),
         rule,
         letters,
         few: few.as_slice(),

@@ -11,7 +11,7 @@ ghost use Rattle.product_op.specs.Readings.{readings_in, AreReadings};
 ghost use Rattle.product_op.specs.Tuples.{AreTuples, LeadToOne};
 
 use crate::reader::Reader;
-use crate::reader_graph::{SideBySide, few_letters};
+use crate::reader_graph::{SideBySide, few_letters, next_tables};
 use crate::reader_states::first_states;
 use crate::rule::Rule;
 use digit_tuple::alphabet::Alphabet;
@@ -47,8 +47,10 @@ pub fn explore_tuples(
 {
     let letters = alphabet.letters();
     let few = few_letters(alloc, letters)?;
+    let tables = next_tables(alloc, readers)?;
     let graph = SideBySide {
         readers,
+        tables: tables.as_slice(),
         rule: Rule::All,
         letters,
         few: few.as_slice(),

@@ -1,6 +1,5 @@
-use Rattle.product_op.specs.Readings.{readings_in}
 use Rattle.product_op.proofs.NextRowLemmas.{AreRowsTo}
 use Rattle.product_op.proofs.next_row.next_rows.Given as goal
 
 abbrev pub invariant-loop-place : goal.invariant-loop-place
-invariant-loop-place l = AreRowsTo (readings_in l.readers) l.key l.rows.items l.place
+invariant-loop-place l = AreRowsTo l.tables l.key l.rows.items l.place

@@ -8,11 +8,6 @@ use Rattle.product_op.specs.LeadingLetters.{key_edge}
 use Rattle.product_op.proofs.LeadingLemmas.{edges_by, edges_by_more, AreKeyEdges-leading}
 use Rattle.product_op.proofs.reader_graph.SideBySide.push_edges.Goals as goal
 
-pub next_states-requires-clause-readers : goal.next_states-requires-clause-readers
-next_states-requires-clause-readers c =
-    let s = c.args.self.now in
-    (s.letters, c.requires.graph.readings_are, c.requires.letters.in_range c.loop-letter.letter-index 0 c.loop-letter-test.true)
-
 pub loop-letter-preserved : goal.loop-letter-preserved
 loop-letter-preserved c =
     let s = c.args.self.now in
@@ -21,15 +16,18 @@ loop-letter-preserved c =
     let letters = c.args.letters.now in
     let place = c.loop-letter.letter-index in
     let letter = get_or letters place 0 in
-    c.in_ok-push_live.ensures
-    ∙ ap (λ es. es ++ option_to_list (option_map (key_edge letter) (live_key s.rule rs c.next_states.new.next))) c.loop-letter.invariant
-    ∙ ap (λ key. edges_by after (take place letters) ++ option_to_list (option_map (key_edge letter) (live_key s.rule rs key))) c.next_states.ensures
-    ∙ sym (edges_by_more after letters place c.loop-letter-test.true)
+    record {
+      edges = c.in_ok-push_live.ensures
+          ∙ ap (λ es. es ++ option_to_list (option_map (key_edge letter) (live_key s.rule rs c.write_next.new.next))) c.loop-letter.invariant.edges
+          ∙ ap (λ key. edges_by after (take place letters) ++ option_to_list (option_map (key_edge letter) (live_key s.rule rs key))) c.write_next.ensures
+          ∙ sym (edges_by_more after letters place c.loop-letter-test.true);
+      rows = c.loop-letter.invariant.rows;
+    }
 
 pub returns : goal.returns
 returns c =
     let s = c.args.self.now in
     let after = live_key_after s.rule (readings_in s.readers.now) c.args.key.now in
     let letters = c.args.letters.now in
-    let all = c.give_spare.ensures ∙ c.loop-letter.invariant ∙ ap (edges_by after) (take_all c.loop-letter.letter-index letters c.loop-letter-test.false) in
+    let all = c.give_spare.ensures ∙ c.loop-letter.invariant.edges ∙ ap (edges_by after) (take_all c.loop-letter.letter-index letters c.loop-letter-test.false) in
     subst (AreKeyEdges s.letters after) (sym all) (AreKeyEdges-leading s.letters after letters c.requires.letters)

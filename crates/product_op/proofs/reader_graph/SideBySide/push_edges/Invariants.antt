@@ -1,8 +1,13 @@
 use Rattle.std.proofs.Common.{◌≡◌, take}
-use Rattle.product_op.specs.Readings.{readings_in}
+use Rattle.std.specs.Option.{IfSome}
+use Rattle.product_op.specs.NextRows.{AreNextRows}
+use Rattle.product_op.specs.Readings.{automata_in, readings_in}
 use Rattle.product_op.specs.SinkKeys.{live_key_after}
 use Rattle.product_op.proofs.LeadingLemmas.{edges_by}
 use Rattle.product_op.proofs.reader_graph.SideBySide.push_edges.Given as goal
 
 abbrev pub invariant-loop-letter : goal.invariant-loop-letter
-invariant-loop-letter l = l.out ≡ edges_by (live_key_after l.self.rule (readings_in l.self.readers.now) l.key) (take l.letter-index l.letters)
+invariant-loop-letter l = record {
+  edges : l.out ≡ edges_by (live_key_after l.self.rule (readings_in l.self.readers.now) l.key) (take l.letter-index l.letters);
+  rows : IfSome l.rows (λ all. AreNextRows (automata_in (readings_in l.self.readers.now)) l.key all.items);
+}
