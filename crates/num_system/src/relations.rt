@@ -1,14 +1,15 @@
 //! The relations of a system's numbers.
 
-ghost use Rattle.std.specs.Prelude.{◌≡◌, ◌+◌, length, IfOk, OnOk};
+ghost use Rattle.std.specs.Prelude.{◌≡◌, ◌+◌, ◌∷◌, [], ℕ, length, IfOk, OnOk};
 ghost use Rattle.std.specs.Result.{IsErrOf};
 ghost use Rattle.digit_tuple.specs.Letters.{IsAlphabet, IsTooLarge};
 ghost use Rattle.digit_tuple.specs.Width.{HasApart};
 ghost use Rattle.minimise.specs.Canonical.{IsCanonical};
 ghost use Rattle.numeration.specs.Systems.{System, IsSystem};
-ghost use Rattle.numeration.specs.Relations.{IsLanguageOf, IsAdderOf, IsEqualityOf};
+ghost use Rattle.numeration.specs.Relations.{IsLanguageOf, IsAdderOf, IsEqualityOf, IsOrderOf, IsZeroOf};
 ghost use Rattle.number_order.specs.Orders.{OrderAlike, pair_sizes, pair_letters};
 ghost use Rattle.num_system.specs.Sealed.{AreOrderRelationsOf, AreRelationsOf};
+ghost use Rattle.num_system.specs.Successor.{IsSuccessorOf};
 ghost use Rattle.num_system.specs.Sealing.{IsLeastLanguage, IsOrderWithin, IsSealedWithin, ExceedsByLetters, ExceedsByStates};
 
 use crate::successor::successor_of;
@@ -20,6 +21,10 @@ use digit_tuple::faults::{OpFault, OutOfMemory};
 use number_order::order::{equality_of, order_of};
 use number_order::zero::zero_of;
 use std::alloc::Global;
+
+// Up to so many letters on three tracks the successor takes less time from the order than from the sums. Of more letters
+// most have an edge in the product of two orders, and few in the adder.
+const FEW_LETTERS: u32 = 64;
 
 // The canonical automata of these relations.
 #[derive(Drop)]
@@ -70,9 +75,8 @@ pub(crate) fn relations_of(
     Ok(relations.with_successor(successor))
 }
 
-// The relations of each system whose language the canonical automaton accepts, the successor from the
-// canonical adder, without a limit.
-pub(crate) fn relations_by_sums(
+// The relations of each system whose language and sums the canonical automata accept, without a limit.
+pub(crate) fn relations_without_limit(
     alloc: Global,
     language: &Dfa,
     adder: &Dfa,
@@ -84,8 +88,29 @@ pub(crate) fn relations_by_sums(
     ensures { IfOk result (λ r. (s : System) → IsSystem s → IsLanguageOf direction s language.now → IsAdderOf direction s adder.now → AreRelationsOf direction s r.equal r.less r.successor r.zero) }
 {
     let relations = without_limit(order_relations(alloc, language, direction, u32::MAX))?;
-    let successor = successor_by_sums(alloc, &relations.less, &relations.zero, adder, direction)?;
+    let successor = successor_without_limit(alloc, &relations, adder, direction)?;
     Ok(relations.with_successor(successor))
+}
+
+// The canonical automaton of the successor, from the order where there are few letters, else from the sums.
+fn successor_without_limit(
+    alloc: Global,
+    relations: &OrderRelations,
+    adder: &Dfa,
+    direction: Direction,
+) -> Result<Dfa, OutOfMemory>
+    requires less { IsCanonical relations.now.less }
+    requires zero { IsCanonical relations.now.zero }
+    requires adder { IsCanonical adder.now }
+    requires tracks { (digits : ℕ) × (relations.now.less.sizes ≡ digits ∷ digits ∷ []) × (relations.now.zero.sizes ≡ digits ∷ []) × (adder.now.sizes ≡ digits ∷ digits ∷ digits ∷ []) }
+    requires fits { IsAlphabet adder.now.sizes }
+    ensures successor { IfOk result (λ next. (s : System) → IsSystem s → IsOrderOf direction s relations.now.less → IsZeroOf direction s relations.now.zero → IsAdderOf direction s adder.now → IsSuccessorOf direction s next) }
+    ensures canonical { IfOk result (λ next. IsCanonical next) }
+{
+    if adder.alphabet().letters() <= FEW_LETTERS {
+        return without_limit(successor_of(alloc, &relations.less, direction, u32::MAX));
+    }
+    successor_by_sums(alloc, &relations.less, &relations.zero, adder, direction)
 }
 
 // The relations but the successor of each system whose language the canonical automaton accepts. The

@@ -8,7 +8,7 @@ ghost use Rattle.numeration.specs.Relations.{IsAdderOf};
 ghost use Rattle.num_system.specs.Sealed.{SystemValue, AreRelationsOf, sealed_of, system_of};
 ghost use Rattle.num_system.specs.Sealing.{IsLeastLanguage, IsSealedWithin, ExceedsByLetters, ExceedsByStates};
 
-use crate::relations::{Relations, relations_by_sums, relations_of};
+use crate::relations::{Relations, relations_of, relations_without_limit};
 use crate::system::System;
 use digit_tuple::dfa::Dfa;
 use digit_tuple::faults::{OpFault, OutOfMemory};
@@ -49,7 +49,7 @@ pub fn seal_built_in<N: NumSystem>(alloc: Global, system: &N) -> Result<System, 
     let language = least_language(alloc, system)?;
     let adder = least_adder(alloc, system)?;
     let direction = system.direction();
-    let relations = relations_by_sums(alloc, &language, &adder, direction)?;
+    let relations = relations_without_limit(alloc, &language, &adder, direction)?;
     system_from(alloc, system, language, adder, relations)
 }
 

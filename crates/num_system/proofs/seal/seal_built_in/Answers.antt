@@ -7,8 +7,8 @@ use Rattle.num_system.specs.Sealed.{SystemValue, AreRelationsOf}
 use Rattle.num_system.specs.Sealing.{IsLeastLanguage}
 use Rattle.num_system.proofs.seal.seal_built_in.Goals as goal
 
-pub relations_by_sums-requires : goal.relations_by_sums-requires
-relations_by_sums-requires g c =
+pub relations_without_limit-requires : goal.relations_without_limit-requires
+relations_without_limit-requires g c =
     let s = g.N.NumSystem.system c.args.system.now in
     let way = sym c.direction-direction.ensures in
     record {

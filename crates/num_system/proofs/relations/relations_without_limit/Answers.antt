@@ -11,7 +11,7 @@ use Rattle.num_system.specs.declared.relations.OrderRelations.{OrderRelations}
 use Rattle.num_system.specs.declared.relations.Relations.{Relations}
 use Rattle.num_system.proofs.SealLemmas.{with_next}
 use Rattle.num_system.proofs.StepLemmas.{not_too_large, two_fit}
-use Rattle.num_system.proofs.relations.relations_by_sums.Goals as goal
+use Rattle.num_system.proofs.relations.relations_without_limit.Goals as goal
 
 -- the relations are those of each system whose language the automaton accepts
 abbrev Tells : Direction → Automaton → OrderRelations → Type 0
@@ -23,8 +23,8 @@ without_limit-requires c letters =
     let fits = two_fit s.digits (subst IsAlphabet c.requires.system.3.sizes c.requires.fits) in
     not_too_large (pair_sizes c.args.language.now) (subst IsAlphabet (sym (ap (λ (ss : List ℕ). ss ++ ss) c.requires.system.2.accepts.sizes)) fits) (c.order_relations.ensures.letters letters)
 
-pub successor_by_sums-requires : goal.successor_by_sums-requires
-successor_by_sums-requires c =
+pub successor_without_limit-requires : goal.successor_without_limit-requires
+successor_without_limit-requires c =
     let told = IfOk-at_ok (Tells c.args.direction c.args.language.now) c.in_ok-relations.ensures c.order_relations.ensures.relations in
     let so_far = told c.requires.system.0 c.requires.system.1 c.requires.system.2.accepts in
     record {
