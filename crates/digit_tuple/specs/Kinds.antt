@@ -1,7 +1,7 @@
 -- The words by which users see the kinds of steps.
 use Rattle.std.specs.Prelude.{ℕ, List, codes}
 use Rattle.digit_tuple.specs.declared.kind.Kind.{Kind}
-use Rattle.digit_tuple.specs.declared.kind.Kind.TheVariants.{Read, Reverse, Regex, Pad, Valid, Order, Const, Product, Complement, Project, Combine, Promote}
+use Rattle.digit_tuple.specs.declared.kind.Kind.TheVariants.{Read, Reverse, Regex, Pad, Valid, Order, Const, Product, Complement, Project, Combine, Promote, Concat, Star, Transduce, Split, Join}
 
 -- the name of a kind
 abbrev pub kind_name : Kind → List ℕ
@@ -17,3 +17,8 @@ kind_name Complement = codes "complement"
 kind_name Project = codes "project"
 kind_name Combine = codes "combine"
 kind_name Promote = codes "promote"
+kind_name Concat = codes "concat"
+kind_name Star = codes "star"
+kind_name Transduce = codes "transduce"
+kind_name Split = codes "split"
+kind_name Join = codes "join"

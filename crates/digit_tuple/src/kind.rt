@@ -30,6 +30,16 @@ pub enum Kind {
     Combine,
     /// The fixed point of a morphism.
     Promote,
+    /// The words of one language followed by those of another.
+    Concat,
+    /// Words of a language, any number of them one after another.
+    Star,
+    /// The word that a transducer makes of a word.
+    Transduce,
+    /// A word over a base, read digit by digit of its root.
+    Split,
+    /// A word over a base, read in groups of digits.
+    Join,
 }
 
 impl Kind {
@@ -50,6 +60,11 @@ impl Kind {
             Kind::Project => "project",
             Kind::Combine => "combine",
             Kind::Promote => "promote",
+            Kind::Concat => "concat",
+            Kind::Star => "star",
+            Kind::Transduce => "transduce",
+            Kind::Split => "split",
+            Kind::Join => "join",
         }
     }
 }

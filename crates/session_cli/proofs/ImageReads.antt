@@ -5,7 +5,7 @@ use Rattle.std.specs.declared.vec.Vec.{Vec}
 use Rattle.wal_outside.specs.Files.{Files}
 use Rattle.wal_outside.specs.Views.{StoreView}
 use Rattle.wal_outside.specs.declared.folder.Folder.{Folder}
-use Rattle.wal_outside.specs.declared.folder.Folder.TheVariants.{Automata, Words, Bases, Macros, Morphisms, Results, Commands}
+use Rattle.wal_outside.specs.declared.folder.Folder.TheVariants.{Automata, Words, Bases, Macros, Morphisms, Transducers, Results, Commands}
 use Rattle.dfa_loading.specs.Loading.{AreListedBy, FirstRefuses, ReadsAt}
 use Rattle.dfa_loading.specs.Places.{IsCausedBy, IsListedBy, Refuses}
 use Rattle.dfa_loading.specs.declared.fault.LoadFault.{LoadFault}
@@ -33,6 +33,7 @@ with_morphisms files others Words = files Words
 with_morphisms files others Bases = files Bases
 with_morphisms files others Macros = files Macros
 with_morphisms files others Morphisms = others Morphisms
+with_morphisms files others Transducers = files Transducers
 with_morphisms files others Results = files Results
 with_morphisms files others Commands = files Commands
 

@@ -5,7 +5,7 @@ use Rattle.std.specs.declared.vec.Vec.{Vec}
 use Rattle.wal_outside.specs.Causes.{CountsFault}
 use Rattle.wal_outside.specs.Files.{Files}
 use Rattle.wal_outside.specs.Views.{StoreView}
-use Rattle.wal_outside.specs.declared.folder.Folder.TheVariants.{Automata, Words, Bases, Macros, Morphisms, Results, Commands}
+use Rattle.wal_outside.specs.declared.folder.Folder.TheVariants.{Automata, Words, Bases, Macros, Morphisms, Transducers, Results, Commands}
 use Rattle.dfa_loading.specs.declared.fault.LoadFault.TheVariants as loads
 use Rattle.macro_expand.specs.Expansion.{expansion}
 use Rattle.macro_expand.specs.Texts.{TextOf}
@@ -113,6 +113,7 @@ with_macros files others Words = files Words
 with_macros files others Bases = files Bases
 with_macros files others Macros = others Macros
 with_macros files others Morphisms = files Morphisms
+with_macros files others Transducers = files Transducers
 with_macros files others Results = files Results
 with_macros files others Commands = files Commands
 
@@ -123,6 +124,7 @@ same_others files others Words name other = refl
 same_others files others Bases name other = refl
 same_others files others Macros name other = absurd (other refl)
 same_others files others Morphisms name other = refl
+same_others files others Transducers name other = refl
 same_others files others Results name other = refl
 same_others files others Commands name other = refl
 

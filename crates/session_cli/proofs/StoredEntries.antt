@@ -5,7 +5,7 @@ use Rattle.std.proofs.lemmas.Bool.{and_parts}
 use Rattle.wal_outside.specs.Files.{same_file}
 use Rattle.wal_outside.specs.Folders.{folder_index}
 use Rattle.wal_outside.specs.declared.folder.Folder.{Folder}
-use Rattle.wal_outside.specs.declared.folder.Folder.TheVariants.{Automata, Words, Bases, Macros, Morphisms, Results, Commands}
+use Rattle.wal_outside.specs.declared.folder.Folder.TheVariants.{Automata, Words, Bases, Macros, Morphisms, Transducers, Results, Commands}
 use Rattle.definitions.specs.Trees.{Tree, File, Regex, Formula, Fixed, Image, Combine, MayStandIn, Ledger, tree_of}
 use Rattle.session_cli.specs.declared.command_word.CommandWord.{CommandWord}
 use Rattle.session_cli.specs.declared.command_word.CommandWord.TheVariants as words
@@ -90,6 +90,7 @@ words_there Words same = λ i. Words
 words_there Bases same = absurd (cc)
 words_there Macros same = absurd (cc)
 words_there Morphisms same = absurd (cc)
+words_there Transducers same = absurd (cc)
 words_there Results same = absurd (cc)
 words_there Commands same = absurd (cc)
 
@@ -99,6 +100,7 @@ words_back Words same = λ i. Words
 words_back Bases same = absurd (cc)
 words_back Macros same = absurd (cc)
 words_back Morphisms same = absurd (cc)
+words_back Transducers same = absurd (cc)
 words_back Results same = absurd (cc)
 words_back Commands same = absurd (cc)
 
@@ -108,6 +110,7 @@ bases_there Words same = absurd (cc)
 bases_there Bases same = λ i. Bases
 bases_there Macros same = absurd (cc)
 bases_there Morphisms same = absurd (cc)
+bases_there Transducers same = absurd (cc)
 bases_there Results same = absurd (cc)
 bases_there Commands same = absurd (cc)
 

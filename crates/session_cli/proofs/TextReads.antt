@@ -5,7 +5,7 @@ use Rattle.std.specs.Option.{option_map}
 use Rattle.wal_outside.specs.Files.{Files}
 use Rattle.wal_outside.specs.Places.{Place}
 use Rattle.wal_outside.specs.Views.{StoreView}
-use Rattle.wal_outside.specs.declared.folder.Folder.TheVariants.{Automata, Words, Bases, Macros, Morphisms, Results, Commands}
+use Rattle.wal_outside.specs.declared.folder.Folder.TheVariants.{Automata, Words, Bases, Macros, Morphisms, Transducers, Results, Commands}
 use Rattle.system_files.specs.SystemFiles.{Custom}
 use Rattle.system_files.specs.SystemTexts.{FoundText, Agrees}
 use Rattle.session_cli.specs.declared.fault.Fault.{Fault}
@@ -44,6 +44,7 @@ with_bases files custom Words = files Words
 with_bases files custom Bases = custom
 with_bases files custom Macros = files Macros
 with_bases files custom Morphisms = files Morphisms
+with_bases files custom Transducers = files Transducers
 with_bases files custom Results = files Results
 with_bases files custom Commands = files Commands
 

@@ -10,6 +10,7 @@ pub enum Folder {
     Bases,
     Macros,
     Morphisms,
+    Transducers,
     Results,
     Commands,
 }
@@ -25,6 +26,7 @@ impl Folder {
             Folder::Bases => "Custom Bases",
             Folder::Macros => "Macro Library",
             Folder::Morphisms => "Morphism Library",
+            Folder::Transducers => "Transducer Library",
             Folder::Results => "Result",
             Folder::Commands => "Command Files",
         }
