@@ -1,13 +1,16 @@
 -- The first part that is refused is where the grammar breaks.
 use Rattle.std.proofs.Common.{◌≡◌, ℕ, suc, ◌+◌, ◌^◌, ◌<◌, ◌≤◌, Bool, true, false, cond, List, [], ◌∷◌, ◌++◌, length, take, drop, map, Result, Ok, Err, refl, sym, ◌∙◌, ap, subst, arith, codes, bytes_eq, ⊎_elim}
 use Rattle.std.specs.Prelude.{slice_index_or}
+use Rattle.text_grammar.specs.declared.class.Class.TheVariants.{Blank}
 use Rattle.text_grammar.specs.Faults.{Begins, BreaksAt}
 use Rattle.command_head.specs.declared.fault.HeadFault.TheVariants.{Syntax, Number}
-use Rattle.command_head.specs.Readings.{Refusal, Form, Range, fault_at, placed, ◌>>=◌}
-use Rattle.text_grammar.specs.Numbers.{is_short}
-use Rattle.command_head.specs.Numbers.{is_number, number_of}
+use Rattle.command_head.specs.Readings.{Refusal, Form, Range, fault_at, placed}
+use Rattle.text_grammar.specs.Results.{◌>>=◌}
+use Rattle.text_grammar.specs.Numbers.{begins_with, is_number, is_short, number_of}
 use Rattle.command_head.specs.Members.{has, put, with_member}
-use Rattle.command_head.specs.Parts.{Part, begins_with_blank, behind_blanks, behind_word, texts_of, parts_of, number_place, is_name, is_system, is_quoted}
+use Rattle.text_grammar.specs.Fronts.{begins_in}
+use Rattle.text_grammar.specs.Systems.{is_system}
+use Rattle.command_head.specs.Parts.{Part, behind_blanks, behind_word, texts_of, parts_of, number_place, is_name, is_quoted}
 use Rattle.command_head.specs.Heads.{RegHead, Stage, AtWord, AtName, BehindName, AtNumber, BehindNumber, BehindSet, BehindSystem, AtEnd, body_step, step, ended, run, reg_at}
 use Rattle.command_head.specs.Grammar.{SpellsReg}
 use Rattle.command_head.specs.Breaks.{part_at, ExceedsAt, IsSyntaxAt, IsNumberAt}
@@ -106,7 +109,7 @@ form_tests false b c x f e g h = cc
 record IsGreat (stage : Stage) (part : List ℕ) : Type 0 where
   at_number : IsAtNumber stage
   number : is_number part ≡ true
-  long : is_short (number_of part) ≡ false
+  long : is_short (2 ^ 31) (number_of part) ≡ false
 
 range_step : (stage : Stage) (part : List ℕ) → step stage part ≡ Err Range → IsGreat stage part
 unfolding step body_step with_member
@@ -114,17 +117,17 @@ range_step AtWord part h = absurd (no_range (bytes_eq part (codes "reg")) _ h)
 range_step AtName part h = absurd (no_range (is_name part) _ h)
 range_step (BehindName name) part h = absurd (no_range_2 (bytes_eq part (codes "{")) (is_system part) _ _ h)
 range_step (AtNumber name sets members) part h =
-    let t = range_tests (is_number part) (is_short (number_of part)) (has members (number_of part)) (put members (number_of part)) (λ more. BehindNumber name sets more) h in
+    let t = range_tests (is_number part) (is_short (2 ^ 31) (number_of part)) (has members (number_of part)) (put members (number_of part)) (λ more. BehindNumber name sets more) h in
     record { at_number = tt; number = t.0; long = t.1 }
 range_step (BehindNumber name sets members) part h = absurd (no_range_2 (bytes_eq part (codes ",")) (bytes_eq part (codes "}")) _ _ h)
 range_step (BehindSet name sets) part h = absurd (no_range_2 (bytes_eq part (codes "{")) (is_quoted part) _ _ h)
 range_step (BehindSystem name names) part h = absurd (no_range_2 (is_system part) (is_quoted part) _ _ h)
 range_step (AtEnd head) part h = cc
 
-form_step : (stage : Stage) (part : List ℕ) → IsAtNumber stage → step stage part ≡ Err Form → is_number part ≡ true → is_short (number_of part) ≡ false → ⊥
+form_step : (stage : Stage) (part : List ℕ) → IsAtNumber stage → step stage part ≡ Err Form → is_number part ≡ true → is_short (2 ^ 31) (number_of part) ≡ false → ⊥
 unfolding step with_member
 form_step (AtNumber name sets members) part at_number h number long =
-    form_tests (is_number part) (is_short (number_of part)) (has members (number_of part)) (put members (number_of part)) (λ more. BehindNumber name sets more) number long h
+    form_tests (is_number part) (is_short (2 ^ 31) (number_of part)) (has members (number_of part)) (put members (number_of part)) (λ more. BehindNumber name sets more) number long h
 form_step AtWord part at_number h number long = at_number
 form_step AtName part at_number h number long = at_number
 form_step (BehindName name) part at_number h number long = at_number
@@ -161,20 +164,21 @@ broken_here limit whole stage part parts refusal low room sane h = record {
         let f = goes_first stage other allowed.0 allowed.1 allowed.2 in
         ⊎_elim
         (λ z. form_step stage bytes (number_stage stage other f.0 (subst (λ (n : ℕ). is_number (take n bytes ++ exceeds.other) ≡ true) (sym z) exceeds.other_number) f.1) e
-        (subst (λ (n : ℕ). is_number (drop n bytes) ≡ true) z exceeds.number) (subst (λ (n : ℕ). is_short (number_of (drop n bytes)) ≡ false) z exceeds.long))
+        (subst (λ (n : ℕ). is_number (drop n bytes) ≡ true) z exceeds.number) (subst (λ (n : ℕ). is_short (2 ^ 31) (number_of (drop n bytes)) ≡ false) z exceeds.long))
         (λ s. valued_stage stage other f.0 (valued_split bytes exceeds.other s) f.1)
         (number_split bytes)
     by_kind Range e =
         let great = range_step stage part.bytes e in
-        let other = allowed limit stage room low sane great.at_number in
+        let other = allowed limit stage (begins_with 45 part.bytes) room low sane great.at_number in
         let bytes = part.bytes in
         let begin = sym (number_place-number bytes great.number) in (
           record {
             within = omega arith;
             number = subst (λ (n : ℕ). is_number (drop n bytes) ≡ true) begin great.number;
-            long = subst (λ (n : ℕ). is_short (number_of (drop n bytes)) ≡ false) begin great.long;
+            long = subst (λ (n : ℕ). is_short (2 ^ 31) (number_of (drop n bytes)) ≡ false) begin great.long;
             other = other.other;
             other_number = other.number;
+            sign = subst (λ (n : ℕ). begins_with 45 other.other ≡ begins_with 45 (drop n bytes)) begin other.sign_is;
             allowed = subst (λ (n : ℕ). Begins (GoesAs stage) ((take n bytes ++ other.other) ∷ [])) begin other.begins;
           },
           sym begin,
@@ -206,6 +210,7 @@ module _ (stage next : Stage) (part : List ℕ) (parts : List (List ℕ)) (h : s
     long = e.long;
     other = e.other;
     other_number = e.other_number;
+    sign = e.sign;
     allowed = begins_more (take count parts ++ (take (number_place (part_at parts count)) (part_at parts count) ++ e.other) ∷ []) e.allowed;
   }
 
@@ -216,6 +221,7 @@ module _ (stage next : Stage) (part : List ℕ) (parts : List (List ℕ)) (h : s
     long = e.long;
     other = e.other;
     other_number = e.other_number;
+    sign = e.sign;
     allowed = begins_less (take count parts ++ (take (number_place (part_at parts count)) (part_at parts count) ++ e.other) ∷ []) e.allowed;
   }
 
@@ -265,15 +271,15 @@ reg_breaks parts count b = record {
 }
 
 reg_exceeds : (parts : List (List ℕ)) (count : ℕ) → ExceedsAt (GoesAs AtWord) parts count → ExceedsAt SpellsReg parts count
-reg_exceeds parts count e = record { within = e.within; number = e.number; long = e.long; other = e.other; other_number = e.other_number; allowed = reg_begins (take count parts ++ (take (number_place (part_at parts count)) (part_at parts count) ++ e.other) ∷ []) e.allowed }
+reg_exceeds parts count e = record { within = e.within; number = e.number; long = e.long; other = e.other; other_number = e.other_number; sign = e.sign; allowed = reg_begins (take count parts ++ (take (number_place (part_at parts count)) (part_at parts count) ++ e.other) ∷ []) e.allowed }
 
 exceeds_reg : (parts : List (List ℕ)) (count : ℕ) → ExceedsAt SpellsReg parts count → ExceedsAt (GoesAs AtWord) parts count
-exceeds_reg parts count e = record { within = e.within; number = e.number; long = e.long; other = e.other; other_number = e.other_number; allowed = reg_goes_on (take count parts ++ (take (number_place (part_at parts count)) (part_at parts count) ++ e.other) ∷ []) e.allowed }
+exceeds_reg parts count e = record { within = e.within; number = e.number; long = e.long; other = e.other; other_number = e.other_number; sign = e.sign; allowed = reg_goes_on (take count parts ++ (take (number_place (part_at parts count)) (part_at parts count) ++ e.other) ∷ []) e.allowed }
 
 few_parts : (text : List ℕ) → spent AtWord + length (parts_of text) ≤ length text + 1
 unfolding parts_of
 few_parts text =
-    let few = length-parts (length text) (length text) (begins_with_blank (behind_word text)) (behind_blanks (behind_word text)) in
+    let few = length-parts (length text) (length text) (begins_in Blank (behind_word text)) (behind_blanks (behind_word text)) in
     let less = length-behind_word text in
     omega arith
 

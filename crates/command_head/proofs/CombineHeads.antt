@@ -1,16 +1,15 @@
 -- Heads of `combine`: a word, and one or more names, each alone or with a value.
-use Rattle.std.proofs.Common.{◌≡◌, ◌≢◌, ℕ, ◌+◌, Bool, true, false, List, [], ◌∷◌, ◌++◌, ℤ, pos, length, take, drop, get_or, Option, None, Some, refl, sym, ◌∙◌, ap, subst, arith, codes, inl, inr, ⊎_elim}
+use Rattle.std.proofs.Common.{◌≡◌, ◌≢◌, ℕ, ◌+◌, Bool, true, false, List, [], ◌∷◌, ◌++◌, ℤ, pos, length, take, drop, get_or, Option, None, Some, refl, sym, ◌∙◌, ap, subst, arith, codes, inl, inr, ⊎_elim, ◌^◌}
 use Rattle.std.proofs.lemmas.List.{append-nil, append_assoc, take-append-drop}
 use Rattle.std.proofs.lemmas.Bool.{false≢true, and_parts}
 use Rattle.text_grammar.specs.Faults.{Begins}
-use Rattle.text_grammar.specs.declared.class.Class.TheVariants.{NameByte}
-use Rattle.text_grammar.specs.Fronts.{is_in, front_len, front_of, behind_front}
-use Rattle.text_grammar.specs.Numbers.{is_short}
-use Rattle.command_head.specs.Numbers.{is_number, number_of}
-use Rattle.command_head.specs.Parts.{begins_with_letter, is_name, is_word, number_place}
+use Rattle.text_grammar.specs.declared.class.Class.TheVariants.{Letter, NameByte}
+use Rattle.text_grammar.specs.Fronts.{begins_in, behind_front, front_len, front_of, is_in}
+use Rattle.text_grammar.specs.Numbers.{begins_with, is_number, is_short, number_of}
+use Rattle.command_head.specs.Parts.{is_name, is_word, number_place}
 use Rattle.command_head.specs.Heads.{ValuedName, CombineHead}
 use Rattle.command_head.specs.Values.{IsValueText, IsLongValued}
-use Rattle.command_head.specs.Grammar.{SpellsValue, SpellsValued, SpellEach, SpellsCombine}
+use Rattle.command_head.specs.Grammar.{SpellsNumber, SpellsValue, SpellsValued, SpellEach, SpellsCombine}
 use Rattle.command_head.proofs.FrontSteps.{Stops, front_of-append, behind_front-append}
 use Rattle.command_head.proofs.PartShape.{name_bytes, word_name}
 use Rattle.command_head.proofs.ValuedParts.{IsBehindName, letter_append, number_split, back_is, front_is, letter_number, numbered_name, number_place-valued}
@@ -145,9 +144,9 @@ form_long part refused long = ⊎_elim alone_number (λ s. behind_name s) (numbe
 
     alone_number : number_place part ≡ 0 → ⊥
     alone_number z =
-        let letter : begins_with_letter (take (number_place part) part ++ long.other) ≡ true =
-        subst (λ (l : List ℕ). begins_with_letter l ≡ true) (sym spells.part_is) (letter_append valued.name spells.behind (and_parts _ _ spells.name).0) in
-        letter_number long.other (subst (λ (n : ℕ). begins_with_letter (take n part ++ long.other) ≡ true) z letter) long.other_number
+        let letter : begins_in Letter (take (number_place part) part ++ long.other) ≡ true =
+        subst (λ (l : List ℕ). begins_in Letter l ≡ true) (sym spells.part_is) (letter_append valued.name spells.behind (and_parts _ _ spells.name).0) in
+        letter_number long.other (subst (λ (n : ℕ). begins_in Letter (take n part ++ long.other) ≡ true) z letter) long.other_number
 
     behind_name : IsBehindName part → ⊥
     behind_name s =
@@ -157,26 +156,38 @@ form_long part refused long = ⊎_elim alone_number (λ s. behind_name s) (numbe
         ∙ name_front _ valued.name spells.behind spells.part_is spells.name (value_text_of spells.behind valued.value spells.value) in
         refused s.name (61 ∷ s.behind) s.part_is (ap is_name same ∙ spells.name) (inr (s.behind, refl, subst (λ (l : List ℕ). is_number l ≡ true) (back_is part s) long.number))
 
+-- zero, with a sign or without
+abbrev zero_of : Bool → List ℕ
+zero_of true = codes "-0"
+zero_of false = codes "0"
+
+zero_spelled : (sign : Bool) → SpellsNumber (zero_of sign) (pos 0) × (begins_with 45 (zero_of sign) ≡ sign)
+zero_spelled true = (record { number = refl; value = refl; short = refl }, refl)
+zero_spelled false = (record { number = refl; value = refl; short = refl }, refl)
+
 -- a value out of range, and zero in its place
 pub value_long : (part : List ℕ) (place : ℕ) → IsLongValued part place → (number_place part ≡ place) × IsLong IsSomeValued part
 value_long part place is =
     let value = is.value in
     let part_is : part ≡ is.name ++ 61 ∷ value.number = is.part_is ∙ ap (λ (l : List ℕ). is.name ++ l) value.behind_is in
     let place_is : number_place part ≡ length is.name + 1 = ap number_place part_is ∙ number_place-valued is.name value.number is.is_named in
-    let split : IsBehindName part = record { name = is.name; behind = value.number; part_is = part_is; letter = (and_parts _ _ is.is_named).0; bytes = name_bytes is.name is.is_named; place = place_is } in (
+    let split : IsBehindName part = record { name = is.name; behind = value.number; part_is = part_is; letter = (and_parts _ _ is.is_named).0; bytes = name_bytes is.name is.is_named; place = place_is } in
+    let other = zero_of (begins_with 45 value.number) in
+    let zero = zero_spelled (begins_with 45 value.number) in (
       place_is ∙ is.place,
       record {
         number = subst (λ (l : List ℕ). is_number l ≡ true) (sym (back_is part split)) value.digits;
-        long = subst (λ (l : List ℕ). is_short (number_of l) ≡ false) (sym (back_is part split)) value.long;
-        other = codes "0";
-        other_number = refl;
+        long = subst (λ (l : List ℕ). is_short (2 ^ 31) (number_of l) ≡ false) (sym (back_is part split)) value.long;
+        other = other;
+        other_number = zero.0.number;
+        sign = zero.1 ∙ ap (begins_with 45) (sym (back_is part split));
         taken = (
           record { name = is.name; value = Some (pos 0) },
           record {
-            behind = 61 ∷ codes "0";
-            part_is = ap (λ (l : List ℕ). l ++ codes "0") (front_is part split) ∙ append_assoc is.name (61 ∷ []) (codes "0");
+            behind = 61 ∷ other;
+            part_is = ap (λ (l : List ℕ). l ++ other) (front_is part split) ∙ append_assoc is.name (61 ∷ []) other;
             name = is.is_named;
-            value = (codes "0", refl, record { number = refl; value = refl; short = refl });
+            value = (other, refl, zero.0);
           },
         );
       },
@@ -196,7 +207,7 @@ long_refused part place is some =
     by_value None s = cc
     by_value (Some n) s =
         let e : is.value.number ≡ s.0 = ap (λ (l : List ℕ). drop 1 l) s.1 in
-        false≢true (sym is.value.long ∙ ap (λ (l : List ℕ). is_short (number_of l)) e ∙ ap is_short s.2.value ∙ s.2.short)
+        false≢true (sym is.value.long ∙ ap (λ (l : List ℕ). is_short (2 ^ 31) (number_of l)) e ∙ ap (is_short (2 ^ 31)) s.2.value ∙ s.2.short)
 
 -- the grammar goes on where such a part has a number that fits
 pub long_begins : (word : List ℕ) (items : List (List ℕ)) (automata : List ValuedName) (part : List ℕ) → is_word word ≡ true → SpellEach items automata → IsSomeValued part →

@@ -1,19 +1,21 @@
 -- Each stage leads to a head, and a number is read at one alone.
-use Rattle.std.proofs.Common.{◌≡◌, ℕ, ◌^◌, ◌≤◌, Bool, true, false, ◌==◌, ◌&&◌, nat_le, List, [], ◌∷◌, ◌++◌, ℤ, pos, length, take, drop, get_or, Ok, refl, sym, ◌∙◌, ap, subst, arith, codes, bytes_eq, ⊎_elim}
+use Rattle.std.proofs.Common.{◌≡◌, ℕ, ◌^◌, ◌≤◌, Bool, true, false, ◌==◌, ◌&&◌, nat_le, List, [], ◌∷◌, ◌++◌, ℤ, pos, negsuc, length, take, drop, get_or, Ok, refl, sym, ◌∙◌, ap, subst, arith, codes, bytes_eq, ⊎_elim}
 use Rattle.std.specs.List.{AllByRecursion}
 use Rattle.std.proofs.lemmas.Bool.{and_parts, eqb-true, leb-true, false≢true}
 use Rattle.text_grammar.specs.Faults.{Begins}
 use Rattle.text_grammar.specs.declared.class.Class.TheVariants.{Digit, NameByte, Unquoted}
 use Rattle.text_grammar.specs.Bytes.{is_letter, is_digit}
-use Rattle.text_grammar.specs.Fronts.{is_in, behind_front}
+use Rattle.text_grammar.specs.Fronts.{all_in, behind_front, is_in}
 use Rattle.command_head.specs.Readings.{Form}
-use Rattle.command_head.specs.Numbers.{unsigned, all_in, is_number}
-use Rattle.command_head.specs.Members.{put}
-use Rattle.command_head.specs.Parts.{is_name, is_system, is_quoted, unquoted}
+use Rattle.command_head.specs.Members.{has, put}
+use Rattle.command_head.specs.Grammar.{SpellsNumber}
+use Rattle.text_grammar.specs.Numbers.{begins_with, is_number, unsigned}
+use Rattle.text_grammar.specs.Systems.{is_system}
+use Rattle.command_head.specs.Parts.{is_name, is_quoted, unquoted}
 use Rattle.command_head.specs.Heads.{Alphabets, Sets, Systems, RegHead, Stage, AtWord, AtName, BehindName, AtNumber, BehindNumber, BehindSet, BehindSystem, AtEnd, body_step, step}
 use Rattle.command_head.proofs.ReadingSteps.{then_ok}
 use Rattle.command_head.proofs.PartShape.{letter-high, all_in-all, system_read, direction_is}
-use Rattle.command_head.proofs.Numerals.{number_part, fresh}
+use Rattle.command_head.proofs.Numerals.{number_part, negative_part, fresh, fresh_below}
 use Rattle.command_head.proofs.Walks.{goes}
 use Rattle.command_head.proofs.ReadHeads.{word_step, first_name_step, name_step, divider_step, set_step, system_step}
 use Rattle.command_head.proofs.SpelledHeads.{member_read, last_number}
@@ -42,43 +44,52 @@ set_ends : (name : List ℕ) (sets : List (List ℤ)) → goes (BehindSet name s
 unfolding step body_step
 set_ends name sets = refl
 
--- a number that goes on in a set
-pub record IsAllowed (stage : Stage) : Type 0 where
+-- a number, with a sign or without, that goes on in a set
+pub record IsAllowed (stage : Stage) (sign : Bool) : Type 0 where
   pub other : List ℕ
   pub number : is_number other ≡ true
+  pub sign_is : begins_with 45 other ≡ sign
   pub begins : Begins (GoesAs stage) (other ∷ [])
 
-pub allowed : (limit : ℕ) (stage : Stage) → spent stage ≤ limit → limit ≤ 2 ^ 32 → Sane limit stage → IsAtNumber stage → IsAllowed stage
-allowed limit (AtNumber name sets members) room low sane at_number =
-    let new = fresh members 0 sane.1.sorted in
-    let few = new.few in
-    let number = number_part new.k (omega arith) in
-    let more = put members (pos new.k) in
+member_allowed : (name : List ℕ) (sets : List (List ℤ)) (members : List ℤ) (sign : Bool) (z : ℤ) → has members z ≡ false → (number : List ℕ) × SpellsNumber number z × (begins_with 45 number ≡ sign) → IsAllowed (AtNumber name sets members) sign
+member_allowed name sets members sign z new number =
+    let more = put members z in
     record {
       other = number.0;
       number = number.1.number;
+      sign_is = number.2;
       begins = (
         codes "}" ∷ empty ∷ [],
         record { name = name; alphabets = Sets (sets ++ more ∷ []); body = [] },
-        last_number name sets members more number.0 (empty ∷ []) (member_read members number.0 (pos new.k) number.1 new.new) ∙ set_ends name (sets ++ more ∷ []),
+        last_number name sets members more number.0 (empty ∷ []) (member_read members number.0 z number.1 new) ∙ set_ends name (sets ++ more ∷ []),
       );
     }
-allowed limit AtWord room low sane at_number = absurd at_number
-allowed limit AtName room low sane at_number = absurd at_number
-allowed limit (BehindName name) room low sane at_number = absurd at_number
-allowed limit (BehindNumber name sets members) room low sane at_number = absurd at_number
-allowed limit (BehindSet name sets) room low sane at_number = absurd at_number
-allowed limit (BehindSystem name names) room low sane at_number = absurd at_number
-allowed limit (AtEnd head) room low sane at_number = absurd at_number
+
+pub allowed : (limit : ℕ) (stage : Stage) (sign : Bool) → spent stage ≤ limit → limit ≤ 2 ^ 32 → Sane limit stage → IsAtNumber stage → IsAllowed stage sign
+allowed limit (AtNumber name sets members) false room low sane at_number =
+    let new = fresh members 0 sane.1.sorted in
+    let few = new.few in
+    member_allowed name sets members false (pos new.k) new.new (number_part new.k (omega arith))
+allowed limit (AtNumber name sets members) true room low sane at_number =
+    let new = fresh_below members (length members) (omega arith) sane.1.sorted in
+    let few = new.few in
+    member_allowed name sets members true (negsuc new.k) new.new (negative_part new.k (omega arith))
+allowed limit AtWord sign room low sane at_number = absurd at_number
+allowed limit AtName sign room low sane at_number = absurd at_number
+allowed limit (BehindName name) sign room low sane at_number = absurd at_number
+allowed limit (BehindNumber name sets members) sign room low sane at_number = absurd at_number
+allowed limit (BehindSet name sets) sign room low sane at_number = absurd at_number
+allowed limit (BehindSystem name names) sign room low sane at_number = absurd at_number
+allowed limit (AtEnd head) sign room low sane at_number = absurd at_number
 
 -- each stage leads to a head
 pub completes : (limit : ℕ) (stage : Stage) → spent stage ≤ limit → limit ≤ 2 ^ 32 → Sane limit stage → Begins (GoesAs stage) []
-unfolding step body_step
+unfolding step body_step is_system
 completes limit AtWord room low sane = (codes "reg" ∷ codes "a" ∷ codes "msd_2" ∷ empty ∷ [], record { name = codes "a"; alphabets = Systems (codes "msd_2" ∷ []); body = [] }, refl)
 completes limit AtName room low sane = (codes "a" ∷ codes "msd_2" ∷ empty ∷ [], record { name = codes "a"; alphabets = Systems (codes "msd_2" ∷ []); body = [] }, refl)
 completes limit (BehindName name) room low sane = (codes "msd_2" ∷ empty ∷ [], record { name = name; alphabets = Systems (codes "msd_2" ∷ []); body = [] }, refl)
 completes limit (AtNumber name sets members) room low sane =
-    let a = allowed limit (AtNumber name sets members) room low sane tt in
+    let a = allowed limit (AtNumber name sets members) false room low sane tt in
     let b = a.begins in
     (a.other ∷ b.0, b.1, b.2)
 completes limit (BehindNumber name sets members) room low sane = (codes "}" ∷ empty ∷ [], record { name = name; alphabets = Sets (sets ++ members ∷ []); body = [] }, refl)

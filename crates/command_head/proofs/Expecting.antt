@@ -1,9 +1,8 @@
 -- Where a text breaks a grammar, from what the grammar expects behind the parts that were read.
-use Rattle.std.proofs.Common.{◌≡◌, ◌≢◌, ℕ, suc, ◌+◌, ◌-◌, ◌<◌, Bool, true, false, List, [], ◌∷◌, ◌++◌, length, take, drop, get_or, refl, sym, ◌∙◌, ap, subst, arith, length-append}
+use Rattle.std.proofs.Common.{◌≡◌, ◌≢◌, ℕ, suc, ◌+◌, ◌-◌, ◌<◌, Bool, true, false, List, [], ◌∷◌, ◌++◌, length, take, drop, get_or, refl, sym, ◌∙◌, ap, subst, arith, length-append, ◌^◌}
 use Rattle.std.proofs.lemmas.List.{append-nil, take_at}
 use Rattle.text_grammar.specs.Faults.{Begins, BreaksAt}
-use Rattle.text_grammar.specs.Numbers.{is_short}
-use Rattle.command_head.specs.Numbers.{is_number, number_of}
+use Rattle.text_grammar.specs.Numbers.{begins_with, is_number, is_short, number_of}
 use Rattle.command_head.specs.Parts.{first_word_of, first_in, parts_of, texts_of, number_place}
 use Rattle.command_head.specs.Breaks.{place_of, part_at, ExceedsAt, IsSyntaxAt, IsNumberAt}
 use Rattle.command_head.proofs.PartsRead.{IsRead, next_of}
@@ -16,9 +15,10 @@ pub record Expects {H : Type 0} (grammar : List (List ℕ) → H → Type 0) (fr
 -- a part that is of a kind with another number in the place of its own, which does not fit
 pub record IsLong (kind : List ℕ → Type 0) (part : List ℕ) : Type 0 where
   pub number : is_number (drop (number_place part) part) ≡ true
-  pub long : is_short (number_of (drop (number_place part) part)) ≡ false
+  pub long : is_short (2 ^ 31) (number_of (drop (number_place part) part)) ≡ false
   pub other : List ℕ
   pub other_number : is_number other ≡ true
+  pub sign : begins_with 45 other ≡ begins_with 45 (drop (number_place part) part)
   pub taken : kind (take (number_place part) part ++ other)
 
 take_more : (front tail : List (List ℕ)) (part : List ℕ) → take (length front + 1) (front ++ part ∷ tail) ≡ front ++ part ∷ []
@@ -56,6 +56,7 @@ module _ {H : Type 0} (grammar : List (List ℕ) → H → Type 0) (front : List
         long = exceeds.long;
         other = exceeds.other;
         other_number = exceeds.other_number;
+        sign = exceeds.sign;
         taken = expects.only other (subst (λ (l : List (List ℕ)). Begins grammar (l ++ other ∷ [])) (take_at front tail (length front) refl) exceeds.allowed);
       })
 
@@ -148,9 +149,10 @@ refused_number grammar front kind text whole blank rest part begin at expects un
       exceeds = record {
         within = inside next.tail (texts_of (parts_of text)) next.texts (λ e. no_bytes part (sym first ∙ ap (λ (l : List (List ℕ)). get_or l 0 []) e) long.number);
         number = subst (λ (l : List ℕ). is_number (drop (number_place l) l) ≡ true) there long.number;
-        long = subst (λ (l : List ℕ). is_short (number_of (drop (number_place l) l)) ≡ false) there long.long;
+        long = subst (λ (l : List ℕ). is_short (2 ^ 31) (number_of (drop (number_place l) l)) ≡ false) there long.long;
         other = long.other;
         other_number = long.other_number;
+        sign = subst (λ (l : List ℕ). begins_with 45 long.other ≡ begins_with 45 (drop (number_place l) l)) there long.sign;
         allowed =
             subst (λ (l : List ℕ). Begins grammar (take (length front) (texts_of (parts_of text)) ++ (take (number_place l) l ++ long.other) ∷ [])) there
             (subst (λ (l : List (List ℕ)). Begins grammar (l ++ (take (number_place part) part ++ long.other) ∷ [])) (sym (ap (take (length front)) next.texts ∙ take_at front next.tail (length front) refl)) allowed);

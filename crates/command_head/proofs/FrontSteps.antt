@@ -4,7 +4,7 @@ use Rattle.std.specs.List.{AllByRecursion}
 use Rattle.std.proofs.lemmas.List.{take_at, drop_at, take-append-drop}
 use Rattle.std.proofs.lemmas.Bool.{eqb-true}
 use Rattle.text_grammar.specs.declared.class.Class.{Class}
-use Rattle.text_grammar.specs.Fronts.{is_in, front_len, front_of, behind_front}
+use Rattle.text_grammar.specs.Fronts.{behind_front, front_len, front_of, is_in}
 use Rattle.text_grammar.specs.Numbers.{begins_with}
 
 pub front_len-le : (class : Class) (bytes : List ℕ) → front_len class bytes ≤ length bytes

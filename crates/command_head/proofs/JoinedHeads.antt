@@ -1,13 +1,13 @@
 -- The parts of a `promote`, an `image` and a `combine` are those of some text.
-use Rattle.std.proofs.Common.{◌≡◌, ℕ, suc, ◌+◌, Bool, true, false, not, cond, ◌==◌, ◌&&◌, List, [], ◌∷◌, ◌++◌, ℤ, length, Option, None, Some, refl, sym, ◌∙◌, ap, subst, arith, codes, length-append}
+use Rattle.std.proofs.Common.{◌≡◌, ℕ, suc, ◌+◌, ◌<◌, Bool, true, false, not, cond, ◌==◌, ◌&&◌, List, [], ◌∷◌, ◌++◌, ℤ, length, Option, None, Some, refl, sym, ◌∙◌, ap, subst, arith, codes, length-append}
 use Rattle.std.specs.List.{AllByRecursion}
 use Rattle.std.proofs.lemmas.List.{append-nil, append_assoc}
-use Rattle.std.proofs.lemmas.Bool.{and_parts, false≢true}
+use Rattle.std.proofs.lemmas.Bool.{and_parts, ne_eqb, false≢true}
 use Rattle.text_grammar.specs.declared.class.Class.TheVariants.{Digit, NameByte}
 use Rattle.text_grammar.specs.Bytes.{is_letter}
-use Rattle.text_grammar.specs.Fronts.{front_len}
-use Rattle.command_head.specs.Numbers.{unsigned, all_in, is_number}
-use Rattle.command_head.specs.Parts.{begins_with_digit, number_len, ending_len, part_len, parts_of, texts_of, is_name}
+use Rattle.text_grammar.specs.Fronts.{all_in, begins_in, front_len}
+use Rattle.text_grammar.specs.Numbers.{is_number, number_len, unsigned}
+use Rattle.command_head.specs.Parts.{ending_len, part_len, parts_of, texts_of, is_name}
 use Rattle.command_head.specs.Heads.{ValuedName, PromoteHead, ImageHead, CombineHead}
 use Rattle.command_head.specs.Grammar.{SpellsValue, SpellsValued, SpellEach, SpellsPromote, SpellsImage, SpellsCombine}
 use Rattle.command_head.proofs.FrontSteps.{front_len-append, behind_front-append}
@@ -15,19 +15,29 @@ use Rattle.command_head.proofs.PartShape.{all_in-all, name_bytes, word_name}
 use Rattle.command_head.proofs.JoinedParts.{Stands, stands_name, letter_solid, letter_len, text_of, word_bytes, word_first}
 
 -- digits before a blank
-digits_front : (digits rest : List ℕ) → (not (length digits == 0) && all_in Digit digits) ≡ true → (begins_with_digit (digits ++ 32 ∷ rest) ≡ true) × (front_len Digit (digits ++ 32 ∷ rest) ≡ length digits)
+digits_front : (digits rest : List ℕ) → (not (length digits == 0) && all_in Digit digits) ≡ true → (begins_in Digit (digits ++ 32 ∷ rest) ≡ true) × (front_len Digit (digits ++ 32 ∷ rest) ≡ length digits)
 digits_front [] rest h = absurd (false≢true h)
 digits_front (d ∷ ds) rest h =
     let all = all_in-all Digit (d ∷ ds) (and_parts (not (length (d ∷ ds) == 0)) (all_in Digit (d ∷ ds)) h).1 in
     (all.0, front_len-append Digit (d ∷ ds) (32 ∷ rest) all refl)
 
 -- and a sign before them
-signed_front : (sign : Bool) (b : ℕ) (bs rest : List ℕ) → (not (length (cond sign bs (b ∷ bs)) == 0) && all_in Digit (cond sign bs (b ∷ bs))) ≡ true →
-    (begins_with_digit (cond sign (bs ++ 32 ∷ rest) (b ∷ (bs ++ 32 ∷ rest))) ≡ true) × ((cond sign 1 0) + front_len Digit (cond sign (bs ++ 32 ∷ rest) (b ∷ (bs ++ 32 ∷ rest))) ≡ length (b ∷ bs))
-signed_front true b bs rest h = let d = digits_front bs rest h in let len = d.1 in (d.0, omega arith)
-signed_front false b bs rest h = let d = digits_front (b ∷ bs) rest h in let len = d.1 in (d.0, omega arith)
+abbrev len_of : ℕ → ℕ → ℕ
+len_of sign digits = cond (digits == 0) 0 (sign + digits)
 
-number_front : (number rest : List ℕ) → is_number number ≡ true → (begins_with_digit (unsigned (number ++ 32 ∷ rest)) ≡ true) × (number_len (number ++ 32 ∷ rest) ≡ length number)
+len_some : (sign digits n : ℕ) → digits ≡ n → 0 < n → len_of sign digits ≡ sign + n
+len_some sign digits n e some = rw (e, ne_eqb n 0 (λ z. omega arith)) refl
+
+digits_some : (digits : List ℕ) → (not (length digits == 0) && all_in Digit digits) ≡ true → 0 < length digits
+digits_some [] h = absurd (false≢true h)
+digits_some (d ∷ ds) h = omega arith
+
+signed_front : (sign : Bool) (b : ℕ) (bs rest : List ℕ) → (not (length (cond sign bs (b ∷ bs)) == 0) && all_in Digit (cond sign bs (b ∷ bs))) ≡ true →
+    (begins_in Digit (cond sign (bs ++ 32 ∷ rest) (b ∷ (bs ++ 32 ∷ rest))) ≡ true) × (len_of (cond sign 1 0) (front_len Digit (cond sign (bs ++ 32 ∷ rest) (b ∷ (bs ++ 32 ∷ rest)))) ≡ length (b ∷ bs))
+signed_front true b bs rest h = let d = digits_front bs rest h in (d.0, len_some 1 _ (length bs) d.1 (digits_some bs h) ∙ (let e : 1 + length bs ≡ suc (length bs) = omega arith in e))
+signed_front false b bs rest h = let d = digits_front (b ∷ bs) rest h in (d.0, len_some 0 _ (length (b ∷ bs)) d.1 (digits_some (b ∷ bs) h) ∙ (let e : 0 + suc (length bs) ≡ suc (length bs) = omega arith in e))
+
+number_front : (number rest : List ℕ) → is_number number ≡ true → (begins_in Digit (unsigned (number ++ 32 ∷ rest)) ≡ true) × (number_len (number ++ 32 ∷ rest) ≡ length number)
 number_front [] rest h = absurd (false≢true h)
 number_front (b ∷ bs) rest h = signed_front (b == 45) b bs rest h
 

@@ -3,11 +3,12 @@ use Rattle.std.proofs.Common.{◌≡◌, ◌≢◌, ℕ, zero, suc, ◌+◌, ◌
 use Rattle.std.specs.List.{AllByRecursion}
 use Rattle.std.proofs.lemmas.List.{take_at, drop_at, append_assoc}
 use Rattle.std.proofs.lemmas.Bool.{ne_eqb, or_from, and_parts, lt-leb, leb-true, eqb-true, false≢true}
-use Rattle.text_grammar.specs.declared.class.Class.TheVariants.{Blank, Digit, NameByte, Word, Unquoted}
+use Rattle.text_grammar.specs.declared.class.Class.TheVariants.{Blank, Digit, Letter, NameByte, Unquoted, Word}
 use Rattle.text_grammar.specs.Bytes.{is_blank, is_letter, is_digit}
-use Rattle.text_grammar.specs.Fronts.{is_in, front_len, behind_front}
-use Rattle.command_head.specs.Numbers.{unsigned, all_in, is_number}
-use Rattle.command_head.specs.Parts.{begins_with_blank, begins_with_letter, behind_blanks, ending_len, part_len, behind_first, first_in, behind_word, parts_of_rest, parts_of, texts_of, is_name, is_system}
+use Rattle.text_grammar.specs.Fronts.{all_in, begins_in, behind_front, front_len, is_in}
+use Rattle.text_grammar.specs.Numbers.{is_number, unsigned}
+use Rattle.text_grammar.specs.Systems.{is_system}
+use Rattle.command_head.specs.Parts.{behind_blanks, ending_len, part_len, behind_first, first_in, behind_word, parts_of_rest, parts_of, texts_of, is_name}
 use Rattle.command_head.specs.Heads.{Alphabets, Sets, Systems, RegHead, NamedHead}
 use Rattle.command_head.specs.Grammar.{SpellsMentions, SpellsSet, SpellSets, SpellAlphabets, AreUnquoted, quoted, SpellsReg, SpellsNamed}
 use Rattle.command_head.proofs.FrontSteps.{Stops, front_len-append, front_of-append, behind_front-append}
@@ -32,18 +33,18 @@ behind_solid part rest len = ap (λ (n : ℕ). drop n (part ++ rest)) len ∙ dr
 -- a part behind a blank
 first_spaced : (part rest : List ℕ) → part_len (part ++ rest) ≡ length part → first_in true (part ++ rest) ≡ part
 unfolding first_in
-first_spaced part rest len = either (begins_with_letter (part ++ rest)) _ _ ∙ ap (λ (n : ℕ). take n (part ++ rest)) len ∙ take_at part rest (length part) refl
+first_spaced part rest len = either (begins_in Letter (part ++ rest)) _ _ ∙ ap (λ (n : ℕ). take n (part ++ rest)) len ∙ take_at part rest (length part) refl
   where
     either : (letter : Bool) (x y : List ℕ) → cond (letter && false) x y ≡ y
     either true x y = refl
     either false x y = refl
 
 first_part : (count whole b : ℕ) (bs rest : List ℕ) → part_len (b ∷ (bs ++ rest)) ≡ length (b ∷ bs) →
-    texts_of (parts_of_rest (suc count) whole true (b ∷ (bs ++ rest))) ≡ (b ∷ bs) ∷ texts_of (parts_of_rest count whole (begins_with_blank rest) (behind_blanks rest))
+    texts_of (parts_of_rest (suc count) whole true (b ∷ (bs ++ rest))) ≡ (b ∷ bs) ∷ texts_of (parts_of_rest count whole (begins_in Blank rest) (behind_blanks rest))
 unfolding parts_of_rest
 first_part count whole b bs rest len =
-    ap (λ (l : List ℕ). l ∷ texts_of (parts_of_rest count whole (begins_with_blank (behind_first (b ∷ (bs ++ rest)))) (behind_blanks (behind_first (b ∷ (bs ++ rest)))))) (first_spaced (b ∷ bs) rest len)
-    ∙ ap (λ (l : List ℕ). (b ∷ bs) ∷ texts_of (parts_of_rest count whole (begins_with_blank l) (behind_blanks l))) (behind_solid (b ∷ bs) rest len)
+    ap (λ (l : List ℕ). l ∷ texts_of (parts_of_rest count whole (begins_in Blank (behind_first (b ∷ (bs ++ rest)))) (behind_blanks (behind_first (b ∷ (bs ++ rest)))))) (first_spaced (b ∷ bs) rest len)
+    ∙ ap (λ (l : List ℕ). (b ∷ bs) ∷ texts_of (parts_of_rest count whole (begins_in Blank l) (behind_blanks l))) (behind_solid (b ∷ bs) rest len)
 
 no_part : (count whole : ℕ) (blank : Bool) → texts_of (parts_of_rest count whole blank []) ≡ []
 unfolding parts_of_rest
@@ -108,6 +109,7 @@ stands_name (b ∷ bs) h =
     stands_letter b bs (and_parts (is_letter b) (all_in NameByte (b ∷ bs) && nat_le (length (b ∷ bs)) 64) h).0 (name_bytes (b ∷ bs) h)
 
 stands_system : (part : List ℕ) → is_system part ≡ true → Stands part
+unfolding is_system
 stands_system [] h = absurd (false≢true h)
 stands_system (b ∷ bs) h =
     let direction = direction_is (take 4 (b ∷ bs)) (system_read (b ∷ bs) h).direction in
@@ -133,14 +135,14 @@ stands_comma = record { first = 44; others = []; is = refl; solid = refl; len = 
 -- digits, and digits behind a sign
 signed_len : (d : ℕ) (ds rest : List ℕ) → AllByRecursion (λ c. is_in Digit c ≡ true) (d ∷ ds) → part_len (45 ∷ ((d ∷ ds) ++ 32 ∷ rest)) ≡ length (45 ∷ d ∷ ds)
 unfolding part_len
-signed_len d ds rest all = rw (all.0, front_len-append Digit ds (32 ∷ rest) all.1 refl) (omega arith)
+signed_len d ds rest all = rw (all.0, front_len-append Digit ds (32 ∷ rest) all.1 refl) (rw (ne_eqb (suc (length ds)) 0 (λ e. omega arith)) (omega arith))
 
 digits_len : (d : ℕ) (ds rest : List ℕ) → 48 ≤ d → d ≤ 57 → AllByRecursion (λ c. is_in Digit c ≡ true) (d ∷ ds) → part_len ((d ∷ ds) ++ 32 ∷ rest) ≡ length (d ∷ ds)
 unfolding part_len
 digits_len d ds rest from to all =
     let letter : is_letter d ≡ false = low-letter d (omega arith) in
     let sign : (d == 45) ≡ false = ne_eqb d 45 (λ e. omega arith) in
-    rw (letter, sign) (rw (all.0, front_len-append Digit ds (32 ∷ rest) all.1 refl) (omega arith))
+    rw (letter, sign) (rw (all.0, front_len-append Digit ds (32 ∷ rest) all.1 refl) (rw (ne_eqb (suc (length ds)) 0 (λ e. omega arith)) (omega arith)))
 
 digit_range : (b : ℕ) → is_digit b ≡ true → (48 ≤ b) × (b ≤ 57)
 digit_range b h = let p = and_parts (nat_le 48 b) (nat_le b 57) h in (leb-true 48 b p.0, leb-true b 57 p.1)
@@ -221,8 +223,8 @@ word_first word parts of_word all =
     let rest = 32 ∷ join parts in
     let text = word ++ rest in
     let few : length (join parts) ≤ length text = omega (arith, length-append word rest) in
-    ap (λ (l : List ℕ). l ∷ texts_of (parts_of_rest (length text) (length text) (begins_with_blank (behind_word text)) (behind_blanks (behind_word text)))) (front_of-append Word word rest of_word refl)
-    ∙ ap (λ (l : List ℕ). word ∷ texts_of (parts_of_rest (length text) (length text) (begins_with_blank l) (behind_blanks l))) (behind_front-append Word word rest of_word refl)
+    ap (λ (l : List ℕ). l ∷ texts_of (parts_of_rest (length text) (length text) (begins_in Blank (behind_word text)) (behind_blanks (behind_word text)))) (front_of-append Word word rest of_word refl)
+    ∙ ap (λ (l : List ℕ). word ∷ texts_of (parts_of_rest (length text) (length text) (begins_in Blank l) (behind_blanks l))) (behind_front-append Word word rest of_word refl)
     ∙ ap (λ (l : List ℕ). word ∷ texts_of (parts_of_rest (length text) (length text) true l)) (solid_join parts all)
     ∙ ap (λ (l : List (List ℕ)). word ∷ l) (parts_join parts (length text) (length text) all few)
 

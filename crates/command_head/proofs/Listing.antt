@@ -2,11 +2,11 @@
 use Rattle.std.proofs.Common.{◌≡◌, ◌≢◌, ℕ, zero, suc, ◌+◌, ◌*◌, ◌-◌, ◌<◌, ◌≤◌, Bool, true, false, cond, ◌==◌, ◌&&◌, List, [], ◌∷◌, ◌++◌, length, take, map, Err, refl, sym, ◌∙◌, ap, subst, arith, codes, length-append, length-drop}
 use Rattle.std.proofs.lemmas.Bool.{and_parts, eqb-true, false≢true}
 use Rattle.text_grammar.specs.Bytes.{is_blank}
-use Rattle.text_grammar.specs.Fronts.{front_len}
-use Rattle.text_grammar.specs.declared.class.Class.TheVariants.{Blank}
+use Rattle.text_grammar.specs.Fronts.{begins_in, front_len}
+use Rattle.text_grammar.specs.declared.class.Class.TheVariants.{Blank, Letter}
 use Rattle.command_head.specs.declared.fault.HeadFault.{HeadFault}
 use Rattle.command_head.specs.declared.fault.HeadFault.TheVariants.{Syntax, Number, Memory}
-use Rattle.command_head.specs.Parts.{begins_with_blank, begins_with_letter, behind_blanks, behind_first, first_in, behind_word, part_len, parts_of, texts_of, is_word}
+use Rattle.command_head.specs.Parts.{behind_blanks, behind_first, first_in, behind_word, part_len, parts_of, texts_of, is_word}
 use Rattle.command_head.specs.Heads.{ValuedName}
 use Rattle.command_head.specs.Values.{RefusesValued}
 use Rattle.command_head.specs.Grammar.{SpellsValued, SpellEach, SpellsCombine}
@@ -32,7 +32,7 @@ pub record IsListing (text word : List ℕ) (automata : List ValuedName) (whole 
   pub few : 2 * length automata + (length rest + blank_len blank) ≤ length text
 
 -- a blank is a byte
-blank_counts : (behind : List ℕ) → length (behind_blanks behind) + blank_len (begins_with_blank behind) ≤ length behind
+blank_counts : (behind : List ℕ) → length (behind_blanks behind) + blank_len (begins_in Blank behind) ≤ length behind
 blank_counts [] = omega arith
 blank_counts (b ∷ bs) = by_blank (is_blank b) (front_len Blank bs) (length (behind_blanks (b ∷ bs))) (length (b ∷ bs)) (length-behind_front Blank (b ∷ bs))
   where
@@ -41,7 +41,7 @@ blank_counts (b ∷ bs) = by_blank (is_blank b) (front_len Blank bs) (length (be
     by_blank false n left all e = omega arith
 
 pub listing_first : (text word : List ℕ) (whole : ℕ) (blank : Bool) (rest before : List ℕ) → IsRead text (codes "combine" ∷ word ∷ []) whole blank rest → before ≡ behind_blanks (behind_word text) →
-    blank ≡ begins_with_blank (behind_first before) → rest ≡ behind_blanks (behind_first before) → IsListing text word [] whole blank rest
+    blank ≡ begins_in Blank (behind_first before) → rest ≡ behind_blanks (behind_first before) → IsListing text word [] whole blank rest
 listing_first text word whole blank rest before read before_is blank_is rest_is = record {
   items = [];
   read = read;
@@ -53,43 +53,43 @@ listing_first text word whole blank rest before read before_is blank_is rest_is 
       omega arith);
 }
 
-letter_take : (n : ℕ) (bytes : List ℕ) → begins_with_letter (take n bytes) ≡ true → begins_with_letter bytes ≡ true
+letter_take : (n : ℕ) (bytes : List ℕ) → begins_in Letter (take n bytes) ≡ true → begins_in Letter bytes ≡ true
 letter_take zero bytes h = absurd (false≢true h)
 letter_take (suc n) [] h = absurd (false≢true h)
 letter_take (suc n) (b ∷ bs) h = h
 
 -- a part that begins with a letter stands behind a blank
-spaced : (blank : Bool) (rest part : List ℕ) → part ≡ first_in blank rest → begins_with_letter part ≡ true → blank ≡ true
+spaced : (blank : Bool) (rest part : List ℕ) → part ≡ first_in blank rest → begins_in Letter part ≡ true → blank ≡ true
 unfolding first_in
 spaced true rest part e letter = refl
-spaced false rest part e letter = by_letter (begins_with_letter rest) refl (subst (λ (l : List ℕ). begins_with_letter l ≡ true) e letter)
+spaced false rest part e letter = by_letter (begins_in Letter rest) refl (subst (λ (l : List ℕ). begins_in Letter l ≡ true) e letter)
   where
-    by_letter : (t : Bool) → begins_with_letter rest ≡ t → begins_with_letter (cond (t && true) [] (take (part_len rest) rest)) ≡ true → false ≡ true
+    by_letter : (t : Bool) → begins_in Letter rest ≡ t → begins_in Letter (cond (t && true) [] (take (part_len rest) rest)) ≡ true → false ≡ true
     by_letter true e h = absurd (false≢true h)
     by_letter false e h = absurd (false≢true (sym e ∙ letter_take (part_len rest) rest h))
 
-shorter : (blank : Bool) (rest part : List ℕ) → part ≡ first_in blank rest → begins_with_letter part ≡ true → length (behind_first rest) < length rest
+shorter : (blank : Bool) (rest part : List ℕ) → part ≡ first_in blank rest → begins_in Letter part ≡ true → length (behind_first rest) < length rest
 unfolding first_in part_len
-shorter blank [] part e letter = absurd (false≢true (sym (ap begins_with_letter e) ∙ letter))
+shorter blank [] part e letter = absurd (false≢true (sym (ap (begins_in Letter) e) ∙ letter))
 shorter blank (b ∷ bs) part e letter = let some = part_len-some b bs in omega (arith, length-drop (part_len (b ∷ bs)) (b ∷ bs))
 
 pub record IsLonger (text word : List ℕ) (automata : List ValuedName) (whole : ℕ) (blank : Bool) (rest before : List ℕ) : Type 0 where
   pub listing : IsListing text word automata whole blank rest
   pub less : length rest < length before
 
-named_letter : (part : List ℕ) (valued : ValuedName) → SpellsValued part valued → begins_with_letter part ≡ true
-named_letter part valued s = subst (λ (l : List ℕ). begins_with_letter l ≡ true) (sym s.part_is) (letter_append valued.name s.behind (and_parts _ _ s.name).0)
+named_letter : (part : List ℕ) (valued : ValuedName) → SpellsValued part valued → begins_in Letter part ≡ true
+named_letter part valued s = subst (λ (l : List ℕ). begins_in Letter l ≡ true) (sym s.part_is) (letter_append valued.name s.behind (and_parts _ _ s.name).0)
 
 blank_one : (blank : Bool) → blank ≡ true → blank_len blank ≡ 1
 blank_one blank h = ap blank_len h
 
 -- one automaton more
 pub listing_more : (text word : List ℕ) (automata : List ValuedName) (whole all : ℕ) (blank next_blank : Bool) (rest part next : List ℕ) (valued : ValuedName) → IsListing text word automata whole blank rest →
-    part ≡ first_in blank rest → all ≡ whole → next_blank ≡ begins_with_blank (behind_first rest) → next ≡ behind_blanks (behind_first rest) → SpellsValued part valued →
+    part ≡ first_in blank rest → all ≡ whole → next_blank ≡ begins_in Blank (behind_first rest) → next ≡ behind_blanks (behind_first rest) → SpellsValued part valued →
     IsLonger text word (automata ++ valued ∷ []) all next_blank next rest
 listing_more text word automata whole all blank next_blank rest part next valued listing part_is all_is blank_is next_is spells =
     let letter = named_letter part valued spells in
-    let some : part ≢ [] = λ e. false≢true (sym (ap begins_with_letter e) ∙ letter) in
+    let some : part ≢ [] = λ e. false≢true (sym (ap (begins_in Letter) e) ∙ letter) in
     let one = blank_one blank (spaced blank rest part part_is letter) in
     let less = shorter blank rest part part_is letter in
     let counts = blank_counts (behind_first rest) in

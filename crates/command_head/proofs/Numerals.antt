@@ -1,5 +1,5 @@
 -- Each number from 0 on has a part that spells it, and one of the first is not among few members.
-use Rattle.std.proofs.Common.{◌≡◌, ◌≢◌, ℕ, zero, suc, ◌+◌, ◌*◌, ◌-◌, ◌/◌, ◌%◌, ◌<◌, ◌≤◌, Bool, true, false, not, ◌==◌, ◌&&◌, List, [], ◌∷◌, ◌++◌, ℤ, pos, ◌<ℤ◌, length, refl, sym, ◌∙◌, ap, subst, arith, tests}
+use Rattle.std.proofs.Common.{◌≡◌, ◌≢◌, ℕ, zero, suc, ◌+◌, ◌*◌, ◌-◌, ◌/◌, ◌%◌, ◌<◌, ◌≤◌, Bool, true, false, not, ◌==◌, ◌&&◌, List, [], ◌∷◌, ◌++◌, ℤ, pos, negsuc, neg_ℤ, ◌<ℤ◌, length, refl, sym, ◌∙◌, ap, subst, arith, tests}
 use Rattle.std.specs.declared.cmp.Ordering.{Ordering}
 use Rattle.std.specs.declared.cmp.Ordering.TheVariants.{Less, Equal, Greater}
 use Rattle.std.specs.Ordering.{int_cmp, is_eq}
@@ -11,9 +11,8 @@ use Rattle.std.proofs.lemmas.Cmp.{int_ranked}
 use Rattle.std.proofs.lemmas.Int.{ints}
 use Rattle.text_grammar.specs.Bytes.{is_digit}
 use Rattle.text_grammar.specs.declared.class.Class.TheVariants.{Digit}
-use Rattle.text_grammar.specs.Fronts.{front_len}
-use Rattle.text_grammar.specs.Numbers.{begins_with, signed, value_after, value_of}
-use Rattle.command_head.specs.Numbers.{unsigned, all_in}
+use Rattle.text_grammar.specs.Fronts.{all_in, front_len}
+use Rattle.text_grammar.specs.Numbers.{begins_with, signed, unsigned, value_after, value_of}
 use Rattle.command_head.specs.Members.{has}
 use Rattle.command_head.specs.Grammar.{SpellsNumber}
 use Rattle.command_head.proofs.OrderSteps.{same_number, below_all, all_above}
@@ -73,7 +72,7 @@ eqb_self : (n m : ℕ) → n ≡ m → (n == m) ≡ true
 eqb_self n m e = grind (arith, tests)
 
 -- a part that spells a number
-pub number_part : (n : ℕ) → n < 2147483648 → (part : List ℕ) × SpellsNumber part (pos n)
+pub number_part : (n : ℕ) → n < 2147483648 → (part : List ℕ) × SpellsNumber part (pos n) × (begins_with 45 part ≡ false)
 number_part n small =
     let numeral = numeral_within n n (omega arith) in
     let digits = numeral.digits in
@@ -84,6 +83,7 @@ number_part n small =
         value = value_is digits (begins_with 45 digits) (unsigned digits) (no_sign digits numeral.all) plain ∙ ap pos numeral.value;
         short = (Decides-ltb n 2147483648).1 small;
       },
+      no_sign digits numeral.all,
     )
   where
     unsigned_plain : (bytes : List ℕ) (t : Bool) → begins_with 45 bytes ≡ t → t ≡ false → unsigned bytes ≡ bytes
@@ -94,6 +94,20 @@ number_part n small =
 
     value_is : (digits : List ℕ) (t : Bool) (behind : List ℕ) → t ≡ false → behind ≡ digits → signed t (value_of behind) ≡ pos (value_of digits)
     value_is digits t behind e h = rw (e, h) refl
+
+-- and one with a sign
+pub negative_part : (n : ℕ) → n < 2147483648 → (part : List ℕ) × SpellsNumber part (negsuc n) × (begins_with 45 part ≡ true)
+negative_part n small =
+    let numeral = numeral_within (suc n) (suc n) (omega arith) in
+    let digits = numeral.digits in (
+      45 ∷ digits,
+      record {
+        number = rw (length_some digits numeral.some) (eqb_self (front_len Digit digits) (length digits) (all_digits digits numeral.all));
+        value = ap (λ (k : ℕ). neg_ℤ (pos k)) numeral.value;
+        short = (Decides-ltb n 2147483648).1 small;
+      },
+      refl,
+    )
 
 -- a number that is not among the members, from c on
 pub record IsFresh (members : List ℤ) (c : ℕ) : Type 0 where
@@ -132,3 +146,36 @@ fresh (m ∷ ms) c sorted = by_order (fresh ms (c + 1) sorted.1) (fresh ms c sor
     by_order next same Less e = record { k = c; from = omega arith; few = omega arith; new = below_all (pos c) (m ∷ ms) (e, all_above (pos c) m ms e sorted.0) }
     by_order next same Equal e = later m ms c (c + 1) (omega arith) (omega arith) (λ k low is. absurd (let one : c ≡ k = pos_same c k (same_number (pos c) m (ap is_eq e) ∙ sym is) in omega arith)) next
     by_order next same Greater e = later m ms c c (omega arith) (omega arith) (λ k low is. above k e low is) same
+
+-- a negative number that is not among the members, from that at c on upwards
+pub record IsFreshBelow (members : List ℤ) (c : ℕ) : Type 0 where
+  pub k : ℕ
+  pub most : k ≤ c
+  pub few : c ≤ k + length members
+  pub new : has members (negsuc k) ≡ false
+
+neg_same : (m n : ℕ) → negsuc m ≡ negsuc n → m ≡ n
+neg_same m n e = cc
+
+later_below : (m : ℤ) (ms : List ℤ) (c d : ℕ) → d ≤ c → c ≤ d + 1 → ((k : ℕ) → k ≤ d → negsuc k ≡ m → ⊥) → IsFreshBelow ms d → IsFreshBelow (m ∷ ms) c
+later_below m ms c d low high apart fresh = record {
+  k = fresh.k;
+  most = let most = fresh.most in omega arith;
+  few = let few = fresh.few in omega arith;
+  new = or_from (is_eq (int_cmp (negsuc fresh.k) m)) (has ms (negsuc fresh.k)) (unlike (negsuc fresh.k) m (apart fresh.k fresh.most)) fresh.new;
+}
+
+pub fresh_below : (members : List ℤ) (c : ℕ) → length members ≤ c → IsStrictlySortedBy int_cmp members → IsFreshBelow members c
+unfolding IsStrictlySortedBy
+fresh_below [] c room sorted = record { k = c; most = omega arith; few = omega arith; new = refl }
+fresh_below (m ∷ ms) zero room sorted = absurd (omega arith)
+fresh_below (m ∷ ms) (suc c) room sorted = by_order (fresh_below ms c (omega arith) sorted.1) (fresh_below ms (suc c) (omega arith) sorted.1) (int_cmp (negsuc (suc c)) m) refl
+  where
+    above : (k : ℕ) → int_cmp (negsuc (suc c)) m ≡ Greater → k ≤ suc c → negsuc k ≡ m → ⊥
+    above k e low same = let less : negsuc k <ℤ negsuc (suc c) = int_ranked (negsuc (suc c)) (negsuc k) Greater (sym (ap (λ (z : ℤ). int_cmp (negsuc (suc c)) z) same ∙ e)) in omega (arith, ints)
+
+    by_order : IsFreshBelow ms c → IsFreshBelow ms (suc c) → (o : Ordering) → int_cmp (negsuc (suc c)) m ≡ o → IsFreshBelow (m ∷ ms) (suc c)
+    by_order next same Less e = record { k = suc c; most = omega arith; few = omega arith; new = below_all (negsuc (suc c)) (m ∷ ms) (e, all_above (negsuc (suc c)) m ms e sorted.0) }
+    by_order next same Equal e =
+        later_below m ms (suc c) c (omega arith) (omega arith) (λ k low is. absurd (let one : suc c ≡ k = neg_same (suc c) k (same_number (negsuc (suc c)) m (ap is_eq e) ∙ sym is) in omega arith)) next
+    by_order next same Greater e = later_below m ms (suc c) (suc c) (omega arith) (omega arith) (λ k low is. above k e low is) same

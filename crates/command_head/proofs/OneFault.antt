@@ -3,7 +3,8 @@ use Rattle.std.proofs.Common.{◌≡◌, ℕ, ◌+◌, ◌^◌, ◌<◌, List, [
 use Rattle.text_grammar.proofs.FaultLemmas.{breaks_nowhere, breaks_once}
 use Rattle.command_head.specs.declared.fault.HeadFault.{HeadFault}
 use Rattle.command_head.specs.declared.fault.HeadFault.TheVariants.{Syntax, Number, Memory}
-use Rattle.command_head.specs.Readings.{Refusal, Form, Range, placed, ◌>>=◌}
+use Rattle.command_head.specs.Readings.{Refusal, Form, Range, placed}
+use Rattle.text_grammar.specs.Results.{◌>>=◌}
 use Rattle.command_head.specs.Parts.{Part, texts_of, parts_of, number_place}
 use Rattle.command_head.specs.Heads.{RegHead, Stage, AtWord, step, ended, run, reg_at}
 use Rattle.command_head.specs.Grammar.{SpellsReg}

@@ -1,16 +1,16 @@
 -- What is known of parts of each kind.
 use Rattle.std.proofs.Common.{◌≡◌, ◌≢◌, ℕ, zero, suc, ◌<◌, ◌≤◌, Bool, true, false, ◌||◌, ◌&&◌, nat_le, List, [], ◌∷◌, ◌++◌, IsAscii, length, take, drop, refl, sym, ◌∙◌, ap, subst, arith, tests, codes, bytes_eq, ◌⊎◌, inl, inr, ⊎_elim}
-use Rattle.std.specs.List.{AllByRecursion}
+use Rattle.std.specs.List.{AllByRecursion, list_all}
 use Rattle.std.proofs.lemmas.List.{take_all, take-append-drop}
 use Rattle.std.proofs.lemmas.Slice.Eq.{bytes_eq-Decides}
 use Rattle.std.proofs.lemmas.Bool.{and_parts, or_cases, eqb-true, ne_eqb, false≢true, leb-true}
 use Rattle.text_grammar.specs.declared.class.Class.{Class}
-use Rattle.text_grammar.specs.declared.class.Class.TheVariants.{NameByte, Unquoted}
-use Rattle.text_grammar.specs.Bytes.{is_letter, is_digit, is_name_byte}
-use Rattle.text_grammar.specs.Fronts.{is_in, front_len, front_of, behind_front}
+use Rattle.text_grammar.specs.declared.class.Class.TheVariants.{Letter, NameByte, Unquoted}
+use Rattle.text_grammar.specs.Bytes.{is_alphanumeric, is_letter, is_digit, is_name_byte}
+use Rattle.text_grammar.specs.Fronts.{all_in, begins_in, behind_front, front_len, front_of, is_in}
 use Rattle.text_grammar.specs.Numbers.{begins_with}
-use Rattle.command_head.specs.Numbers.{all_in}
-use Rattle.command_head.specs.Parts.{begins_with_letter, is_name, is_word, all_alphanumeric, is_direction, is_system, is_quoted, unquoted}
+use Rattle.text_grammar.specs.Systems.{is_direction, is_system}
+use Rattle.command_head.specs.Parts.{is_name, is_word, is_quoted, unquoted}
 use Rattle.command_head.specs.Grammar.{AreUnquoted, quoted}
 use Rattle.command_head.proofs.FrontSteps.{begins_with-split, front_split, front_of-all, front_of-append, behind_front-append}
 
@@ -52,7 +52,7 @@ all_in-all class bytes h =
 -- names have bytes of names
 pub name_bytes : (part : List ℕ) → is_name part ≡ true → AllByRecursion (λ b. is_in NameByte b ≡ true) part
 name_bytes part h =
-    let tests = and_parts (begins_with_letter part) (all_in NameByte part && nat_le (length part) 64) h in
+    let tests = and_parts (begins_in Letter part) (all_in NameByte part && nat_le (length part) 64) h in
     all_in-all NameByte part (and_parts (all_in NameByte part) (nat_le (length part) 64) tests.1).0
 
 -- the name of a word is a name
@@ -66,20 +66,21 @@ IsAscii-name part h = low part (AllByRecursion-weaker (λ b. is_in NameByte b �
 pub IsAscii-word : (part : List ℕ) → is_word part ≡ true → IsAscii part
 IsAscii-word part h = IsAscii-name part (word_name part h)
 
-alphanumeric_all : (bytes : List ℕ) → all_alphanumeric bytes ≡ true → AllByRecursion (λ b. b < 128) bytes
+alphanumeric_all : (bytes : List ℕ) → list_all is_alphanumeric bytes ≡ true → AllByRecursion (λ b. b < 128) bytes
 alphanumeric_all [] h = tt
-alphanumeric_all (b ∷ bs) h = let p = and_parts (is_letter b || is_digit b) (all_alphanumeric bs) h in (alphanumeric-low b p.0, alphanumeric_all bs p.1)
+alphanumeric_all (b ∷ bs) h = let p = and_parts (is_letter b || is_digit b) (list_all is_alphanumeric bs) h in (alphanumeric-low b p.0, alphanumeric_all bs p.1)
 
 -- what is known of the name of a system
 pub record IsSystemRead (part : List ℕ) : Type 0 where
   pub direction : is_direction (take 4 part) ≡ true
-  pub others : all_alphanumeric (drop 4 part) ≡ true
+  pub others : list_all is_alphanumeric (drop 4 part) ≡ true
 
 pub system_read : (part : List ℕ) → is_system part ≡ true → IsSystemRead part
+unfolding is_system
 system_read part h =
-    let p = and_parts (nat_le 5 (length part)) (nat_le (length part) 62 && (is_direction (take 4 part) && all_alphanumeric (drop 4 part))) h in
-    let q = and_parts (nat_le (length part) 62) (is_direction (take 4 part) && all_alphanumeric (drop 4 part)) p.1 in
-    let r = and_parts (is_direction (take 4 part)) (all_alphanumeric (drop 4 part)) q.1 in
+    let p = and_parts (nat_le 5 (length part)) (nat_le (length part) 62 && (is_direction (take 4 part) && list_all is_alphanumeric (drop 4 part))) h in
+    let q = and_parts (nat_le (length part) 62) (is_direction (take 4 part) && list_all is_alphanumeric (drop 4 part)) p.1 in
+    let r = and_parts (is_direction (take 4 part)) (list_all is_alphanumeric (drop 4 part)) q.1 in
     record { direction = r.0; others = r.1 }
 
 pub direction_is : (bytes : List ℕ) → is_direction bytes ≡ true → (bytes ≡ codes "msd_") ⊎ (bytes ≡ codes "lsd_")
@@ -105,10 +106,10 @@ digit-name_byte b h = by_letter (is_letter b) refl
     by_letter true e = letter-name_byte b e
     by_letter false e = rw (e, h) refl
 
-alphanumeric_names : (bytes : List ℕ) → all_alphanumeric bytes ≡ true → AllByRecursion (λ c. is_in NameByte c ≡ true) bytes
+alphanumeric_names : (bytes : List ℕ) → list_all is_alphanumeric bytes ≡ true → AllByRecursion (λ c. is_in NameByte c ≡ true) bytes
 alphanumeric_names [] h = tt
 alphanumeric_names (b ∷ bs) h =
-    let p = and_parts (is_letter b || is_digit b) (all_alphanumeric bs) h in
+    let p = and_parts (is_letter b || is_digit b) (list_all is_alphanumeric bs) h in
     (⊎_elim (λ e. letter-name_byte b e) (λ e. digit-name_byte b e) (or_cases (is_letter b) (is_digit b) p.0), alphanumeric_names bs p.1)
 
 -- systems have bytes of names
@@ -152,10 +153,12 @@ and_false false b = refl
 
 -- a text in quotes is no system
 pub quoted-system : (bs : List ℕ) → is_system (34 ∷ bs) ≡ false
+unfolding is_system
 quoted-system bs = and_false (nat_le 5 (length (34 ∷ bs))) (nat_le (length (34 ∷ bs)) 62)
 
 -- nor is a brace
 pub system-brace : (part : List ℕ) → is_system part ≡ true → bytes_eq part (codes "{") ≡ false
+unfolding is_system
 system-brace part h = by_test (bytes_eq part (codes "{")) refl
   where
     by_test : (t : Bool) → bytes_eq part (codes "{") ≡ t → t ≡ false

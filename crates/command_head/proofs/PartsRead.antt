@@ -1,7 +1,9 @@
 -- The parts of a text, read one after another.
 use Rattle.std.proofs.Common.{◌≡◌, ◌≢◌, ℕ, zero, suc, ◌-◌, ◌≤◌, Bool, List, [], ◌∷◌, ◌++◌, length, map, get_or, refl, sym, ◌∙◌, ap, subst, arith}
 use Rattle.std.proofs.lemmas.List.{append-nil, append_assoc}
-use Rattle.command_head.specs.Parts.{Part, first_word_of, begins_with_blank, behind_blanks, part_len, behind_first, first_in, behind_word, parts_of_rest, parts_of, texts_of}
+use Rattle.text_grammar.specs.declared.class.Class.TheVariants.{Blank}
+use Rattle.text_grammar.specs.Fronts.{begins_in}
+use Rattle.command_head.specs.Parts.{Part, first_word_of, behind_blanks, part_len, behind_first, first_in, behind_word, parts_of_rest, parts_of, texts_of}
 use Rattle.command_head.specs.Breaks.{place_of}
 use Rattle.command_head.proofs.PartSteps.{length-behind_part, length-behind_word}
 
@@ -17,7 +19,7 @@ enough (suc count) zero whole blank (b ∷ bs) room room' = absurd (omega arith)
 enough (suc count) (suc more) whole blank (b ∷ bs) room room' =
     let less = length-behind_part b bs in
     let first : Part = record { at = whole - length (b ∷ bs); bytes = first_in blank (b ∷ bs) } in
-    ap (λ (l : List Part). first ∷ l) (enough count more whole (begins_with_blank (behind_first (b ∷ bs))) (behind_blanks (behind_first (b ∷ bs))) (omega arith) (omega arith))
+    ap (λ (l : List Part). first ∷ l) (enough count more whole (begins_in Blank (behind_first (b ∷ bs))) (behind_blanks (behind_first (b ∷ bs))) (omega arith) (omega arith))
 
 -- all parts of a rest of a text that has `whole` bytes
 abbrev parts_in : ℕ → Bool → List ℕ → List Part
@@ -31,7 +33,7 @@ pub record IsRead (text : List ℕ) (front : List (List ℕ)) (whole : ℕ) (bla
   pub texts : texts_of before ≡ front
 
 -- the first word is read
-word_only : (text : List ℕ) → IsRead text (first_word_of text ∷ []) (length text) (begins_with_blank (behind_word text)) (behind_blanks (behind_word text))
+word_only : (text : List ℕ) → IsRead text (first_word_of text ∷ []) (length text) (begins_in Blank (behind_word text)) (behind_blanks (behind_word text))
 unfolding parts_of
 word_only text =
     let word : Part = record { at = 0; bytes = first_word_of text } in
@@ -39,14 +41,14 @@ word_only text =
     record {
       all = refl;
       before = word ∷ [];
-      parts_are = ap (λ (l : List Part). word ∷ l) (enough (length text) (length rest) (length text) (begins_with_blank (behind_word text)) rest (length-behind_word text) (omega arith));
+      parts_are = ap (λ (l : List Part). word ∷ l) (enough (length text) (length rest) (length text) (begins_in Blank (behind_word text)) rest (length-behind_word text) (omega arith));
       texts = refl;
     }
 
-pub word_read : (text word : List ℕ) (whole : ℕ) (blank : Bool) (rest : List ℕ) → first_word_of text ≡ word → whole ≡ length text → blank ≡ begins_with_blank (behind_word text) → rest ≡ behind_blanks (behind_word text) →
+pub word_read : (text word : List ℕ) (whole : ℕ) (blank : Bool) (rest : List ℕ) → first_word_of text ≡ word → whole ≡ length text → blank ≡ begins_in Blank (behind_word text) → rest ≡ behind_blanks (behind_word text) →
     IsRead text (word ∷ []) whole blank rest
 word_read text word whole blank rest word_is whole_is blank_is rest_is =
-    rw (whole_is, blank_is, rest_is) (subst (λ (w : List ℕ). IsRead text (w ∷ []) (length text) (begins_with_blank (behind_word text)) (behind_blanks (behind_word text))) word_is (word_only text))
+    rw (whole_is, blank_is, rest_is) (subst (λ (w : List ℕ). IsRead text (w ∷ []) (length text) (begins_in Blank (behind_word text)) (behind_blanks (behind_word text))) word_is (word_only text))
 
 texts_more : (before : List Part) (part : Part) → texts_of (before ++ part ∷ []) ≡ texts_of before ++ part.bytes ∷ []
 texts_more [] part = refl
@@ -54,13 +56,13 @@ texts_more (first ∷ before) part = ap (λ (l : List (List ℕ)). first.bytes �
 
 -- one part more is read
 more_read : (text : List ℕ) (front : List (List ℕ)) (whole : ℕ) (blank : Bool) (rest : List ℕ) → rest ≢ [] → IsRead text front whole blank rest →
-    IsRead text (front ++ first_in blank rest ∷ []) whole (begins_with_blank (behind_first rest)) (behind_blanks (behind_first rest))
+    IsRead text (front ++ first_in blank rest ∷ []) whole (begins_in Blank (behind_first rest)) (behind_blanks (behind_first rest))
 unfolding parts_of_rest
 more_read text front whole blank [] some read = absurd (some refl)
 more_read text front whole blank (b ∷ bs) some read =
     let less = length-behind_part b bs in
     let next = behind_blanks (behind_first (b ∷ bs)) in
-    let next_blank = begins_with_blank (behind_first (b ∷ bs)) in
+    let next_blank = begins_in Blank (behind_first (b ∷ bs)) in
     let part : Part = record { at = length text - length (b ∷ bs); bytes = first_in blank (b ∷ bs) } in
     record {
       all = read.all;
@@ -77,7 +79,7 @@ unfolding first_in part_len
 none_first blank = refl
 
 pub part_read : (text : List ℕ) (front : List (List ℕ)) (whole all : ℕ) (blank next_blank : Bool) (rest part next : List ℕ) → IsRead text front whole blank rest → part ≢ [] → part ≡ first_in blank rest →
-    all ≡ whole → next_blank ≡ begins_with_blank (behind_first rest) → next ≡ behind_blanks (behind_first rest) → IsRead text (front ++ part ∷ []) all next_blank next
+    all ≡ whole → next_blank ≡ begins_in Blank (behind_first rest) → next ≡ behind_blanks (behind_first rest) → IsRead text (front ++ part ∷ []) all next_blank next
 part_read text front whole all blank next_blank rest part next read some part_is all_is blank_is next_is =
     let left : rest ≢ [] = λ e. some (part_is ∙ ap (first_in blank) e ∙ none_first blank) in
     rw (part_is, all_is, blank_is, next_is) (more_read text front whole blank rest left read)

@@ -1,13 +1,13 @@
 -- A head that was read is spelled so.
-use Rattle.std.proofs.Common.{◌≡◌, ◌≢◌, ℕ, zero, suc, ◌<◌, ◌≤◌, true, false, List, [], ◌∷◌, ◌++◌, ℤ, length, Result, Ok, Err, refl, sym, ◌∙◌, ap, subst, arith, codes, bytes_eq, ⊎_elim, ◌⊎◌, inl, inr}
+use Rattle.std.proofs.Common.{◌≡◌, ◌≢◌, ℕ, zero, suc, ◌<◌, ◌≤◌, true, false, List, [], ◌∷◌, ◌++◌, ℤ, length, Result, Ok, Err, refl, sym, ◌∙◌, ap, subst, arith, codes, bytes_eq, ⊎_elim, ◌⊎◌, inl, inr, ◌^◌}
 use Rattle.std.specs.List.{AllByRecursion}
 use Rattle.std.proofs.lemmas.List.{append_assoc}
 use Rattle.std.proofs.lemmas.Slice.Eq.{bytes_eq-Decides}
 use Rattle.command_head.specs.Readings.{Refusal, Form, Range}
-use Rattle.text_grammar.specs.Numbers.{is_short}
-use Rattle.command_head.specs.Numbers.{is_number, number_of}
+use Rattle.text_grammar.specs.Numbers.{is_number, is_short, number_of}
 use Rattle.command_head.specs.Members.{has, put, with_member}
-use Rattle.command_head.specs.Parts.{is_name, is_system, is_quoted, unquoted}
+use Rattle.text_grammar.specs.Systems.{is_system}
+use Rattle.command_head.specs.Parts.{is_name, is_quoted, unquoted}
 use Rattle.command_head.specs.Heads.{Alphabets, Sets, Systems, RegHead, Stage, AtWord, AtName, BehindName, AtNumber, BehindNumber, BehindSet, BehindSystem, AtEnd, body_step, step}
 use Rattle.command_head.specs.Grammar.{SpellsNumber, SpellsMentions, SpellsSet, SpellSets, SpellAlphabets, AreUnquoted, quoted, SpellsReg}
 use Rattle.command_head.proofs.ReadingSteps.{bind_ok, then_ok, else_ok, chosen, ok_is}
@@ -26,7 +26,7 @@ pub member_spelled : (members : List ℤ) (part : List ℕ) (more : List ℤ) �
 unfolding with_member
 member_spelled members part more h =
     let a = then_ok (is_number part) Form _ more h in
-    let b = then_ok (is_short (number_of part)) Range _ more a.1 in
+    let b = then_ok (is_short (2 ^ 31) (number_of part)) Range _ more a.1 in
     let c = else_ok (has members (number_of part)) Form (Ok (put members (number_of part))) more b.1 in
     record { n = number_of part; spells = record { number = a.0; value = refl; short = b.0 }; new = c.0; more_is = ok_is _ _ _ refl c.1 }
 

@@ -2,7 +2,8 @@
 use Rattle.std.proofs.Common.{◌≡◌, Bool, true, false, cond, Result, Ok, Err, refl, ◌⊎◌, inl, inr}
 use Rattle.command_head.specs.declared.fault.HeadFault.{HeadFault}
 use Rattle.command_head.specs.declared.fault.HeadFault.TheVariants.{Syntax, Number, Memory}
-use Rattle.command_head.specs.Readings.{Fails, ◌>>=◌}
+use Rattle.command_head.specs.Readings.{Fails}
+use Rattle.text_grammar.specs.Results.{◌>>=◌}
 
 -- a fault is that of a reading where each fault of a part is one of the whole
 pub Fails-handed_on : {Y W : Type 0} (fault : HeadFault) (part : Result Y HeadFault) (whole : Result W HeadFault) →

@@ -1,11 +1,12 @@
 -- What holds at each stage: how many parts it took at least, and what the tracks so far are.
-use Rattle.std.proofs.Common.{◌≡◌, ℕ, ◌+◌, ◌*◌, ◌<◌, ◌≤◌, true, List, [], ◌∷◌, ◌++◌, ℤ, length, Ok, refl, ap, subst, arith, ⊎_elim, length-append}
+use Rattle.std.proofs.Common.{◌≡◌, ℕ, ◌+◌, ◌*◌, ◌<◌, ◌≤◌, true, List, [], ◌∷◌, ◌++◌, ℤ, length, Ok, refl, ap, subst, arith, ⊎_elim, length-append, ◌^◌}
 use Rattle.std.specs.List.{AllByRecursion}
 use Rattle.std.specs.List.Sorted.{IsStrictlySortedBy}
 use Rattle.std.specs.Ordering.{int_cmp}
 use Rattle.command_head.specs.Readings.{Form, placed}
 use Rattle.text_grammar.specs.Numbers.{is_short}
-use Rattle.command_head.specs.Parts.{Part, is_system, is_quoted, unquoted}
+use Rattle.text_grammar.specs.Systems.{is_system}
+use Rattle.command_head.specs.Parts.{Part, is_quoted, unquoted}
 use Rattle.command_head.specs.Heads.{Alphabets, Sets, Systems, RegHead, Stage, AtWord, AtName, BehindName, AtNumber, BehindNumber, BehindSet, BehindSystem, AtEnd, body_step, step, ended, run}
 use Rattle.command_head.specs.Formed.{IsSmallSet, IsSystemName, AreFormed}
 use Rattle.command_head.proofs.ReadingSteps.{bind_ok, then_ok, ok_is}
@@ -30,7 +31,7 @@ spent (AtEnd head) = 0
 -- numbers of 32 bits in order
 pub record AreMembers (members : List ℤ) : Type 0 where
   pub sorted : IsStrictlySortedBy int_cmp members
-  pub short : AllByRecursion (λ n. is_short n ≡ true) members
+  pub short : AllByRecursion (λ n. is_short (2 ^ 31) n ≡ true) members
 
 abbrev pub Sane : ℕ → Stage → Type 0
 Sane limit (AtNumber name sets members) = AllByRecursion (IsSmallSet limit) sets × AreMembers members
@@ -90,7 +91,7 @@ step_keeps limit (AtNumber name sets members) part next room sane h =
         sane.0,
         subst AreMembers read.more_is record {
           sorted = sorted-put members read.n sane.1.sorted;
-          short = all_put (λ n. is_short n ≡ true) members read.n read.spells.short sane.1.short;
+          short = all_put (λ n. is_short (2 ^ 31) n ≡ true) members read.n read.spells.short sane.1.short;
         },
         subst (λ (l : List ℤ). 0 < length l) read.more_is (put-some members read.n),
       );

@@ -1,11 +1,11 @@
 -- A head that is spelled so is read.
-use Rattle.std.proofs.Common.{◌≡◌, ℕ, Bool, true, false, cond, List, [], ◌∷◌, ◌++◌, ℤ, Ok, refl, sym, ◌∙◌, ap, subst, codes, bytes_eq}
+use Rattle.std.proofs.Common.{◌≡◌, ℕ, Bool, true, false, cond, List, [], ◌∷◌, ◌++◌, ℤ, Ok, refl, sym, ◌∙◌, ap, subst, codes, bytes_eq, ◌^◌}
 use Rattle.std.specs.List.{AllByRecursion}
 use Rattle.std.proofs.lemmas.List.{append-nil, append_assoc}
-use Rattle.text_grammar.specs.Numbers.{is_short}
-use Rattle.command_head.specs.Numbers.{is_number, number_of}
+use Rattle.text_grammar.specs.Numbers.{is_number, is_short, number_of}
 use Rattle.command_head.specs.Members.{has, put, with_member}
-use Rattle.command_head.specs.Parts.{is_name, is_system, is_quoted}
+use Rattle.text_grammar.specs.Systems.{is_system}
+use Rattle.command_head.specs.Parts.{is_name, is_quoted}
 use Rattle.command_head.specs.Heads.{Alphabets, Sets, Systems, RegHead, AtWord, AtName, BehindName, AtNumber, BehindSet, BehindSystem, AtEnd, body_step, step}
 use Rattle.command_head.specs.Grammar.{SpellsNumber, SpellsMentions, SpellSets, SpellAlphabets, AreUnquoted, quoted, SpellsReg}
 use Rattle.command_head.proofs.PartShape.{quoted_is, quoted-system, system-brace}
@@ -16,9 +16,9 @@ use Rattle.command_head.proofs.Walks.{goes, goes_step}
 pub member_read : (members : List ℤ) (part : List ℕ) (n : ℤ) → SpellsNumber part n → has members n ≡ false → with_member members part ≡ Ok (put members n)
 unfolding with_member
 member_read members part n s new =
-    let short : is_short (number_of part) ≡ true = subst (λ (m : ℤ). is_short m ≡ true) (sym s.value) s.short in
+    let short : is_short (2 ^ 31) (number_of part) ≡ true = subst (λ (m : ℤ). is_short (2 ^ 31) m ≡ true) (sym s.value) s.short in
     let new' : has members (number_of part) ≡ false = subst (λ (m : ℤ). has members m ≡ false) (sym s.value) new in
-    by_tests (is_number part) (is_short (number_of part)) (has members (number_of part)) _ _ _ _ s.number short new' ∙ ap (λ (m : ℤ). Ok (put members m)) s.value
+    by_tests (is_number part) (is_short (2 ^ 31) (number_of part)) (has members (number_of part)) _ _ _ _ s.number short new' ∙ ap (λ (m : ℤ). Ok (put members m)) s.value
   where
     by_tests : {A : Type 0} (a b c : Bool) (x y z w : A) → a ≡ true → b ≡ true → c ≡ false → cond a (cond b (cond c x y) z) w ≡ y
     by_tests a b c x y z w h g k = rw (h, g, k) refl

@@ -3,11 +3,11 @@ use Rattle.std.proofs.Common.{◌≡◌, ℕ, ◌+◌, Bool, true, false, cond, 
 use Rattle.std.specs.List.{AllByRecursion}
 use Rattle.std.proofs.lemmas.List.{take_at, drop_at, append_assoc}
 use Rattle.std.proofs.lemmas.Bool.{and_parts, eqb-true, false≢true}
-use Rattle.text_grammar.specs.declared.class.Class.TheVariants.{NameByte}
-use Rattle.text_grammar.specs.Fronts.{is_in, front_len, front_of, behind_front}
-use Rattle.text_grammar.specs.Numbers.{begins_with}
-use Rattle.command_head.specs.Numbers.{is_number}
-use Rattle.command_head.specs.Parts.{begins_with_letter, is_name, is_system, is_quoted, number_place}
+use Rattle.text_grammar.specs.declared.class.Class.TheVariants.{Letter, NameByte}
+use Rattle.text_grammar.specs.Fronts.{begins_in, behind_front, front_len, front_of, is_in}
+use Rattle.text_grammar.specs.Numbers.{begins_with, is_number}
+use Rattle.text_grammar.specs.Systems.{is_system}
+use Rattle.command_head.specs.Parts.{is_name, is_quoted, number_place}
 use Rattle.command_head.proofs.FrontSteps.{front_split, front_of-all, begins_with-split, front_len-append, behind_front-append}
 use Rattle.command_head.proofs.PartShape.{letter-high, name_bytes, system_bytes}
 use Rattle.command_head.proofs.Completions.{number_first, name_first, quoted_first}
@@ -17,11 +17,11 @@ pub record IsBehindName (part : List ℕ) : Type 0 where
   pub name : List ℕ
   pub behind : List ℕ
   pub part_is : part ≡ name ++ 61 ∷ behind
-  pub letter : begins_with_letter name ≡ true
+  pub letter : begins_in Letter name ≡ true
   pub bytes : AllByRecursion (λ b. is_in NameByte b ≡ true) name
   pub place : number_place part ≡ length name + 1
 
-letter_front : (bytes : List ℕ) → begins_with_letter bytes ≡ true → begins_with_letter (front_of NameByte bytes) ≡ true
+letter_front : (bytes : List ℕ) → begins_in Letter bytes ≡ true → begins_in Letter (front_of NameByte bytes) ≡ true
 letter_front [] h = absurd (false≢true h)
 letter_front (b ∷ bs) h = rw h h
 
@@ -35,12 +35,12 @@ place_is t n e = rw e refl
 -- a number begins a part, or stands behind a name
 pub number_split : (part : List ℕ) → (number_place part ≡ 0) ⊎ IsBehindName part
 unfolding number_place
-number_split part = by_test (begins_with_letter part && begins_with 61 (behind_front NameByte part)) refl
+number_split part = by_test (begins_in Letter part && begins_with 61 (behind_front NameByte part)) refl
   where
-    by_test : (t : Bool) → (begins_with_letter part && begins_with 61 (behind_front NameByte part)) ≡ t → (number_place part ≡ 0) ⊎ IsBehindName part
+    by_test : (t : Bool) → (begins_in Letter part && begins_with 61 (behind_front NameByte part)) ≡ t → (number_place part ≡ 0) ⊎ IsBehindName part
     by_test false e = inl (rw e refl)
     by_test true e =
-        let p = and_parts (begins_with_letter part) (begins_with 61 (behind_front NameByte part)) e in
+        let p = and_parts (begins_in Letter part) (begins_with 61 (behind_front NameByte part)) e in
         let part_is : part ≡ front_of NameByte part ++ 61 ∷ drop 1 (behind_front NameByte part) = sym (front_split NameByte part) ∙ ap (λ (l : List ℕ). front_of NameByte part ++ l) (begins_with-split 61 (behind_front NameByte part) p.1) in
         inr record {
           name = front_of NameByte part;
@@ -48,7 +48,7 @@ number_split part = by_test (begins_with_letter part && begins_with 61 (behind_f
           part_is = part_is;
           letter = letter_front part p.0;
           bytes = front_of-all NameByte part;
-          place = place_is (begins_with_letter part && begins_with 61 (behind_front NameByte part)) (front_len NameByte part) e ∙ ap (λ (n : ℕ). n + 1) (length-front_of part (drop 1 (behind_front NameByte part)) part_is);
+          place = place_is (begins_in Letter part && begins_with 61 (behind_front NameByte part)) (front_len NameByte part) e ∙ ap (λ (n : ℕ). n + 1) (length-front_of part (drop 1 (behind_front NameByte part)) part_is);
         }
 
 -- what stands before the number, and behind
@@ -66,14 +66,14 @@ back_is part split =
 
 -- Such a part with another number in the place of its own: a number, or one behind a name.
 pub record IsValued (part : List ℕ) : Type 0 where
-  pub letter : begins_with_letter part ≡ true
+  pub letter : begins_in Letter part ≡ true
   pub other_byte : AllByRecursion (λ b. is_in NameByte b ≡ true) part → ⊥
 
 all_middle : (xs ys : List ℕ) → AllByRecursion (λ b. is_in NameByte b ≡ true) (xs ++ 61 ∷ ys) → ⊥
 all_middle [] ys all = false≢true all.0
 all_middle (x ∷ xs) ys all = all_middle xs ys all.1
 
-pub letter_append : (xs ys : List ℕ) → begins_with_letter xs ≡ true → begins_with_letter (xs ++ ys) ≡ true
+pub letter_append : (xs ys : List ℕ) → begins_in Letter xs ≡ true → begins_in Letter (xs ++ ys) ≡ true
 letter_append [] ys h = absurd (false≢true h)
 letter_append (x ∷ xs) ys h = h
 
@@ -92,11 +92,11 @@ valued_name part v h = v.other_byte (name_bytes part h)
 pub valued_system : (part : List ℕ) → IsValued part → is_system part ≡ true → ⊥
 valued_system part v h = v.other_byte (system_bytes part h)
 
-pub letter_number : (part : List ℕ) → begins_with_letter part ≡ true → is_number part ≡ true → ⊥
+pub letter_number : (part : List ℕ) → begins_in Letter part ≡ true → is_number part ≡ true → ⊥
 letter_number [] h number = false≢true h
 letter_number (b ∷ bs) h number = let high = letter-high b h in let low = (number_first (b ∷ bs) number).1 in omega arith
 
-pub letter_quoted : (part : List ℕ) → begins_with_letter part ≡ true → is_quoted part ≡ true → ⊥
+pub letter_quoted : (part : List ℕ) → begins_in Letter part ≡ true → is_quoted part ≡ true → ⊥
 letter_quoted [] h q = false≢true h
 letter_quoted (b ∷ bs) h q =
     let high = letter-high b h in
@@ -119,7 +119,7 @@ numbered_quoted part other number q = ⊎_elim (λ n. number_quoted (take (numbe
 -- the number of a part that is one begins at its first byte
 pub number_place-number : (part : List ℕ) → is_number part ≡ true → number_place part ≡ 0
 number_place-number part number =
-    ⊎_elim (λ e. e) (λ s. absurd (letter_number part (subst (λ (l : List ℕ). begins_with_letter l ≡ true) (sym s.part_is) (letter_append s.name (61 ∷ s.behind) s.letter)) number)) (number_split part)
+    ⊎_elim (λ e. e) (λ s. absurd (letter_number part (subst (λ (l : List ℕ). begins_in Letter l ≡ true) (sym s.part_is) (letter_append s.name (61 ∷ s.behind) s.letter)) number)) (number_split part)
 
 -- and that of a name with a value, behind the `=`
 pub number_place-valued : (name behind : List ℕ) → is_name name ≡ true → number_place (name ++ 61 ∷ behind) ≡ length name + 1
@@ -129,7 +129,7 @@ number_place-valued name behind named =
     let letter = letter_append name (61 ∷ behind) (and_parts _ _ named).0 in
     let len = front_len-append NameByte name (61 ∷ behind) bytes refl in
     let back = behind_front-append NameByte name (61 ∷ behind) bytes refl in
-    taken (begins_with_letter (name ++ 61 ∷ behind)) (begins_with 61 (behind_front NameByte (name ++ 61 ∷ behind))) (front_len NameByte (name ++ 61 ∷ behind)) letter (ap (begins_with 61) back) len
+    taken (begins_in Letter (name ++ 61 ∷ behind)) (begins_with 61 (behind_front NameByte (name ++ 61 ∷ behind))) (front_len NameByte (name ++ 61 ∷ behind)) letter (ap (begins_with 61) back) len
   where
     taken : (a b : Bool) (n : ℕ) → a ≡ true → b ≡ true → n ≡ length name → cond (a && b) (n + 1) 0 ≡ length name + 1
     taken a b n e g h = rw (e, g, h) refl

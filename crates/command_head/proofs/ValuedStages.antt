@@ -2,10 +2,10 @@
 use Rattle.std.proofs.Common.{◌≡◌, ℕ, true, List, Ok, refl, sym, subst, codes, ⊎_elim}
 use Rattle.std.specs.List.{AllByRecursion}
 use Rattle.std.proofs.lemmas.Bool.{false≢true}
-use Rattle.text_grammar.specs.declared.class.Class.TheVariants.{NameByte}
-use Rattle.text_grammar.specs.Fronts.{is_in}
+use Rattle.text_grammar.specs.declared.class.Class.TheVariants.{Letter, NameByte}
+use Rattle.text_grammar.specs.Fronts.{begins_in, is_in}
 use Rattle.command_head.specs.Readings.{Form}
-use Rattle.command_head.specs.Parts.{begins_with_letter, is_quoted, unquoted}
+use Rattle.command_head.specs.Parts.{is_quoted, unquoted}
 use Rattle.command_head.specs.Heads.{Alphabets, Sets, Systems, Stage, AtWord, AtName, BehindName, AtNumber, BehindNumber, BehindSet, BehindSystem, AtEnd, body_step, step}
 use Rattle.command_head.proofs.ReadingSteps.{then_ok}
 use Rattle.command_head.proofs.ReadHeads.{member_spelled, word_step, first_name_step, name_step, number_step, divider_step, set_step, system_step}
@@ -13,8 +13,8 @@ use Rattle.command_head.proofs.Sane.{end_refused}
 use Rattle.command_head.proofs.ValuedParts.{IsValued, valued_name, valued_system, letter_number, letter_quoted}
 
 -- a text that begins with no letter
-not_text : (part text : List ℕ) → IsValued part → part ≡ text → (begins_with_letter text ≡ true → ⊥) → ⊥
-not_text part text v e other = other (subst (λ (l : List ℕ). begins_with_letter l ≡ true) e v.letter)
+not_text : (part text : List ℕ) → IsValued part → part ≡ text → (begins_in Letter text ≡ true → ⊥) → ⊥
+not_text part text v e other = other (subst (λ (l : List ℕ). begins_in Letter l ≡ true) e v.letter)
 
 not_body : (name : List ℕ) (alphabets : Alphabets) (part : List ℕ) (next : Stage) → IsValued part → body_step name alphabets part ≡ Ok next → ⊥
 unfolding body_step

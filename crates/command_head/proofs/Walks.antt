@@ -1,6 +1,7 @@
 -- The stages that parts lead to, without the places of the parts.
 use Rattle.std.proofs.Common.{◌≡◌, ℕ, List, [], ◌∷◌, Result, Ok, Err, refl, subst}
-use Rattle.command_head.specs.Readings.{Refusal, placed, ◌>>=◌}
+use Rattle.command_head.specs.Readings.{Refusal, placed}
+use Rattle.text_grammar.specs.Results.{◌>>=◌}
 use Rattle.command_head.specs.Parts.{Part, texts_of}
 use Rattle.command_head.specs.Heads.{RegHead, Stage, step, ended, run}
 use Rattle.command_head.proofs.ReadingSteps.{bind_ok, ok_is}

@@ -3,8 +3,7 @@ use Rattle.std.specs.Prelude.{◌≡◌, ◌≢◌, ℕ, ◌+◌, ◌<◌, ◌^�
 use Rattle.text_grammar.specs.Faults.{Begins, BreaksAt}
 use Rattle.command_head.specs.declared.fault.HeadFault.{HeadFault}
 use Rattle.command_head.specs.declared.fault.HeadFault.TheVariants.{Syntax, Number, Memory}
-use Rattle.text_grammar.specs.Numbers.{is_short}
-use Rattle.command_head.specs.Numbers.{is_number, number_of}
+use Rattle.text_grammar.specs.Numbers.{begins_with, is_number, is_short, number_of}
 use Rattle.command_head.specs.Parts.{Part, parts_of, texts_of, number_place}
 use Rattle.command_head.specs.Heads.{reg_at}
 use Rattle.command_head.specs.Grammar.{SpellsReg}
@@ -17,14 +16,15 @@ place_of text count = slice_index_or (map (λ (p : Part). p.at) (parts_of text))
 abbrev pub part_at : List (List ℕ) → ℕ → List ℕ
 part_at parts count = slice_index_or parts count []
 
--- This part is a number, or ends with one behind a name and `=`, and the number does not fit 32 bits, signed; with another number
--- in its place the part goes on behind those before it.
+-- This part is a number, or ends with one behind a name and `=`, and the number does not fit 32 bits, signed; with another number of the
+-- same sign in its place the part goes on behind those before it.
 pub record ExceedsAt {H : Type 0} (grammar : List (List ℕ) → H → Type 0) (parts : List (List ℕ)) (count : ℕ) : Type 0 where
   pub within : count < length parts
   pub number : is_number (drop (number_place (part_at parts count)) (part_at parts count)) ≡ true
-  pub long : is_short (number_of (drop (number_place (part_at parts count)) (part_at parts count))) ≡ false
+  pub long : is_short (2 ^ 31) (number_of (drop (number_place (part_at parts count)) (part_at parts count))) ≡ false
   pub other : List ℕ
   pub other_number : is_number other ≡ true
+  pub sign : begins_with 45 other ≡ begins_with 45 (drop (number_place (part_at parts count)) (part_at parts count))
   pub allowed : Begins grammar (take count parts ++ (take (number_place (part_at parts count)) (part_at parts count) ++ other) ∷ [])
 
 -- The first part with which no head of the grammar goes on begins at this byte. Where all parts of the text begin a head and are

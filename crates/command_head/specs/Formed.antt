@@ -1,9 +1,9 @@
 -- What is known of the tracks of a head that was read.
-use Rattle.std.specs.Prelude.{◌≡◌, ℕ, ◌<◌, true, List, length, ℤ, IsAscii}
+use Rattle.std.specs.Prelude.{◌≡◌, ℕ, ◌<◌, true, List, length, ℤ, IsAscii, ◌^◌}
 use Rattle.std.specs.List.{AllByRecursion}
 use Rattle.digit_tuple.specs.Sets.{IsAscending}
 use Rattle.text_grammar.specs.Numbers.{is_short}
-use Rattle.command_head.specs.Parts.{is_system}
+use Rattle.text_grammar.specs.Systems.{is_system}
 use Rattle.command_head.specs.Heads.{Alphabets, Sets, Systems}
 
 -- numbers of 32 bits, signed, in ascending order, one at least, and fewer than a limit
@@ -11,7 +11,7 @@ pub record IsSmallSet (limit : ℕ) (set : List ℤ) : Type 0 where
   pub some : 0 < length set
   pub few : length set < limit
   pub ascending : IsAscending set
-  pub short : AllByRecursion (λ n. is_short n ≡ true) set
+  pub short : AllByRecursion (λ n. is_short (2 ^ 31) n ≡ true) set
 
 -- the name of a system, which is ASCII
 pub record IsSystemName (name : List ℕ) : Type 0 where

@@ -1,18 +1,18 @@
 -- The grammars of heads: which parts, one behind another, spell which head.
-use Rattle.std.specs.Prelude.{◌≡◌, ◌≢◌, ℕ, true, List, [], ◌∷◌, ◌++◌, ℤ, codes, ◌↔◌, Option, None, Some, Ok, ⊤}
+use Rattle.std.specs.Prelude.{◌≡◌, ◌≢◌, ℕ, true, List, [], ◌∷◌, ◌++◌, ℤ, codes, ◌↔◌, Option, None, Some, Ok, ⊤, ◌^◌}
 use Rattle.std.specs.List.{AllByRecursion, AllPairs}
 use Rattle.digit_tuple.specs.Sets.{IsAscending}
-use Rattle.text_grammar.specs.Numbers.{is_short}
-use Rattle.command_head.specs.Numbers.{is_number, number_of}
+use Rattle.text_grammar.specs.Numbers.{is_number, is_short, number_of}
 use Rattle.command_head.specs.Members.{has}
-use Rattle.command_head.specs.Parts.{parts_of, texts_of, is_name, is_word, is_system}
+use Rattle.text_grammar.specs.Systems.{is_system}
+use Rattle.command_head.specs.Parts.{parts_of, texts_of, is_name, is_word}
 use Rattle.command_head.specs.Heads.{Alphabets, Sets, Systems, RegHead, NamedHead, PromoteHead, ImageHead, ValuedName, CombineHead, reg_at}
 
 -- a part spells a number of 32 bits, signed
 pub record SpellsNumber (part : List ℕ) (n : ℤ) : Type 0 where
   pub number : is_number part ≡ true
   pub value : number_of part ≡ n
-  pub short : is_short n ≡ true
+  pub short : is_short (2 ^ 31) n ≡ true
 
 -- one or more numbers, divided by commas
 abbrev pub SpellsMentions : List (List ℕ) → List ℤ → Type 0

@@ -2,9 +2,11 @@
 use Rattle.std.specs.Prelude.{ℕ, if◌then◌else◌, List, [], ◌∷◌, ◌++◌, length, ℤ, Option, Result, Ok, Err, codes}
 use Rattle.std.specs.Str.{bytes_eq}
 use Rattle.command_head.specs.declared.fault.HeadFault.{HeadFault}
-use Rattle.command_head.specs.Readings.{Refusal, Form, placed, ◌>>=◌}
+use Rattle.command_head.specs.Readings.{Refusal, Form, placed}
+use Rattle.text_grammar.specs.Results.{◌>>=◌}
 use Rattle.command_head.specs.Members.{with_member}
-use Rattle.command_head.specs.Parts.{Part, parts_of, is_name, is_system, is_quoted, unquoted}
+use Rattle.text_grammar.specs.Systems.{is_system}
+use Rattle.command_head.specs.Parts.{Part, parts_of, is_name, is_quoted, unquoted}
 
 -- what the tracks of a `reg` are over: a set each, or a system each
 pub data Alphabets : Type 0 where

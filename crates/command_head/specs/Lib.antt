@@ -1,5 +1,4 @@
 pub mod Readings
-pub mod Numbers
 pub mod Members
 pub mod Parts
 pub mod Heads

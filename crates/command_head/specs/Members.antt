@@ -1,11 +1,10 @@
 -- The members of a set of whole numbers.
-use Rattle.std.specs.Prelude.{ℕ, Bool, if◌then◌else◌, List, ℤ, Result, Ok, Err}
+use Rattle.std.specs.Prelude.{ℕ, Bool, if◌then◌else◌, List, ℤ, Result, Ok, Err, ◌^◌}
 use Rattle.std.specs.List.{list_any}
 use Rattle.std.specs.Ordering.{int_cmp, is_eq}
 use Rattle.std.specs.BTreeSet.{insert_key}
 use Rattle.command_head.specs.Readings.{Refusal, Form, Range}
-use Rattle.text_grammar.specs.Numbers.{is_short}
-use Rattle.command_head.specs.Numbers.{is_number, number_of}
+use Rattle.text_grammar.specs.Numbers.{is_number, is_short, number_of}
 
 -- whether a number is among these
 abbrev pub has : List ℤ → ℤ → Bool
@@ -19,5 +18,5 @@ put members n = insert_key int_cmp members n
 unfoldable pub with_member : List ℤ → List ℕ → Result (List ℤ) Refusal
 with_member members part =
     if is_number part
-    then (if is_short (number_of part) then (if has members (number_of part) then Err Form else Ok (put members (number_of part))) else Err Range)
+    then (if is_short (2 ^ 31) (number_of part) then (if has members (number_of part) then Err Form else Ok (put members (number_of part))) else Err Range)
     else Err Form

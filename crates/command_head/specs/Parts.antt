@@ -1,12 +1,10 @@
 -- The parts of a command's text, from left to right. Blanks may stand between them. Each is the longest possible, and a
 -- blank stands before each that begins with a letter.
-use Rattle.std.specs.Prelude.{ℕ, zero, suc, ◌+◌, ◌-◌, min, nat_le, Bool, true, false, not, ◌||◌, ◌&&◌, if◌then◌else◌, List, [], ◌∷◌, length, take, drop, map, codes}
+use Rattle.std.specs.Prelude.{ℕ, zero, suc, ◌+◌, ◌-◌, min, nat_le, Bool, not, ◌||◌, ◌&&◌, if◌then◌else◌, List, [], ◌∷◌, length, take, drop, map, codes}
 use Rattle.std.specs.Str.{bytes_eq}
-use Rattle.text_grammar.specs.declared.class.Class.TheVariants.{Blank, Digit, NameByte, Word, Unquoted}
-use Rattle.text_grammar.specs.Bytes.{is_blank, is_letter, is_digit}
-use Rattle.text_grammar.specs.Fronts.{front_len, front_of, behind_front}
-use Rattle.text_grammar.specs.Numbers.{begins_with}
-use Rattle.command_head.specs.Numbers.{unsigned, all_in}
+use Rattle.text_grammar.specs.declared.class.Class.TheVariants.{Blank, Digit, Letter, NameByte, Unquoted, Word}
+use Rattle.text_grammar.specs.Fronts.{all_in, begins_in, behind_front, front_len, front_of}
+use Rattle.text_grammar.specs.Numbers.{begins_with, number_len, unsigned}
 
 -- the longest front of a text that has neither a blank nor a quote
 abbrev pub first_word_of : List ℕ → List ℕ
@@ -16,28 +14,9 @@ first_word_of text = front_of Word text
 abbrev pub behind_blanks : List ℕ → List ℕ
 behind_blanks bytes = behind_front Blank bytes
 
--- whether a blank stands first
-abbrev pub begins_with_blank : List ℕ → Bool
-begins_with_blank [] = false
-begins_with_blank (b ∷ bs) = is_blank b
-
--- whether a letter stands first
-abbrev pub begins_with_letter : List ℕ → Bool
-begins_with_letter [] = false
-begins_with_letter (b ∷ bs) = is_letter b
-
--- whether a digit stands first
-abbrev pub begins_with_digit : List ℕ → Bool
-begins_with_digit [] = false
-begins_with_digit (b ∷ bs) = is_digit b
-
--- how long a number is that stands first: its sign and its digits
-abbrev pub number_len : List ℕ → ℕ
-number_len bytes = (if begins_with 45 bytes then 1 else 0) + front_len Digit (unsigned bytes)
-
 -- `=` and a number
 abbrev pub begins_with_value : List ℕ → Bool
-begins_with_value bytes = begins_with 61 bytes && begins_with_digit (unsigned (drop 1 bytes))
+begins_with_value bytes = begins_with 61 bytes && begins_in Digit (unsigned (drop 1 bytes))
 
 -- `.txt`
 abbrev pub begins_with_ending : List ℕ → Bool
@@ -54,9 +33,9 @@ quoted_len bytes = min (front_len Unquoted (drop 1 bytes) + 2) (length bytes)
 -- How long the part is that stands first: a name with what belongs to it, a number, a text in quotes, or one byte.
 unfoldable pub part_len : List ℕ → ℕ
 part_len bytes =
-    if begins_with_letter bytes
+    if begins_in Letter bytes
     then front_len NameByte bytes + ending_len (behind_front NameByte bytes)
-    else if begins_with_digit (unsigned bytes) then number_len bytes else if begins_with 34 bytes then quoted_len bytes else 1
+    else if begins_in Digit (unsigned bytes) then number_len bytes else if begins_with 34 bytes then quoted_len bytes else 1
 
 -- what stands behind the part that stands first
 abbrev pub behind_first : List ℕ → List ℕ
@@ -65,7 +44,7 @@ behind_first rest = drop (part_len rest) rest
 -- The part that stands first, where a blank stands before it or none does. A part that begins with a letter and lacks the blank
 -- before it is empty, and no form takes it.
 unfoldable pub first_in : Bool → List ℕ → List ℕ
-first_in blank rest = if begins_with_letter rest && not blank then [] else take (part_len rest) rest
+first_in blank rest = if begins_in Letter rest && not blank then [] else take (part_len rest) rest
 
 -- a part, and the byte of the text where it begins
 pub record Part : Type 0 where
@@ -79,7 +58,7 @@ parts_of_rest zero whole blank rest = []
 parts_of_rest (suc count) whole blank [] = []
 parts_of_rest (suc count) whole blank (b ∷ bs) =
     record { at = whole - length (b ∷ bs); bytes = first_in blank (b ∷ bs) }
-    ∷ parts_of_rest count whole (begins_with_blank (behind_first (b ∷ bs))) (behind_blanks (behind_first (b ∷ bs)))
+    ∷ parts_of_rest count whole (begins_in Blank (behind_first (b ∷ bs))) (behind_blanks (behind_first (b ∷ bs)))
 
 -- what stands behind the first word
 abbrev pub behind_word : List ℕ → List ℕ
@@ -89,7 +68,7 @@ behind_word text = behind_front Word text
 unfoldable pub parts_of : List ℕ → List Part
 parts_of text =
     record { at = 0; bytes = first_word_of text }
-    ∷ parts_of_rest (length text) (length text) (begins_with_blank (behind_word text)) (behind_blanks (behind_word text))
+    ∷ parts_of_rest (length text) (length text) (begins_in Blank (behind_word text)) (behind_blanks (behind_word text))
 
 -- the parts, without their places
 abbrev pub texts_of : List Part → List (List ℕ)
@@ -97,7 +76,7 @@ texts_of parts = map (λ (p : Part). p.bytes) parts
 
 -- a letter, and then letters, digits and `_`, at most 64 bytes in all
 abbrev pub is_name : List ℕ → Bool
-is_name part = begins_with_letter part && (all_in NameByte part && nat_le (length part) 64)
+is_name part = begins_in Letter part && (all_in NameByte part && nat_le (length part) 64)
 
 -- a name that begins with none of `A`, `E` and `I`
 abbrev pub is_word : List ℕ → Bool
@@ -105,20 +84,7 @@ is_word part = is_name part && not (begins_with 65 part || (begins_with 69 part 
 
 -- where the number of a part begins: behind a name and `=`, or at the part's first byte
 unfoldable pub number_place : List ℕ → ℕ
-number_place part = if begins_with_letter part && begins_with 61 (behind_front NameByte part) then front_len NameByte part + 1 else 0
-
--- whether all bytes are letters and digits
-abbrev pub all_alphanumeric : List ℕ → Bool
-all_alphanumeric [] = true
-all_alphanumeric (b ∷ bs) = (is_letter b || is_digit b) && all_alphanumeric bs
-
--- whether these bytes are `msd_` or `lsd_`
-abbrev pub is_direction : List ℕ → Bool
-is_direction bytes = bytes_eq bytes (codes "msd_") || bytes_eq bytes (codes "lsd_")
-
--- `msd_` or `lsd_`, and then letters and digits, one at least, at most 62 bytes in all
-abbrev pub is_system : List ℕ → Bool
-is_system part = nat_le 5 (length part) && (nat_le (length part) 62 && (is_direction (take 4 part) && all_alphanumeric (drop 4 part)))
+number_place part = if begins_in Letter part && begins_with 61 (behind_front NameByte part) then front_len NameByte part + 1 else 0
 
 -- a quote, other bytes, and a quote
 abbrev pub is_quoted : List ℕ → Bool

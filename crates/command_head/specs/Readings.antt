@@ -17,11 +17,6 @@ abbrev pub placed : {A : Type 0} → ℕ → Result A Refusal → Result A HeadF
 placed at (Ok x) = Ok x
 placed at (Err refusal) = Err (fault_at at refusal)
 
-infixl 10 ◌>>=◌
-abbrev pub ◌>>=◌ : {A B E : Type 0} → Result A E → (A → Result B E) → Result B E
-(Ok x) >>= f = f x
-(Err e) >>= f = Err e
-
 -- The fault that a function answered is the one that is read, its byte as well. Memory may run out at any time.
 abbrev pub Fails : {Y : Type 0} → HeadFault → Result Y HeadFault → Type 0
 Fails (Syntax at) read = read ≡ Err (Syntax at)

@@ -1,21 +1,14 @@
 -- The values of automata in a list.
-use Rattle.std.specs.Prelude.{◌≡◌, ℕ, suc, ◌+◌, true, false, List, [], ◌∷◌, ◌++◌, length, ℤ, pos, Option, None, Some, ◌⊎◌, ⊤}
-use Rattle.text_grammar.specs.Numbers.{is_short}
+use Rattle.std.specs.Prelude.{◌≡◌, ℕ, suc, ◌+◌, true, false, List, [], ◌∷◌, ◌++◌, length, ℤ, pos, Option, None, Some, ◌⊎◌, ⊤, ◌^◌}
+use Rattle.text_grammar.specs.Numbers.{is_number, is_short, number_of}
 use Rattle.command_head.specs.declared.fault.HeadFault.{HeadFault}
 use Rattle.command_head.specs.declared.fault.HeadFault.TheVariants.{Syntax, Number, Memory}
-use Rattle.command_head.specs.Numbers.{is_number, number_of}
 use Rattle.command_head.specs.Parts.{is_name}
-use Rattle.command_head.specs.Heads.{ValuedName}
 
 -- the value of an automaton at a place, counted from 0: the one that is given, or its place counted from 1
 abbrev pub value_at : ℕ → Option ℤ → ℤ
 value_at place (Some n) = n
 value_at place None = pos (suc place)
-
--- the values of automata in their order, the first at this place
-abbrev pub values_from : ℕ → List ValuedName → List ℤ
-values_from place [] = []
-values_from place (valued ∷ more) = value_at place valued.value ∷ values_from (suc place) more
 
 -- what may stand behind a name in its part, whether the number fits or not
 abbrev pub IsValueText : List ℕ → Type 0
@@ -26,7 +19,7 @@ pub record IsLongValue (behind : List ℕ) : Type 0 where
   pub number : List ℕ
   pub behind_is : behind ≡ 61 ∷ number
   pub digits : is_number number ≡ true
-  pub long : is_short (number_of number) ≡ false
+  pub long : is_short (2 ^ 31) (number_of number) ≡ false
 
 -- a name, and directly behind it a number that does not fit, which begins at this byte of the part
 pub record IsLongValued (part : List ℕ) (at : ℕ) : Type 0 where

@@ -1,5 +1,4 @@
 ghost use Rattle.std.specs.Prelude.{◌≡◌, ◌-◌, length};
-ghost use Rattle.command_head.specs.Numbers.{all_in as all_in_class};
 ghost use Rattle.command_head.specs.Parts.{behind_blanks as rest_behind_blanks};
 
 use text_grammar::{Class, front_len};
@@ -9,13 +8,6 @@ pub(crate) fn place(whole: usize, rest: &[u8]) -> usize
     ensures { result ≡ whole - length rest.now }
 {
     whole.saturating_sub(rest.len())
-}
-
-/// Whether all bytes are of the class.
-pub(crate) fn all_in(class: Class, bytes: &[u8]) -> bool
-    ensures { result ≡ all_in_class class bytes.now }
-{
-    front_len(class, bytes) == bytes.len()
 }
 
 /// The bytes behind the blanks at the front.

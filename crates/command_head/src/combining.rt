@@ -8,12 +8,11 @@ ghost use Rattle.command_head.specs.Breaks.{HasHead};
 use crate::fault::HeadFault;
 use crate::head::{CombineParts, ValuedName};
 use crate::kinds::{after_word, word_in};
-use crate::numbers::{is_number, number_of};
 use crate::parts::is_name;
 use crate::rest::FirstPart;
 use crate::stage::name_of;
 use std::alloc::Global;
-use text_grammar::{Class, begins_with, front_len};
+use text_grammar::{Class, begins_with, front_len, is_number, number_of};
 
 /// What stands behind a name in its part.
 enum ValueText {

@@ -1,7 +1,9 @@
 //! Parts that have to be of one kind.
 ghost use Rattle.std.specs.Prelude.{◌≡◌, ◌≢◌, ◌-◌, [], length, true, false, MatchResult};
 ghost use Rattle.command_head.specs.declared.fault.HeadFault.TheVariants.{Syntax};
-ghost use Rattle.command_head.specs.Parts.{first_word_of, begins_with_blank, behind_blanks, behind_word, is_name as is_name_part, is_word as is_word_part, is_quoted as is_quoted_part, unquoted as inside_quotes};
+ghost use Rattle.text_grammar.specs.declared.class.Class.TheVariants.{Blank};
+ghost use Rattle.text_grammar.specs.Fronts.{begins_in};
+ghost use Rattle.command_head.specs.Parts.{first_word_of, behind_blanks, behind_word, is_name as is_name_part, is_word as is_word_part, is_quoted as is_quoted_part, unquoted as inside_quotes};
 
 use crate::bytes::place;
 use crate::fault::HeadFault;
@@ -12,7 +14,7 @@ use text_grammar::{Class, front_len};
 /// What is left behind the first word of a text, which has to be this one.
 pub(crate) fn after_word<'a>(word: &[u8], text: &'a [u8]) -> Result<Rest<'a>, HeadFault>
     ensures { MatchResult result
-        (λ rest. (first_word_of text.now ≡ word.now) × (rest.whole ≡ length text.now) × (rest.blank ≡ begins_with_blank (behind_word text.now)) × (rest.bytes.now ≡ behind_blanks (behind_word text.now)))
+        (λ rest. (first_word_of text.now ≡ word.now) × (rest.whole ≡ length text.now) × (rest.blank ≡ begins_in Blank (behind_word text.now)) × (rest.bytes.now ≡ behind_blanks (behind_word text.now)))
         (λ fault. (first_word_of text.now ≢ word.now) × (fault ≡ Syntax 0)) }
 {
     let (first, behind) = text.split_at(front_len(Class::Word, text));

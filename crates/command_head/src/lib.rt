@@ -8,8 +8,6 @@
 mod fault;
 // what every reader needs: blanks, single bytes, and the place of a fault
 mod bytes;
-// whole numbers
-mod numbers;
 // how long the parts of a text are, and of which kind they are
 mod parts;
 // the parts of a text, one after another

@@ -1,10 +1,12 @@
 //! The parts of a text, one after another.
 ghost use Rattle.std.specs.Prelude.{◌≡◌, ◌-◌, length, take};
-ghost use Rattle.command_head.specs.Parts.{begins_with_blank as blank_first, behind_blanks as rest_behind_blanks, behind_first, first_in as part_in, part_len as len_of_part};
+ghost use Rattle.text_grammar.specs.declared.class.Class.TheVariants.{Blank};
+ghost use Rattle.text_grammar.specs.Fronts.{begins_in as first_in_class};
+ghost use Rattle.command_head.specs.Parts.{behind_blanks as rest_behind_blanks, behind_first, first_in as part_in, part_len as len_of_part};
 
 use crate::bytes::{behind_blanks, place};
-use crate::parts::{begins_with_letter, part_len};
-use text_grammar::Class;
+use crate::parts::part_len;
+use text_grammar::{Class, begins_in};
 
 /// What is left of a text behind some of its parts, and behind the blanks after them.
 #[derive(Clone, Copy)]
@@ -28,16 +30,6 @@ pub(crate) struct FirstPart<'a> {
     pub(crate) rest: Rest<'a>,
 }
 
-/// Whether a blank stands first.
-fn begins_with_blank(bytes: &[u8]) -> bool
-    ensures { result ≡ blank_first bytes.now }
-{
-    match bytes {
-        [first, ..] => Class::Blank.contains(*first),
-        [] => false,
-    }
-}
-
 /// The part that stands first, whether a blank stands before it or not, and what stands behind it.
 fn split_first(rest: &[u8]) -> (&[u8], &[u8])
     ensures part { result.0.now ≡ take (len_of_part rest.now) rest.now }
@@ -50,12 +42,12 @@ fn split_first(rest: &[u8]) -> (&[u8], &[u8])
 /// What is left of a text of `whole` bytes where these stand behind a part.
 pub(crate) fn rest_of(whole: usize, behind: &[u8]) -> Rest<'_>
     ensures whole { result.whole ≡ whole }
-    ensures blank { result.blank ≡ blank_first behind.now }
+    ensures blank { result.blank ≡ first_in_class Blank behind.now }
     ensures bytes { result.bytes.now ≡ rest_behind_blanks behind.now }
 {
     Rest {
         whole,
-        blank: begins_with_blank(behind),
+        blank: begins_in(Class::Blank, behind),
         bytes: behind_blanks(behind),
     }
 }
@@ -67,12 +59,12 @@ impl<'a> Rest<'a> {
         ensures at { result.at ≡ self.entry.whole - length self.entry.bytes.now }
         ensures bytes { result.bytes.now ≡ part_in self.entry.blank self.entry.bytes.now }
         ensures whole { result.rest.whole ≡ self.entry.whole }
-        ensures blank { result.rest.blank ≡ blank_first (behind_first self.entry.bytes.now) }
+        ensures blank { result.rest.blank ≡ first_in_class Blank (behind_first self.entry.bytes.now) }
         ensures rest { result.rest.bytes.now ≡ rest_behind_blanks (behind_first self.entry.bytes.now) }
     {
         let (part, behind) = split_first(self.bytes);
         let rest = rest_of(self.whole, behind);
-        let lacks_blank = begins_with_letter(self.bytes) && !self.blank;
+        let lacks_blank = begins_in(Class::Letter, self.bytes) && !self.blank;
         FirstPart {
             at: place(self.whole, self.bytes),
             bytes: if lacks_blank { &part[..0] } else { part },

@@ -6,21 +6,22 @@ ghost use Rattle.std.specs.Ordering.{int_cmp};
 ghost use Rattle.command_head.specs.declared.fault.HeadFault.TheVariants.{Memory};
 ghost use Rattle.command_head.specs.Readings.{Reads, placed};
 ghost use Rattle.command_head.specs.Members.{with_member};
-ghost use Rattle.command_head.specs.Parts.{is_name as is_name_part, is_system as is_system_part};
+ghost use Rattle.command_head.specs.Parts.{is_name as is_name_part};
+ghost use Rattle.text_grammar.specs.Systems.{is_system as is_system_part};
 ghost use Rattle.command_head.specs.Heads as heads;
 ghost use Rattle.command_head.specs.Heads.{step as step_of, body_step, ended, open_count};
 ghost use Rattle.command_head.specs.HeadViews.{alphabets_of, head_view, stage_view};
 
 use crate::fault::HeadFault;
 use crate::head::{Alphabets, RegParts};
-use crate::numbers::{is_number, number_of};
-use crate::parts::{is_name, is_quoted, is_system, unquoted};
+use crate::parts::{is_name, is_quoted, unquoted};
 use digit_tuple::letter_set::LetterSet;
 use digit_tuple::name::Name;
 use digit_tuple::sets::Sets;
 use std::alloc::Global;
 use std::collections::BTreeSet;
 use std::str;
+use text_grammar::{is_number, is_system, number_of};
 
 /// A set whose brace is open: the name and the sets before it, and its members so far.
 #[derive(Drop)]

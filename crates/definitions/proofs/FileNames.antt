@@ -11,9 +11,11 @@ use Rattle.digit_tuple.specs.declared.direction.Direction.TheVariants.{Msd, Lsd}
 use Rattle.system_names.specs.declared.system_kind.SystemKind.{SystemKind}
 use Rattle.system_names.specs.declared.system_kind.SystemKind.TheVariants.{Base, Fibonacci}
 use Rattle.system_names.specs.Names.{IsSystemKind, digit_count, kind_part, system_name}
-use Rattle.system_names.specs.UserNames.{is_alphanumeric, user_name}
+use Rattle.text_grammar.specs.Bytes.{is_alphanumeric}
+use Rattle.system_names.specs.UserNames.{user_name}
 use Rattle.numeration.specs.Systems.{System}
-use Rattle.dfa_reading.specs.Systems.{is_system, directs_as}
+use Rattle.text_grammar.specs.Systems.{is_system}
+use Rattle.dfa_reading.specs.Systems.{directs_as}
 use Rattle.dfa_reading.proofs.SystemNames.{digit_limit-built}
 use Rattle.dfa_reading.proofs.UserSystems.{users_name_passes, users_digit_limit}
 use Rattle.dfa_text.specs.Lists as lists

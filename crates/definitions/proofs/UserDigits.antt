@@ -3,7 +3,7 @@ use Rattle.std.proofs.Common.{◌≡◌, ℕ, zero, suc, ◌+◌, ◌<◌, ◌�
 use Rattle.std.specs.Prelude.{option_map}
 use Rattle.std.specs.List.{AllByRecursion, All, slice_split}
 use Rattle.std.specs.Ordering.{int_cmp}
-use Rattle.std.proofs.lemmas.Bool.{ltb-true}
+use Rattle.std.proofs.lemmas.Bool.{and_parts, ltb-true}
 use Rattle.std.proofs.lemmas.List.Elements.{All-nil}
 use Rattle.std.proofs.lemmas.List.FromFn.{length-map-range_with_len, get_or-map-range_with_len}
 use Rattle.std.proofs.lemmas.Map.Views.{All-insert_key}
@@ -12,7 +12,8 @@ use Rattle.digit_tuple.specs.Systems.{digit_set, IsDigitCount}
 use Rattle.dfa_reading.specs.Headers.{Header, Truth, Systems, Sets, has_member, with_member, with_members, only_integer, member_of, numbers_of, members_of, open_set_of, sets_between, sets_of, or_else, truth_of, header_of, has_states}
 use Rattle.dfa_reading.specs.Lines.{◌>>=◌, parts_of, lines_of, line_after}
 use Rattle.dfa_reading.specs.Listed.{Listed}
-use Rattle.dfa_reading.specs.Numbers.{negative, kept_below, natural_of, number_below, integer_of}
+use Rattle.dfa_reading.specs.Numbers.{integer_of}
+use Rattle.text_grammar.specs.Numbers.{is_number, is_short, number_of}
 use Rattle.dfa_reading.specs.Reading.{Draft, no_draft, add_line, add_lines_by, placed_lines, lists, finish_with, finish}
 use Rattle.dfa_reading.specs.Systems.{systems_of}
 use Rattle.dfa_reading.proofs.Drafts.{then_ok}
@@ -29,26 +30,12 @@ use Rattle.dfa_reading.specs.SystemFiles.{is_headed, kept_headed, add_headed_lin
 abbrev pub IsSmall : ℤ → Type 0
 IsSmall m = (n : ℕ) → m ≡ pos n → n < 2 ^ 31
 
-kept_small : (limit : ℕ) (o : Option ℕ) (k : ℕ) → kept_below limit o ≡ Some k → k < limit
-kept_small limit None k h = absurd (cc)
-kept_small limit (Some n) k h =
-    let kept = cond_some-then (ltb n limit) (Some n) k h in
-    let same : n ≡ k = let e : Some n ≡ Some k = kept.1 in cc in
-    subst (λ (m : ℕ). m < limit) same (ltb-true n limit kept.0)
-
-negative_small : (k : ℕ) → IsSmall (negative k)
-negative_small zero n is = let e : pos 0 ≡ pos n = is in let same : 0 ≡ n = cc in omega (arith, same)
-negative_small (suc k) n is = absurd (cc)
-
 integer_small : (bytes : List ℕ) (m : ℤ) → integer_of bytes ≡ Some m → IsSmall m
-integer_small [] m h = absurd (cc)
-integer_small (b ∷ bytes) m h = by (eqb b 45) h
-  where
-    by : (t : Bool) → cond t (option_map negative (number_below (2 ^ 31 + 1) bytes)) (option_map pos (number_below (2 ^ 31) (b ∷ bytes))) ≡ Some m → IsSmall m
-    by true e = let read = map_some (number_below (2 ^ 31 + 1) bytes) negative m e in subst IsSmall read.2 (negative_small read.0)
-    by false e =
-        let read = map_some (number_below (2 ^ 31) (b ∷ bytes)) pos m e in
-        λ n is. let same : read.0 ≡ n = let f : pos read.0 ≡ pos n = read.2 ∙ is in cc in subst (λ (k : ℕ). k < 2 ^ 31) same (kept_small (2 ^ 31) (natural_of (b ∷ bytes)) read.0 read.1)
+integer_small bytes m h =
+    let kept = cond_some-then (is_number bytes && is_short (2 ^ 31) (number_of bytes)) (Some (number_of bytes)) m h in
+    let same : number_of bytes ≡ m = let e : Some (number_of bytes) ≡ Some m = kept.1 in cc in
+    let short = (and_parts (is_number bytes) (is_short (2 ^ 31) (number_of bytes)) kept.0).1 in
+    λ n is. ltb-true n (2 ^ 31) (subst (λ (z : ℤ). is_short (2 ^ 31) z ≡ true) (same ∙ is) short)
 
 only_small : (parts : List (List ℕ)) (m : ℤ) → only_integer parts ≡ Some m → IsSmall m
 only_small [] m h = absurd (cc)

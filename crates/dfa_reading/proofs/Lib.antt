@@ -1,6 +1,5 @@
 pub mod Splits
 pub mod ReadLines
-pub mod ReadNumbers
 pub mod SystemNames
 pub mod ReadHeaders
 pub mod Options

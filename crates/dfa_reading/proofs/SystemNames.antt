@@ -10,8 +10,9 @@ use Rattle.system_names.specs.declared.system_kind.SystemKind.{SystemKind}
 use Rattle.system_names.specs.declared.system_kind.SystemKind.TheVariants.{Base, Fibonacci}
 use Rattle.system_names.specs.Names.{system_name, digit_count, IsBase, IsBuiltIn, IsBuiltInName}
 use Rattle.system_names.proofs.OneSystem.{one_system}
-use Rattle.system_names.specs.UserNames.{is_alphanumeric}
-use Rattle.dfa_reading.specs.Systems.{is_direction, is_system, is_base_name, is_fibonacci_name, limit_up_to, digit_limit}
+use Rattle.text_grammar.specs.Bytes.{is_alphanumeric}
+use Rattle.text_grammar.specs.Systems.{is_direction, is_system}
+use Rattle.dfa_reading.specs.Systems.{is_base_name, is_fibonacci_name, limit_up_to, digit_limit}
 
 -- names of systems are ASCII
 alphanumeric-low : (b : ℕ) → is_alphanumeric b ≡ true → b < 128

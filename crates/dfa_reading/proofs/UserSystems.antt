@@ -2,13 +2,14 @@
 use Rattle.std.proofs.Common.{◌≡◌, ℕ, ◌+◌, ◌≤◌, ◌^◌, true, ◌&&◌, nat_le, List, [], ◌∷◌, length, take, drop, refl, sym, ap, ◌∙◌, subst, arith}
 use Rattle.std.specs.List.{list_all}
 use Rattle.std.proofs.lemmas.Bool.{and_parts, le-leb}
-use Rattle.text_grammar.specs.Bytes.{is_letter}
+use Rattle.text_grammar.specs.Bytes.{is_letter, is_alphanumeric}
 use Rattle.digit_tuple.specs.declared.direction.Direction.{Direction}
 use Rattle.digit_tuple.specs.declared.direction.Direction.TheVariants.{Msd, Lsd}
-use Rattle.system_names.specs.UserNames.{is_alphanumeric, is_word_of_letters, IsUserPart, IsUsersName, user_name}
+use Rattle.system_names.specs.UserNames.{is_word_of_letters, IsUserPart, IsUsersName, user_name}
 use Rattle.system_names.specs.Names.{direction_part}
 use Rattle.system_names.proofs.UserSystems.{user_front, user_rest, none_is_built_in}
-use Rattle.dfa_reading.specs.Systems.{is_direction, is_system, directs_as, digit_limit}
+use Rattle.text_grammar.specs.Systems.{is_direction, is_system}
+use Rattle.dfa_reading.specs.Systems.{directs_as, digit_limit}
 use Rattle.dfa_reading.proofs.SystemNames.{digit_limit-other}
 use Rattle.dfa_reading.proofs.ConflictLemmas.{both_hold}
 

@@ -5,15 +5,8 @@ use Rattle.std.specs.Str.{bytes_eq}
 use Rattle.digit_tuple.specs.declared.direction.Direction.TheVariants.{Msd, Lsd}
 use Rattle.system_names.specs.declared.system_kind.SystemKind.TheVariants.{Base, Fibonacci}
 use Rattle.system_names.specs.Names.{system_name}
-use Rattle.system_names.specs.UserNames.{is_alphanumeric}
+use Rattle.text_grammar.specs.Systems.{is_system}
 use Rattle.dfa_reading.specs.Lines.{◌>>=◌, parts_of, each_of}
-
-abbrev pub is_direction : List ℕ → Bool
-is_direction bytes = bytes_eq bytes (codes "msd_") || bytes_eq bytes (codes "lsd_")
-
--- `msd_` or `lsd_`, and then letters and digits, one at least, at most 62 bytes in all
-unfoldable pub is_system : List ℕ → Bool
-is_system part = nat_le 5 (length part) && (nat_le (length part) 62 && (is_direction (take 4 part) && list_all is_alphanumeric (drop 4 part)))
 
 abbrev pub system_of : List ℕ → Option (List ℕ)
 system_of part = if is_system part then Some part else None

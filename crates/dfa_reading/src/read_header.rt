@@ -12,13 +12,13 @@ ghost use Rattle.dfa_reading.specs.HeaderViews.{header_view};
 use crate::header::FileHeader;
 use crate::read_lines::{cut_at, next_part};
 use crate::read_numbers::integer;
-use crate::system_name::{SystemName, is_system, system};
+use crate::system_name::{SystemName, system};
 use digit_tuple::faults::OutOfMemory;
 use digit_tuple::letter_set::LetterSet;
 use digit_tuple::sets::Sets;
 use std::alloc::Global;
 use std::collections::BTreeSet;
-use text_grammar::{Class, front_len};
+use text_grammar::{Class, front_len, is_system};
 
 /// The header that a line is: `true` or `false` alone, systems of one direction, or sets.
 #[tactic(auto, unfolding(crate::specs::Headers::header_of))]

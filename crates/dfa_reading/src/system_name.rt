@@ -1,17 +1,15 @@
 //! Names of systems in a header.
 
 ghost use Rattle.std.specs.Prelude.{◌≡◌, ◌≤◌, ◌^◌, true, IsAscii, IfOk};
-ghost use Rattle.dfa_reading.specs.Systems.{is_direction as direction_stands, is_system as system_stands, digit_limit as limit_of};
+ghost use Rattle.text_grammar.specs.Systems.{is_system as system_stands};
+ghost use Rattle.dfa_reading.specs.Systems.{digit_limit as limit_of};
 
 use digit_tuple::faults::OutOfMemory;
 use digit_tuple::name::Name;
 use std::alloc::Global;
 use std::marker::Model;
 use std::str;
-use system_names::{all_alphanumeric, built_in};
-
-// The greatest length of the name of a system.
-const LONGEST_SYSTEM: usize = 62;
+use system_names::built_in;
 
 // One above the greatest digit that the format takes where the system is not built in.
 const OTHER_LIMIT: u64 = 4294967296;
@@ -69,22 +67,6 @@ fn limit(name: &Name) -> u64
         Some(system) => u64::from(system.digits()),
         None => OTHER_LIMIT,
     }
-}
-
-// Whether these bytes are `msd_` or `lsd_`.
-fn is_direction(bytes: &[u8]) -> bool
-    ensures { result ≡ direction_stands bytes.now }
-{
-    bytes == b"msd_".as_slice() || bytes == b"lsd_".as_slice()
-}
-
-/// Whether a part is the name of a system.
-#[tactic(auto, unfolding(crate::specs::Systems::is_system))]
-pub fn is_system(part: &[u8]) -> bool
-    ensures { result ≡ system_stands part.now }
-{
-    let len = part.len();
-    5 <= len && len <= LONGEST_SYSTEM && is_direction(&part[..4]) && all_alphanumeric(&part[4..])
 }
 
 /// The system that a part names.

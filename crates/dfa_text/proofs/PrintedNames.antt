@@ -13,7 +13,8 @@ use Rattle.digit_tuple.specs.Sets.{IsAscending}
 use Rattle.digit_tuple.specs.declared.systems.SystemTrack.{SystemTrack}
 use Rattle.text_grammar.specs.Bytes.{is_blank, is_line_end}
 use Rattle.dfa_reading.specs.Lines.{◌>>=◌, each_of, parts_of, has_bytes, is_passed}
-use Rattle.dfa_reading.specs.Systems.{is_system, system_of, of_one_direction, systems_of}
+use Rattle.text_grammar.specs.Systems.{is_system}
+use Rattle.dfa_reading.specs.Systems.{system_of, of_one_direction, systems_of}
 use Rattle.dfa_reading.specs.Headers as file
 use Rattle.dfa_reading.specs.Headers.{has_member, with_member, with_members, only_integer, member_of, numbers_of, members_of, open_set_of, sets_between, sets_of, truth_by, truth_of, or_else, header_of}
 use Rattle.dfa_reading.proofs.SystemNames.{system_avoids, system_some, brace_no_system, system_no_truth}

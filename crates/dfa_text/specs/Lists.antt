@@ -14,7 +14,8 @@ use Rattle.dfa_reading.specs.Headers as file
 use Rattle.dfa_reading.specs.Listed.{ListedLine, Listed}
 use Rattle.dfa_reading.specs.Reading.{relation_of}
 use Rattle.dfa_reading.specs.WordFiles.{word_of}
-use Rattle.dfa_reading.specs.Systems.{is_system, of_one_direction, digit_limit}
+use Rattle.text_grammar.specs.Systems.{is_system}
+use Rattle.dfa_reading.specs.Systems.{of_one_direction, digit_limit}
 use Rattle.dfa_text.specs.Meaning.{AreTrackSets}
 use Rattle.dfa_text.specs.RelationText.{word_text, outputs_of, relation_text}
 pub use Rattle.dfa_text.specs.RelationText.{output_listed}

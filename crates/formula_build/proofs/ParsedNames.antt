@@ -8,8 +8,9 @@ use Rattle.text_grammar.specs.Fronts.{front_len, front_of}
 use Rattle.text_grammar.specs.declared.class.Class.TheVariants.{NameByte}
 use Rattle.formula_parse.specs.Tokens as tokens
 use Rattle.formula_parse.specs.Tokens.{Name, Token, Placed, token_of, Letter}
-use Rattle.formula_parse.specs.Spots.{Lexeme, Mode, plain, after_mark, after_call, mode_after, no_lexeme, name_lexeme, number_lexeme, letter_lexeme, sign_token, sign_lexeme, plain_lexeme, system_len, system_lexeme, lexeme, Spot, spots_from, spots}
-use Rattle.formula_parse.specs.Spots as spotted
+use Rattle.text_grammar.specs.Spots.{Lexeme, Spot, spot_of, spots_from}
+use Rattle.formula_parse.specs.Spots.{Mode, plain, after_mark, after_call, mode_after, no_lexeme, name_lexeme, number_lexeme, letter_lexeme, sign_token, sign_lexeme, plain_lexeme, system_len, system_lexeme, lexeme, lexing, spots}
+use Rattle.text_grammar.specs.Spots as cut
 use Rattle.formula_parse.specs.Trees as trees
 use Rattle.formula_parse.specs.Trees.{Names, no_names, names}
 use Rattle.formula_parse.specs.Building.{multiplied, summed, chained, under_marks}
@@ -23,14 +24,14 @@ abbrev IsNamedToken : Token → Type 0
 IsNamedToken (tokens.name n) = begins_with_letter n ≡ true
 IsNamedToken _ = ⊤
 
-abbrev IsNamedLexeme : Lexeme → Type 0
+abbrev IsNamedLexeme : Lexeme Token → Type 0
 IsNamedLexeme l = IsNamedToken l.token
 
 if_token : (b : Bool) (s t : Token) → IsNamedToken s → IsNamedToken t → IsNamedToken (if b then s else t)
 if_token true s t first second = first
 if_token false s t first second = second
 
-if_lexeme : (b : Bool) (k l : Lexeme) → IsNamedLexeme k → IsNamedLexeme l → IsNamedLexeme (if b then k else l)
+if_lexeme : (b : Bool) (k l : Lexeme Token) → IsNamedLexeme k → IsNamedLexeme l → IsNamedLexeme (if b then k else l)
 if_lexeme true k l first second = first
 if_lexeme false k l first second = second
 
@@ -65,7 +66,7 @@ letters_named b bs letter =
 plain_named : (at b : ℕ) (bs : List ℕ) → IsNamedLexeme (plain_lexeme at (b ∷ bs))
 plain_named at b bs = if_lexeme (is_digit b) _ _ tt (by (is_letter b) refl)
   where
-    others : Lexeme
+    others : Lexeme Token
     others = sign_lexeme at b (slice_index (b ∷ bs) 1) (slice_index (b ∷ bs) 2)
 
     by : (c : Bool) → is_letter b ≡ c → IsNamedLexeme (if c then letter_lexeme (b ∷ bs) else others)
@@ -77,23 +78,23 @@ lexeme_named plain at b bs = plain_named at b bs
 lexeme_named after_mark at b bs = if_lexeme (system_len (b ∷ bs) == 0) _ _ (plain_named at b bs) (if_lexeme (nat_le (system_len (b ∷ bs)) 62) _ _ tt tt)
 lexeme_named after_call at b bs = if_lexeme (is_letter b) _ _ (if_lexeme (nat_le (front_len NameByte (b ∷ bs)) 64) _ _ tt tt) (plain_named at b bs)
 
-abbrev AreNamedSpots : List Spot → Type 0
-AreNamedSpots ss = AllByRecursion (λ (s : Spot). IsNamedToken s.token) ss
+abbrev AreNamedSpots : List (Spot Token) → Type 0
+AreNamedSpots ss = AllByRecursion (λ (s : Spot Token). IsNamedToken s.token) ss
 
-if_spots : (b : Bool) (ss us : List Spot) → AreNamedSpots ss → AreNamedSpots us → AreNamedSpots (if b then ss else us)
+if_spots : (b : Bool) (ss us : List (Spot Token)) → AreNamedSpots ss → AreNamedSpots us → AreNamedSpots (if b then ss else us)
 if_spots true ss us first second = first
 if_spots false ss us first second = second
 
-spots_named : (text : List ℕ) (m : Mode) (at skip : ℕ) → AreNamedSpots (spots_from m at skip text)
+spots_named : (text : List ℕ) (m : Mode) (at skip : ℕ) → AreNamedSpots (spots_from lexing m at skip text)
 spots_named [] m at skip = (tt, tt)
 spots_named (b ∷ bs) m at (suc skip) = spots_named bs m (suc at) skip
 spots_named (b ∷ bs) m at zero =
     let l = lexeme m at (b ∷ bs) in
-    let rest = spots_from (mode_after l.token) (suc at) (l.len - 1) bs in
-    if_spots (is_blank b) (spots_from m (suc at) zero bs) (record { token = l.token; at = at } ∷ rest) (spots_named bs m (suc at) zero)
+    let rest = spots_from lexing (mode_after l.token) (suc at) (l.len - 1) bs in
+    if_spots (is_blank b) (spots_from lexing m (suc at) zero bs) (spot_of at l ∷ rest) (spots_named bs m (suc at) zero)
     (lexeme_named m at b bs, spots_named bs (mode_after l.token) (suc at) (l.len - 1))
 
-tokens_named : (ss : List Spot) → AreNamedSpots ss → AllByRecursion IsNamedToken (spotted.tokens ss)
+tokens_named : (ss : List (Spot Token)) → AreNamedSpots ss → AllByRecursion IsNamedToken (cut.tokens ss)
 tokens_named [] all = tt
 tokens_named (s ∷ ss) all = (all.0, tokens_named ss all.1)
 
@@ -238,7 +239,7 @@ mutual
       (chained_named (before_imp y f) (last_imp y f) parts.0 parts.1, parts.2.1)
   core_named (atom a) y d r all = atom_named a d r all
 
-pub parsed_named : (text : List ℕ) (f : trees.Formula) → Reads (spotted.tokens (spots text)) f → AreNamedIn f
+pub parsed_named : (text : List ℕ) (f : trees.Formula) → Reads (cut.tokens (spots text)) f → AreNamedIn f
 parsed_named text f reads =
     let formula = reads.text in
     let all = subst (AllByRecursion IsNamedToken) (sym reads.derives.spells) (tokens_named (spots text) (spots_named text plain 0 0)) in

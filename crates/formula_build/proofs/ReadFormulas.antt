@@ -5,7 +5,8 @@ use Rattle.std.proofs.Common.{◌≡◌, ℕ, Bool, true, false, ◌||◌, if◌
 use Rattle.std.proofs.lemmas.Bool.{false≢true}
 use Rattle.std.proofs.lemmas.Slice.Eq.{bytes_eq-Decides}
 use Rattle.formula_parse.specs.Tokens.{Name}
-use Rattle.formula_parse.specs.Spots.{tokens, spots}
+use Rattle.text_grammar.specs.Spots.{tokens}
+use Rattle.formula_parse.specs.Spots.{spots}
 use Rattle.formula_parse.specs.Trees as trees
 use Rattle.formula_parse.specs.Trees.{Names, no_names, names}
 use Rattle.formula_parse.specs.Building.{chained, under_marks}

@@ -10,7 +10,8 @@ use Rattle.formula_parse.specs.Machine.{State, done}
 use Rattle.formula_parse.specs.Runs.{run_tokens}
 use Rattle.formula_parse.specs.Limits.{IsInRange, IsAllowed}
 use Rattle.formula_parse.proofs.DerivedGrammar.{Derives, GoesOn, Begins, Breaks, Reaches}
-use Rattle.formula_parse.specs.Spots.{Spot, spots, tokens}
+use Rattle.text_grammar.specs.Spots.{Spot, tokens}
+use Rattle.formula_parse.specs.Spots.{spots}
 use Rattle.formula_parse.specs.Parsing.{Cut}
 use Rattle.formula_parse.proofs.Complete.{final}
 use Rattle.formula_parse.proofs.Places.{made_again, read_places, number_shallow, first_state, placed_from}
@@ -132,32 +133,32 @@ stops_before front token rest s b =
     (all_front IsAllowed f.front f.rest (subst (AllByRecursion IsAllowed) f.is b.allowed))
 
 -- two places in one list
-data Sides (f : List Spot) (s : Spot) (g : List Spot) (t : Spot) : Type 0 where
+data Sides (f : List (Spot Token)) (s : Spot Token) (g : List (Spot Token)) (t : Spot Token) : Type 0 where
   at_one : f ≡ g → s ≡ t → Sides f s g t
-  before_it : (x : List Spot) → g ≡ f ++ s ∷ x → Sides f s g t
-  after_it : (x : List Spot) → f ≡ g ++ t ∷ x → Sides f s g t
+  before_it : (x : List (Spot Token)) → g ≡ f ++ s ∷ x → Sides f s g t
+  after_it : (x : List (Spot Token)) → f ≡ g ++ t ∷ x → Sides f s g t
 
-one_more : (a b : Spot) (f : List Spot) (s : Spot) (g : List Spot) (t : Spot) → a ≡ b → Sides f s g t → Sides (a ∷ f) s (b ∷ g) t
+one_more : (a b : Spot Token) (f : List (Spot Token)) (s : Spot Token) (g : List (Spot Token)) (t : Spot Token) → a ≡ b → Sides f s g t → Sides (a ∷ f) s (b ∷ g) t
 one_more a b f s g t e (at_one h k) = at_one (cc) k
 one_more a b f s g t e (before_it x h) = before_it x cc
 one_more a b f s g t e (after_it x h) = after_it x cc
 
-sides : (f : List Spot) (s : Spot) (r : List Spot) (g : List Spot) (t : Spot) (q : List Spot) → f ++ s ∷ r ≡ g ++ t ∷ q → Sides f s g t
+sides : (f : List (Spot Token)) (s : Spot Token) (r : List (Spot Token)) (g : List (Spot Token)) (t : Spot Token) (q : List (Spot Token)) → f ++ s ∷ r ≡ g ++ t ∷ q → Sides f s g t
 sides [] s r [] t q e = at_one refl cc
 sides [] s r (b ∷ g) t q e = before_it g cc
 sides (a ∷ f) s r [] t q e = after_it f cc
 sides (a ∷ f) s r (b ∷ g) t q e = one_more a b f s g t (cc) (sides f s r g t q (cc))
 
-tokens_split : (f : List Spot) (s : Spot) (x : List Spot) → tokens (f ++ s ∷ x) ≡ tokens f ++ s.token ∷ tokens x
-tokens_split f s x = map-append (λ (z : Spot). z.token) f (s ∷ x)
+tokens_split : (f : List (Spot Token)) (s : Spot Token) (x : List (Spot Token)) → tokens (f ++ s ∷ x) ≡ tokens f ++ s.token ∷ tokens x
+tokens_split f s x = map-append (λ (z : Spot Token). z.token) f (s ∷ x)
 
 pub record SameCut {text : List ℕ} (c d : Cut text) : Type 0 where
   pub front : c.front ≡ d.front
   pub spot : c.spot ≡ d.spot
 
-never_past : (f : List Spot) (s : Spot) (g x : List Spot) → Stops (tokens f) s.token → Begins (tokens g) → g ≡ f ++ s ∷ x → ⊥
+never_past : (f : List (Spot Token)) (s : Spot Token) (g x : List (Spot Token)) → Stops (tokens f) s.token → Begins (tokens g) → g ≡ f ++ s ∷ x → ⊥
 never_past f s g x a b e =
-    stops_before (tokens f) s.token (tokens x) a (subst Begins (ap tokens e ∙ tokens_split f s x) b)
+    stops_before (tokens f) s.token (tokens x) a (subst Begins (ap (λ ss. tokens ss) e ∙ tokens_split f s x) b)
 
 pub same_cut : (text : List ℕ) (c d : Cut text) → Stops (tokens c.front) c.spot.token → Stops (tokens d.front) d.spot.token → SameCut c d
 same_cut text c d a b = by (sides c.front c.spot c.rest d.front d.spot d.rest (sym c.is ∙ d.is))
@@ -177,7 +178,7 @@ whole_stops text d c s a =
     a
     (subst
     Begins
-    (ap tokens c.is ∙ tokens_split c.front c.spot c.rest)
+    (ap (λ ss. tokens ss) c.is ∙ tokens_split c.front c.spot c.rest)
     (record {
       text = d;
       read = spelled d;

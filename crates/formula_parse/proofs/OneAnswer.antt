@@ -7,7 +7,8 @@ use Rattle.formula_parse.specs.Flaws.{Flaw, mixed_chain, not_linear}
 use Rattle.formula_parse.proofs.DerivedFlaws.{formula_flaw}
 use Rattle.formula_parse.specs.Limits.{IsInRange, told_at}
 use Rattle.formula_parse.proofs.DerivedGrammar.{tree_of, Derives, Breaks, Reaches}
-use Rattle.formula_parse.specs.Spots.{spots, tokens}
+use Rattle.text_grammar.specs.Spots.{tokens}
+use Rattle.formula_parse.specs.Spots.{spots}
 use Rattle.formula_parse.specs.Parsing.{Cut, Parses}
 use Rattle.formula_parse.specs.OneAnswer.{told, IsOfTheText}
 use Rattle.formula_parse.specs.declared.tree.Formula.{Formula as Tree}

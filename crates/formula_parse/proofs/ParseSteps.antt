@@ -9,7 +9,8 @@ use Rattle.formula_parse.specs.Runs.{placed}
 use Rattle.formula_parse.specs.Made.{trees as making}
 use Rattle.formula_parse.specs.FormulaTrees.{default_system}
 use Rattle.formula_parse.specs.Limits.{IsInRange, IsAllowed, told_at}
-use Rattle.formula_parse.specs.Spots.{Mode, plain, mode_after, Spot, spots_from, spots, tokens as tokens_of}
+use Rattle.text_grammar.specs.Spots.{Spot, spots_from, tokens as tokens_of}
+use Rattle.formula_parse.specs.Spots.{Mode, plain, mode_after, lexing, spots}
 use Rattle.formula_parse.specs.Views.{formula_view}
 use Rattle.formula_parse.specs.StateViews.{Machine, position_view, state_view, noted_view}
 use Rattle.formula_parse.specs.LexemeViews.{lexed_view, unless_end, IsNext}
@@ -31,30 +32,30 @@ use Rattle.formula_parse.proofs.SpotSteps.{NotEnd, unless_end_token}
 
 -- the machine has read the tokens before a byte
 pub record AtPlace (text : List ℕ) (m : Mode) (at : ℕ) (s : Machine) : Type 0 where
-  pub front : List Spot
-  pub split : spots text ≡ front ++ spots_from m at 0 (drop at text)
+  pub front : List (Spot tokens.Token)
+  pub split : spots text ≡ front ++ spots_from lexing m at 0 (drop at text)
   pub walks : Walks (tokens_of front) s
   pub within : at ≤ length text
 
 pub place_start : (text : List ℕ) (s : Machine) → s ≡ start making default_system → AtPlace text plain 0 s
 place_start text s e = subst (λ (n : Machine). AtPlace text plain 0 n) (sym e) (record { front = []; split = refl; walks = walks_start; within = omega arith })
 
-abbrev spot_of : Read → Spot
-spot_of r = record { token = lexed_view r.lexed; at = r.at }
+abbrev spot_of : Read → Spot tokens.Token
+spot_of r = record { token = lexed_view r.lexed; at = r.at; after = r.end }
 
 abbrev cut_of : (text : List ℕ) (m : Mode) (at : ℕ) (s : Machine) (r : Read) → AtPlace text m at s → IsNext m text at r → Cut text
 cut_of text m at s r p n = record { front = p.front; spot = spot_of r; rest = _; is = p.split ∙ ap (λ ss. p.front ++ ss) n.spots_are }
 
-walks_more : (front : List Spot) (r : Read) (s n : Machine) → Walks (tokens_of front) s → step making s (lexed_view r.lexed) ≡ Some n → IsAllowed (placed s.position (lexed_view r.lexed) (depth n)) → Walks (tokens_of (front ++ spot_of r ∷ [])) n
+walks_more : (front : List (Spot tokens.Token)) (r : Read) (s n : Machine) → Walks (tokens_of front) s → step making s (lexed_view r.lexed) ≡ Some n → IsAllowed (placed s.position (lexed_view r.lexed) (depth n)) → Walks (tokens_of (front ++ spot_of r ∷ [])) n
 walks_more front r s n w e a =
     subst
     (λ ts. Walks ts n)
-    (sym (map-append (λ (x : Spot). x.token) front (spot_of r ∷ [])))
+    (sym (map-append (λ (x : Spot tokens.Token). x.token) front (spot_of r ∷ [])))
     (walks_step (tokens_of front) s (lexed_view r.lexed) n w e a)
 
 pub place_next : (text : List ℕ) (m k : Mode) (at : ℕ) (s : Machine) (r : Read) (n : State) → AtPlace text m at s → IsNext m text at r → Advances s (lexed_view r.lexed) r.at (Ok n) → k ≡ mode_after (lexed_view r.lexed) → (lexed_view r.lexed ≡ tokens.end → ⊥) → AtPlace text k r.end (state_view n)
 place_next text m k at s r n p x a e not_end =
-    let rest = spots_from (mode_after (lexed_view r.lexed)) r.end 0 (drop r.end text) in
+    let rest = spots_from lexing (mode_after (lexed_view r.lexed)) r.end 0 (drop r.end text) in
     subst
     (λ j. AtPlace text j r.end (state_view n))
     (sym e)
@@ -149,7 +150,7 @@ finished text n (positions.AtArgument m) result e w d h = absurd d
 -- a text that was read to its end
 pub place_finish : (text : List ℕ) (m : Mode) (at : ℕ) (s : Machine) (r : Read) (n : State) (result : Result Formula ParseFault) → AtPlace text m at s → IsNext m text at r → lexed_view r.lexed ≡ tokens.end → Advances s (lexed_view r.lexed) r.at (Ok n) → Finishes n result → Parses text result
 place_finish text m at s r n result p x e a h =
-    let rest = spots_from (mode_after (lexed_view r.lexed)) r.end 0 (drop r.end text) in
+    let rest = spots_from lexing (mode_after (lexed_view r.lexed)) r.end 0 (drop r.end text) in
     let last : unless_end (lexed_view r.lexed) rest ≡ [] = ap (λ t. unless_end t rest) e in
     let all : spots text ≡ p.front ++ spot_of r ∷ [] = p.split ∙ ap (λ ss. p.front ++ ss) (x.spots_are ∙ ap (λ ss. spot_of r ∷ ss) last) in
     finished

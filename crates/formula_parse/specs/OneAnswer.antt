@@ -2,7 +2,8 @@
 use Rattle.std.specs.Prelude.{◌≡◌, ℕ, List, Result, Ok, Err, ⊤}
 use Rattle.formula_parse.specs.Trees as trees
 use Rattle.formula_parse.specs.Grammar.{Reads}
-use Rattle.formula_parse.specs.Spots.{spots, tokens}
+use Rattle.text_grammar.specs.Spots.{tokens}
+use Rattle.formula_parse.specs.Spots.{spots}
 use Rattle.formula_parse.specs.Views.{formula_view}
 use Rattle.formula_parse.specs.Parsing.{Parses}
 use Rattle.formula_parse.specs.declared.tree.Formula.{Formula}

@@ -2,7 +2,9 @@
 use Rattle.std.specs.Prelude.{◌≡◌, ℕ, List, ◌∷◌, ◌++◌, Result, Ok, Err, ⊤}
 use Rattle.formula_parse.specs.Flaws.{mixed_chain, not_linear}
 use Rattle.formula_parse.specs.Grammar.{Reads, IsFlawed, Breaks, IsNumber, IsDepth}
-use Rattle.formula_parse.specs.Spots.{Spot, spots, tokens}
+use Rattle.text_grammar.specs.Spots.{Spot, tokens}
+use Rattle.formula_parse.specs.Spots.{spots}
+use Rattle.formula_parse.specs.Tokens.{Token}
 use Rattle.formula_parse.specs.Views.{formula_view}
 use Rattle.formula_parse.specs.declared.tree.Formula.{Formula}
 use Rattle.formula_parse.specs.declared.fault.ParseFault.{ParseFault}
@@ -10,9 +12,9 @@ use Rattle.formula_parse.specs.declared.fault.ParseFault.TheVariants as faults
 
 -- one of the tokens of a text
 pub record Cut (text : List ℕ) : Type 0 where
-  pub front : List Spot
-  pub spot : Spot
-  pub rest : List Spot
+  pub front : List (Spot Token)
+  pub spot : Spot Token
+  pub rest : List (Spot Token)
   pub is : spots text ≡ front ++ spot ∷ rest
 
 -- the first token at which no text of the grammar goes on begins at a byte

@@ -1,7 +1,8 @@
 //! The tokens of a text, read one after the other.
 
-ghost use Rattle.std.specs.Prelude.{◌≡◌, ◌≤◌, ◌<◌, ◌^◌, false, drop, length, slice_index, IsAscii, IfOk, MatchOption};
+ghost use Rattle.std.specs.Prelude.{◌≡◌, ◌≤◌, ◌<◌, false, drop, length, slice_index, IsAscii, IfOk};
 ghost use Rattle.text_grammar.specs.Bytes.{is_blank};
+ghost use Rattle.text_grammar.specs.Spots.{lexeme_of, spots_from};
 ghost use Rattle.formula_parse.specs.Spots as spots;
 ghost use Rattle.formula_parse.specs.StateViews.{token_view};
 ghost use Rattle.formula_parse.specs.LexemeViews.{mode_view, lexed_view, lexeme_view, name_maker, IsNext};
@@ -12,13 +13,10 @@ use digit_tuple::faults::OutOfMemory;
 use digit_tuple::name::Name;
 use std::alloc::Global;
 use std::str;
-use text_grammar::{Class, front_len};
+use text_grammar::{Class, LONGEST_SYSTEM, begins_in, front_len, is_direction, value_within};
 
 /// The greatest length of a name.
 const LONGEST_NAME: usize = 64;
-
-/// The greatest length of a system.
-const LONGEST_SYSTEM: usize = 62;
 
 /// What stands before a token: a system may follow `?`, and a name `$`.
 #[derive(Clone, Copy)]
@@ -61,23 +59,13 @@ impl Lexeme {
         }
     }
 
-    /// A token of one byte.
-    fn short(token: Token) -> Lexeme
-        ensures { lexeme_view result ≡ spots.short (token_view token) }
+    /// A token of so many bytes.
+    fn new(token: Token, len: usize) -> Lexeme
+        ensures { lexeme_view result ≡ lexeme_of (token_view token) len }
     {
         Lexeme {
             lexed: Lexed::Token(token),
-            len: 1,
-        }
-    }
-
-    /// A token of two bytes.
-    fn long(token: Token) -> Lexeme
-        ensures { lexeme_view result ≡ spots.long (token_view token) }
-    {
-        Lexeme {
-            lexed: Lexed::Token(token),
-            len: 2,
+            len,
         }
     }
 }
@@ -119,30 +107,12 @@ fn name_lexeme(alloc: Global, called: bool, rest: &[u8]) -> Result<Lexeme, OutOf
     })
 }
 
-/// The number that some digits write, where it is below 2^64.
-#[tactic(auto, using(crate::proofs::SpotSteps::numeral_reaches))]
-fn numeral(digits: &[u8]) -> Option<u64>
-    ensures { MatchOption result (2 ^ 64 ≤ spots.numeral 0 digits.now) (λ v. v ≡ spots.numeral 0 digits.now) }
-{
-    let mut value: u64 = 0;
-    for digit in digits {
-        let Some(tens) = value.checked_mul(10) else {
-            return None;
-        };
-        let Some(next) = tens.checked_add(u64::from(digit.saturating_sub(b'0'))) else {
-            return None;
-        };
-        value = next;
-    }
-    Some(value)
-}
-
 /// A numeral.
 fn number_lexeme(rest: &[u8]) -> Lexeme
     ensures { lexeme_view result ≡ spots.number_lexeme rest.now }
 {
     let len = front_len(Class::Digit, rest);
-    let lexed = match numeral(&rest[..len]) {
+    let lexed = match value_within(u64::MAX, &rest[..len]) {
         Some(value) => Lexed::Token(Token::Number(value)),
         None => Lexed::Big,
     };
@@ -155,10 +125,10 @@ fn letter_lexeme(alloc: Global, rest: &[u8]) -> Result<Lexeme, OutOfMemory>
 {
     let first = byte_at(rest, 0);
     if first == b'E' {
-        return Ok(Lexeme::short(Token::Quantifier(Quantifier::Exists)));
+        return Ok(Lexeme::new(Token::Quantifier(Quantifier::Exists), 1));
     }
     if first == b'A' {
-        return Ok(Lexeme::short(Token::Quantifier(Quantifier::ForAll)));
+        return Ok(Lexeme::new(Token::Quantifier(Quantifier::ForAll), 1));
     }
     if first == b'I' {
         return Ok(Lexeme::none());
@@ -197,22 +167,19 @@ fn sign_lexeme(at: usize, first: u8, second: u8, third: u8) -> Lexeme
     match (first, second) {
         (b'<', b'=') => {
             if third == b'>' {
-                Lexeme {
-                    lexed: Lexed::Token(Token::Iff),
-                    len: 3,
-                }
+                Lexeme::new(Token::Iff, 3)
             } else {
-                Lexeme::long(Token::Relation(Relation::AtMost))
+                Lexeme::new(Token::Relation(Relation::AtMost), 2)
             }
         }
-        (b'<', _) => Lexeme::short(Token::Relation(Relation::Less)),
-        (b'>', b'=') => Lexeme::long(Token::Relation(Relation::AtLeast)),
-        (b'>', _) => Lexeme::short(Token::Relation(Relation::Greater)),
-        (b'=', b'>') => Lexeme::long(Token::Implies(at)),
-        (b'=', _) => Lexeme::short(Token::Relation(Relation::Equal)),
-        (b'!', b'=') => Lexeme::long(Token::Relation(Relation::Unequal)),
+        (b'<', _) => Lexeme::new(Token::Relation(Relation::Less), 1),
+        (b'>', b'=') => Lexeme::new(Token::Relation(Relation::AtLeast), 2),
+        (b'>', _) => Lexeme::new(Token::Relation(Relation::Greater), 1),
+        (b'=', b'>') => Lexeme::new(Token::Implies(at), 2),
+        (b'=', _) => Lexeme::new(Token::Relation(Relation::Equal), 1),
+        (b'!', b'=') => Lexeme::new(Token::Relation(Relation::Unequal), 2),
         (b'!', _) => Lexeme::none(),
-        _ => Lexeme::short(sign_token(at, first)),
+        _ => Lexeme::new(sign_token(at, first), 1),
     }
 }
 
@@ -230,35 +197,21 @@ fn plain_lexeme(alloc: Global, at: usize, rest: &[u8]) -> Result<Lexeme, OutOfMe
     Ok(sign_lexeme(at, first, byte_at(rest, 1), byte_at(rest, 2)))
 }
 
-/// How many bytes at the front are letters and digits.
-fn alphanumeric_len(bytes: &[u8]) -> usize
-    ensures len { result ≡ spots.alphanumeric_len bytes.now }
-    ensures within { result ≤ length bytes.now }
-{
-    for (index, byte) in bytes.iter().enumerate() {
-        if !byte.is_ascii_alphanumeric() {
-            return index;
-        }
-    }
-    bytes.len()
-}
-
 /// How many bytes the system at the front has, or 0 where none stands there.
 #[tactic(auto, using(crate::proofs::SpotSteps::system_short))]
 fn system_len(rest: &[u8]) -> usize
     ensures len { result ≡ spots.system_len rest.now }
     ensures within { result ≤ length rest.now }
 {
-    let first = byte_at(rest, 0);
-    let begins = (first == b'm' || first == b'l')
-        && byte_at(rest, 1) == b's'
-        && byte_at(rest, 2) == b'd'
-        && byte_at(rest, 3) == b'_';
-    if !begins || rest.len() < 4 {
+    if rest.len() < 4 {
         return 0;
     }
-    let more = alphanumeric_len(&rest[4..]);
-    if more == 0 { 0 } else { more + 4 }
+    let (direction, others) = rest.split_at(4);
+    if is_direction(direction) && begins_in(Class::Alphanumeric, others) {
+        front_len(Class::Alphanumeric, others) + 4
+    } else {
+        0
+    }
 }
 
 /// A system of at most 62 bytes, or what stands there where none does.
@@ -302,7 +255,7 @@ fn blanks_end(text: &[u8], start: usize) -> usize
     requires { start ≤ length text.now }
     ensures within { result ≤ length text.now }
     ensures from { start ≤ result }
-    ensures spots { (m : spots.Mode) → spots.spots_from m start 0 (drop start text.now) ≡ spots.spots_from m result 0 (drop result text.now) }
+    ensures spots { (m : spots.Mode) → spots_from spots.lexing m start 0 (drop start text.now) ≡ spots_from spots.lexing m result 0 (drop result text.now) }
     ensures stops { result < length text.now → is_blank (slice_index text.now result) ≡ false }
 {
     start + front_len(Class::Blank, &text[start..])

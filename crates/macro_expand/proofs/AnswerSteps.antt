@@ -3,7 +3,7 @@ use Rattle.std.proofs.Common.{◌≡◌, Result, Ok, Err, refl}
 use Rattle.std.specs.Prelude.{IsErrAnd}
 use Rattle.macro_expand.specs.declared.fault.MacroFault.{MacroFault}
 use Rattle.macro_expand.specs.declared.fault.MacroFault.TheVariants as faults
-use Rattle.macro_expand.specs.Expansion.{◌>>=◌}
+use Rattle.text_grammar.specs.Results.{◌>>=◌}
 use Rattle.macro_expand.specs.Views.{Fails, Answers}
 
 -- a fault is that of a whole where each fault of a part is one of the whole

@@ -6,7 +6,8 @@ use Rattle.macro_expand.specs.declared.fault.MacroFault.TheVariants as faults
 use Rattle.macro_expand.specs.Texts.{TextOf}
 use Rattle.macro_expand.specs.Calls.{Call}
 use Rattle.macro_expand.specs.Arguments.{arguments_of}
-use Rattle.macro_expand.specs.Expansion.{◌>>=◌, Expanded, Given, OfTexts, expand_text, expand_arguments, expand_call, expand_call_within, filled_text}
+use Rattle.text_grammar.specs.Results.{◌>>=◌}
+use Rattle.macro_expand.specs.Expansion.{Expanded, Given, OfTexts, expand_text, expand_arguments, expand_call, expand_call_within, filled_text}
 
 -- texts whose calls may stand on so many levels
 abbrev pub texts_within : TextOf → ℕ → OfTexts

@@ -7,7 +7,8 @@ use Rattle.macro_expand.specs.declared.fault.MacroFault.TheVariants as faults
 use Rattle.macro_expand.specs.Pieces.{byte}
 use Rattle.macro_expand.specs.Views.{Answers}
 use Rattle.macro_expand.proofs.AnswerSteps.{Fails-handed_on}
-use Rattle.macro_expand.specs.Expansion.{◌>>=◌, each, limited, put, Expanded, OfCalls, expand_piece}
+use Rattle.text_grammar.specs.Results.{◌>>=◌}
+use Rattle.macro_expand.specs.Expansion.{each, limited, put, Expanded, OfCalls, expand_piece}
 
 bind_assoc : {A B C : Type 0} (r : Result A MacroFault) (f : A → Result B MacroFault) (g : B → Result C MacroFault) (h : A → Result C MacroFault) → ((x : A) → h x ≡ (f x >>= g)) → (r >>= h) ≡ ((r >>= f) >>= g)
 bind_assoc (Ok x) f g h e = e x

@@ -2,7 +2,8 @@
 use Rattle.std.proofs.Common.{◌≡◌, refl, sym, ap, ◌∙◌, ℕ, ◌<◌, List, [], ◌∷◌, ◌++◌, length, drop, map, get_or, Result, Ok, Err, arith}
 use Rattle.std.specs.Borrow.{Bor}
 use Rattle.macro_expand.specs.declared.fault.MacroFault.{MacroFault}
-use Rattle.macro_expand.specs.Expansion.{◌>>=◌, each, Expanded, Given, OfTexts, expand_argument}
+use Rattle.text_grammar.specs.Results.{◌>>=◌}
+use Rattle.macro_expand.specs.Expansion.{each, Expanded, Given, OfTexts, expand_argument}
 
 -- the arguments with one more
 abbrev pub given_more : Given → Expanded → Given

@@ -5,7 +5,8 @@ use Rattle.macro_expand.specs.declared.fault.MacroFault.{MacroFault}
 use Rattle.macro_expand.specs.Texts.{TextOf}
 use Rattle.macro_expand.specs.Calls.{Call}
 use Rattle.macro_expand.specs.Arguments.{arguments_of}
-use Rattle.macro_expand.specs.Expansion.{◌>>=◌, Expanded, Given, expand_arguments, expand_call_within, filled_text}
+use Rattle.text_grammar.specs.Results.{◌>>=◌}
+use Rattle.macro_expand.specs.Expansion.{Expanded, Given, expand_arguments, expand_call_within, filled_text}
 use Rattle.macro_expand.specs.Sources.{AnswersFrom}
 use Rattle.macro_expand.proofs.SourceSteps.{IsLeft, all_left, left_answers, left_refused, left_more}
 use Rattle.macro_expand.proofs.CallSteps.{texts_within, after_arguments, call_counted}

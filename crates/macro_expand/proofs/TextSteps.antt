@@ -4,7 +4,8 @@ use Rattle.std.proofs.lemmas.List.{drop-drop, drop_all, length-drop}
 use Rattle.macro_expand.specs.declared.fault.MacroFault.{MacroFault}
 use Rattle.macro_expand.specs.declared.piece.Piece.{Piece as Piece'}
 use Rattle.macro_expand.specs.Pieces.{pieces_from}
-use Rattle.macro_expand.specs.Expansion.{◌>>=◌, each, Expanded, OfCalls, expand_piece}
+use Rattle.text_grammar.specs.Results.{◌>>=◌}
+use Rattle.macro_expand.specs.Expansion.{each, Expanded, OfCalls, expand_piece}
 use Rattle.macro_expand.specs.Views.{pieces_view, piece_len, IsFirstPiece}
 use Rattle.macro_expand.proofs.EachSteps.{each-append}
 

@@ -4,6 +4,7 @@
 -- may have calls, one level deeper. The calls of a whole expansion are counted in the order in which they are met: the
 -- count so far goes into each expansion, and a new one comes out of it.
 use Rattle.std.specs.Prelude.{ℕ, zero, suc, ◌+◌, nat_le, if◌then◌else◌, List, [], ◌∷◌, ◌++◌, length, Option, None, Some, Result, Ok, Err}
+use Rattle.text_grammar.specs.Results.{◌>>=◌}
 use Rattle.macro_expand.specs.declared.fault.MacroFault.{MacroFault}
 use Rattle.macro_expand.specs.declared.fault.MacroFault.TheVariants as faults
 use Rattle.macro_expand.specs.Texts.{TextOf}
@@ -21,11 +22,6 @@ pub record Expanded : Type 0 where
 pub record Given : Type 0 where
   pub texts : List (List ℕ)
   pub calls : ℕ
-
-infixl 10 ◌>>=◌
-abbrev pub ◌>>=◌ : {A B : Type 0} → Result A MacroFault → (A → Result B MacroFault) → Result B MacroFault
-(Ok x) >>= f = f x
-(Err e) >>= f = Err e
 
 -- some items one after another, each of which changes what was made so far or meets the first fault
 abbrev pub each : {X D : Type 0} → (X → D → Result D MacroFault) → List X → D → Result D MacroFault

@@ -9,12 +9,13 @@ use Rattle.morph_words.specs.declared.fault.RulesFault.{RulesFault}
 use Rattle.morph_words.specs.declared.fault.RulesFault.TheVariants.{Syntax, Number, Memory}
 use Rattle.morph_words.specs.declared.lexeme.Lexeme.{Lexeme}
 use Rattle.morph_words.specs.declared.lexeme.Lexeme.TheVariants.{Letter, Arrow}
-use Rattle.morph_words.specs.declared.lexeme.Spot.{Spot}
-use Rattle.morph_words.specs.Lexemes.{spots, lexemes_in, lexemes}
+use Rattle.text_grammar.specs.Spots.{Spot, tokens}
+use Rattle.text_grammar.specs.Results.{◌>>=◌}
+use Rattle.morph_words.specs.Lexemes.{spots, lexemes}
 use Rattle.morph_words.specs.Rules.{Rules, has}
 use Rattle.morph_words.specs.Grammar.{Spells}
 use Rattle.morph_words.specs.Faults.{fault_of, fault_at, MayBeLetter, IsFault, Parses}
-use Rattle.morph_words.specs.Stages.{Stage, AtFirst, AfterLetter, AfterArrow, InImage, AfterRule, AfterComma, begun, step, takes_letter, ended, or_fault, and_then, run, rules_at}
+use Rattle.morph_words.specs.Stages.{Stage, AtFirst, AfterLetter, AfterArrow, InImage, AfterRule, AfterComma, begun, step, takes_letter, ended, or_fault, run, rules_at}
 use Rattle.morph_words.proofs.ListSteps.{slice_get-front, slice_get-past}
 use Rattle.morph_words.proofs.Walks.{from, reach, reach-append, reach-push}
 use Rattle.morph_words.proofs.Complete.{letter_on, spelled_read}
@@ -93,65 +94,65 @@ told text (Number at) h = h
 told text Memory h = tt
 
 -- the lexemes of a text that were read, and those that are left
-record Stands (text : List ℕ) (stage : Stage) (left : List Spot) : Type 0 where
-  front : List Spot
+record Stands (text : List ℕ) (stage : Stage) (left : List (Spot Lexeme)) : Type 0 where
+  front : List (Spot Lexeme)
   split : spots text ≡ front ++ left
-  reached : reach (lexemes_in front) AtFirst ≡ Some stage
+  reached : reach (tokens front) AtFirst ≡ Some stage
 
-lexemes_split : (text : List ℕ) (stage : Stage) (left : List Spot) (st : Stands text stage left) → lexemes text ≡ lexemes_in st.front ++ lexemes_in left
-lexemes_split text stage left st = ap lexemes_in st.split ∙ map-append (λ (s : Spot). s.lexeme) st.front left
+lexemes_split : (text : List ℕ) (stage : Stage) (left : List (Spot Lexeme)) (st : Stands text stage left) → lexemes text ≡ tokens st.front ++ tokens left
+lexemes_split text stage left st = ap tokens st.split ∙ map-append (λ (s : Spot Lexeme). s.token) st.front left
 
 -- the lexemes before are those of the front
-taken : (text : List ℕ) (stage : Stage) (left : List Spot) (st : Stands text stage left) → take (length st.front) (lexemes text) ≡ lexemes_in st.front
+taken : (text : List ℕ) (stage : Stage) (left : List (Spot Lexeme)) (st : Stands text stage left) → take (length st.front) (lexemes text) ≡ tokens st.front
 taken text stage left st =
-    ap (λ n. take n (lexemes text)) (sym (length-map st.front (λ (s : Spot). s.lexeme)))
-    ∙ (ap (take (length (lexemes_in st.front))) (lexemes_split text stage left st) ∙ take-append_seam (lexemes_in st.front) (lexemes_in left))
+    ap (λ n. take n (lexemes text)) (sym (length-map st.front (λ (s : Spot Lexeme). s.token)))
+    ∙ (ap (take (length (tokens st.front))) (lexemes_split text stage left st) ∙ take-append_seam (tokens st.front) (tokens left))
 
-counted : (text : List ℕ) (stage : Stage) (left : List Spot) (st : Stands text stage left) → length (lexemes text) ≡ length st.front + length left
+counted : (text : List ℕ) (stage : Stage) (left : List (Spot Lexeme)) (st : Stands text stage left) → length (lexemes text) ≡ length st.front + length left
 counted text stage left st =
-    length-map (spots text) (λ (s : Spot). s.lexeme) ∙ (ap length st.split ∙ length-append st.front left)
+    length-map (spots text) (λ (s : Spot Lexeme). s.token) ∙ (ap length st.split ∙ length-append st.front left)
 
-may_be_here : (text : List ℕ) (stage : Stage) (left : List Spot) (st : Stands text stage left) → MatchBool (takes_letter stage) (MayBeLetter (take (length st.front) (lexemes text))) (MayBeLetter (take (length st.front) (lexemes text)) → ⊥)
+may_be_here : (text : List ℕ) (stage : Stage) (left : List (Spot Lexeme)) (st : Stands text stage left) → MatchBool (takes_letter stage) (MayBeLetter (take (length st.front) (lexemes text))) (MayBeLetter (take (length st.front) (lexemes text)) → ⊥)
 may_be_here text stage left st =
     let P : List Lexeme → Type 0 = λ ts. MatchBool (takes_letter stage) (MayBeLetter ts) (MayBeLetter ts → ⊥) in
-    subst P (sym (taken text stage left st)) (letter_may_be (lexemes_in st.front) stage st.reached)
+    subst P (sym (taken text stage left st)) (letter_may_be (tokens st.front) stage st.reached)
 
-begins_here : (text : List ℕ) (stage : Stage) (left : List Spot) (st : Stands text stage left) → Begins Spells (take (length st.front) (lexemes text))
-begins_here text stage left st = subst (Begins Spells) (sym (taken text stage left st)) (begins (lexemes_in st.front) stage st.reached)
+begins_here : (text : List ℕ) (stage : Stage) (left : List (Spot Lexeme)) (st : Stands text stage left) → Begins Spells (take (length st.front) (lexemes text))
+begins_here text stage left st = subst (Begins Spells) (sym (taken text stage left st)) (begins (tokens st.front) stage st.reached)
 
 -- one lexeme more
-stands_more : (text : List ℕ) (stage further : Stage) (s : Spot) (left : List Spot) → Stands text stage (s ∷ left) → step stage s.lexeme ≡ Some further → Stands text further left
+stands_more : (text : List ℕ) (stage further : Stage) (s : Spot Lexeme) (left : List (Spot Lexeme)) → Stands text stage (s ∷ left) → step stage s.token ≡ Some further → Stands text further left
 stands_more text stage further s left st e = record {
   front = st.front ++ s ∷ [];
   split = st.split ∙ sym (append_assoc st.front (s ∷ []) left);
-  reached = ap (λ (ts : List Lexeme). reach ts AtFirst) (map-append (λ (x : Spot). x.lexeme) st.front (s ∷ [])) ∙ (reach-push (lexemes_in st.front) s.lexeme AtFirst stage st.reached ∙ e);
+  reached = ap (λ (ts : List Lexeme). reach ts AtFirst) (map-append (λ (x : Spot Lexeme). x.token) st.front (s ∷ [])) ∙ (reach-push (tokens st.front) s.token AtFirst stage st.reached ∙ e);
 }
 
 -- a lexeme with which no rules go on
-fault_here : (text : List ℕ) (stage : Stage) (s : Spot) (left : List Spot) → Stands text stage (s ∷ left) → step stage s.lexeme ≡ None → IsFault text (fault_of (takes_letter stage) s)
+fault_here : (text : List ℕ) (stage : Stage) (s : Spot Lexeme) (left : List (Spot Lexeme)) → Stands text stage (s ∷ left) → step stage s.token ≡ None → IsFault text (fault_of (takes_letter stage) s)
 fault_here text stage s left st e =
     let n : length (lexemes text) ≡ length st.front + length (s ∷ left) = counted text stage (s ∷ left) st in
-    let whole : lexemes text ≡ (lexemes_in st.front ++ s.lexeme ∷ []) ++ lexemes_in left = lexemes_split text stage (s ∷ left) st ∙ sym (append_assoc (lexemes_in st.front) (s.lexeme ∷ []) (lexemes_in left)) in
-    let len : length st.front + 1 ≡ length (lexemes_in st.front ++ s.lexeme ∷ []) = ap (λ k. k + 1) (sym (length-map st.front (λ (x : Spot). x.lexeme))) ∙ sym (length-append (lexemes_in st.front) (s.lexeme ∷ [])) in
-    let next : take (length st.front + 1) (lexemes text) ≡ lexemes_in st.front ++ s.lexeme ∷ [] = ap (λ k. take k (lexemes text)) len ∙ (ap (take (length (lexemes_in st.front ++ s.lexeme ∷ []))) whole ∙ take-append_seam (lexemes_in st.front ++ s.lexeme ∷ []) (lexemes_in left)) in
+    let whole : lexemes text ≡ (tokens st.front ++ s.token ∷ []) ++ tokens left = lexemes_split text stage (s ∷ left) st ∙ sym (append_assoc (tokens st.front) (s.token ∷ []) (tokens left)) in
+    let len : length st.front + 1 ≡ length (tokens st.front ++ s.token ∷ []) = ap (λ k. k + 1) (sym (length-map st.front (λ (x : Spot Lexeme). x.token))) ∙ sym (length-append (tokens st.front) (s.token ∷ [])) in
+    let next : take (length st.front + 1) (lexemes text) ≡ tokens st.front ++ s.token ∷ [] = ap (λ k. take k (lexemes text)) len ∙ (ap (take (length (tokens st.front ++ s.token ∷ []))) whole ∙ take-append_seam (tokens st.front ++ s.token ∷ []) (tokens left)) in
     record {
       count = length st.front;
       breaks = record {
         within = omega arith;
         before = begins_here text stage (s ∷ left) st;
-        there = λ inside b. begins_none (lexemes_in st.front ++ s.lexeme ∷ []) (reach-push (lexemes_in st.front) s.lexeme AtFirst stage st.reached ∙ e) (subst (Begins Spells) next b);
+        there = λ inside b. begins_none (tokens st.front ++ s.token ∷ []) (reach-push (tokens st.front) s.token AtFirst stage st.reached ∙ e) (subst (Begins Spells) next b);
         end = λ at_end rules g. absurd (omega arith);
       };
       at_letter = takes_letter stage;
       may_be = may_be_here text stage (s ∷ left) st;
-      fault_is = ap (fault_at text (takes_letter stage)) (sym (ap (λ (ss : List Spot). slice_get ss (length st.front)) st.split ∙ slice_get-front st.front s left));
+      fault_is = ap (fault_at text (takes_letter stage)) (sym (ap (λ (ss : List (Spot Lexeme)). slice_get ss (length st.front)) st.split ∙ slice_get-front st.front s left));
     }
 
 -- a text that ends too early
 fault_at_end : (text : List ℕ) (stage : Stage) → Stands text stage [] → ended stage ≡ None → IsFault text (Syntax (length text))
 fault_at_end text stage st e =
     let n : length (lexemes text) ≡ length st.front + 0 = counted text stage [] st in
-    let whole : lexemes text ≡ lexemes_in st.front = lexemes_split text stage [] st ∙ append-nil (lexemes_in st.front) in
+    let whole : lexemes text ≡ tokens st.front = lexemes_split text stage [] st ∙ append-nil (tokens st.front) in
     let read : from (reach (lexemes text) AtFirst) ended ≡ None = ap (λ (ts : List Lexeme). from (reach ts AtFirst) ended) whole ∙ (ap (λ o. from o ended) st.reached ∙ e) in
     record {
       count = length st.front;
@@ -163,21 +164,21 @@ fault_at_end text stage st e =
       };
       at_letter = takes_letter stage;
       may_be = may_be_here text stage [] st;
-      fault_is = ap (fault_at text (takes_letter stage)) (sym (ap (λ (ss : List Spot). slice_get ss (length st.front)) (st.split ∙ append-nil st.front) ∙ slice_get-past st.front));
+      fault_is = ap (fault_at text (takes_letter stage)) (sym (ap (λ (ss : List (Spot Lexeme)). slice_get ss (length st.front)) (st.split ∙ append-nil st.front) ∙ slice_get-past st.front));
     }
 
 -- what is read of the lexemes that are left
-runs : (text : List ℕ) (stage : Stage) (left : List Spot) → Stands text stage left → Parses text (run (length text) stage left)
+runs : (text : List ℕ) (stage : Stage) (left : List (Spot Lexeme)) → Stands text stage left → Parses text (run (length text) stage left)
 runs text stage [] st = by_end (ended stage) refl
   where
     by_end : (o : Option Rules) → ended stage ≡ o → Parses text (or_fault (Syntax (length text)) o)
     by_end None e = fault_at_end text stage st e
     by_end (Some rules) e =
-        let whole : lexemes text ≡ lexemes_in st.front = lexemes_split text stage [] st ∙ append-nil (lexemes_in st.front) in
+        let whole : lexemes text ≡ tokens st.front = lexemes_split text stage [] st ∙ append-nil (tokens st.front) in
         spelled (lexemes text) rules (ap (λ (ts : List Lexeme). from (reach ts AtFirst) ended) whole ∙ (ap (λ o. from o ended) st.reached ∙ e))
-runs text stage (s ∷ left) st = by_step (step stage s.lexeme) refl (λ further e. runs text further left (stands_more text stage further s left st e))
+runs text stage (s ∷ left) st = by_step (step stage s.token) refl (λ further e. runs text further left (stands_more text stage further s left st e))
   where
-    by_step : (o : Option Stage) → step stage s.lexeme ≡ o → ((further : Stage) → step stage s.lexeme ≡ Some further → Parses text (run (length text) further left)) → Parses text (and_then (or_fault (fault_of (takes_letter stage) s) o) (λ n. run (length text) n left))
+    by_step : (o : Option Stage) → step stage s.token ≡ o → ((further : Stage) → step stage s.token ≡ Some further → Parses text (run (length text) further left)) → Parses text (or_fault (fault_of (takes_letter stage) s) o >>= λ n. run (length text) n left)
     by_step None e rest = told text (fault_of (takes_letter stage) s) (fault_here text stage s left st e)
     by_step (Some further) e rest = rest further e
 

@@ -1,4 +1,3 @@
-pub mod SpotSteps
 pub mod ListSteps
 pub mod Orders
 pub mod Maps

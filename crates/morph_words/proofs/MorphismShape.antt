@@ -1,16 +1,16 @@
 -- The rules that a text spells are a morphism.
-use Rattle.std.proofs.Common.{◌≡◌, ℕ, zero, suc, ◌+◌, ◌-◌, ◌<◌, Bool, true, false, List, [], ◌∷◌, ◌++◌, length, ℤ, pos, refl, sym, subst, arith}
-use Rattle.std.specs.Prelude.{⊤, if◌then◌else◌, nat_lt, ◌==◌, ◌&&◌, drop}
+use Rattle.std.proofs.Common.{◌≡◌, ℕ, zero, suc, ◌+◌, ◌-◌, ◌<◌, ◌^◌, Bool, true, false, List, [], ◌∷◌, ◌++◌, length, ℤ, pos, refl, sym, subst, arith}
+use Rattle.std.specs.Prelude.{⊤, if◌then◌else◌, nat_lt, ◌==◌, ◌&&◌, take, drop}
 use Rattle.std.specs.List.{AllByRecursion}
 use Rattle.std.proofs.lemmas.Bool.Decides.{nat_tests}
 use Rattle.std.proofs.lemmas.List.{length-append}
 use Rattle.text_grammar.specs.Bytes.{is_blank, is_digit}
 use Rattle.morph_words.specs.declared.lexeme.Lexeme.{Lexeme}
 use Rattle.morph_words.specs.declared.lexeme.Lexeme.TheVariants.{Letter, Long, Broken, Arrow, Blank, Comma, Other}
-use Rattle.morph_words.specs.declared.lexeme.Piece.{Piece}
-use Rattle.text_grammar.specs.Numbers.{begins_with, is_short}
-use Rattle.morph_words.specs.Numbers.{number_len, number_at}
-use Rattle.morph_words.specs.Lexemes.{piece, bracket, lexeme, spots_from, lexemes_in, lexemes}
+use Rattle.text_grammar.specs.Spots.{lexeme_of, spots_from, tokens}
+use Rattle.text_grammar.specs.Spots as spots
+use Rattle.text_grammar.specs.Numbers.{begins_with, is_short, number_len, number_of}
+use Rattle.morph_words.specs.Lexemes.{bracket, lexeme, lexing, lexemes}
 use Rattle.morph_words.specs.Rules.{IsRule, IsMorphism}
 use Rattle.morph_words.specs.Grammar.{Image, only, longer, Rule, Divider, blank, comma, and_blank, and_comma, RuleList, first, next, blanks_then, image_then, rule_then, divider_then, rules_then, text_then, letters_of}
 use Rattle.morph_words.specs.Laws.{SpellsMorphisms}
@@ -20,41 +20,42 @@ use Rattle.morph_words.proofs.Orders.{morphism_put}
 
 -- a letter has 32 bits, signed
 abbrev IsShortLexeme : Lexeme → Type 0
-IsShortLexeme (Letter z) = is_short z ≡ true
+IsShortLexeme (Letter z) = is_short (2 ^ 31) z ≡ true
 IsShortLexeme _ = ⊤
 
-either_short : (c : Bool) (x y : Piece) → (c ≡ true → IsShortLexeme x.lexeme) → (c ≡ false → IsShortLexeme y.lexeme) → IsShortLexeme (if c then x else y).lexeme
+either_short : (c : Bool) (x y : spots.Lexeme Lexeme) → (c ≡ true → IsShortLexeme x.token) → (c ≡ false → IsShortLexeme y.token) → IsShortLexeme (if c then x else y).token
 either_short true x y h k = h refl
 either_short false x y h k = k refl
 
-bracket_short : (bs : List ℕ) → IsShortLexeme (bracket bs).lexeme
+bracket_short : (bs : List ℕ) → IsShortLexeme (bracket bs).token
 bracket_short bs =
-    either_short (number_len bs == 0) (piece Broken 0) _ (λ e. tt)
-    (λ e. either_short (is_short (number_at bs)) _ (piece Long (number_len bs))
-    (λ h. either_short (begins_with 93 (drop (number_len bs) bs)) (piece (Letter (number_at bs)) (number_len bs + 1)) (piece Broken (number_len bs)) (λ g. h) (λ g. tt))
+    let number = take (number_len bs) bs in
+    either_short (number_len bs == 0) (lexeme_of Broken 1) _ (λ e. tt)
+    (λ e. either_short (is_short (2 ^ 31) (number_of number)) _ (lexeme_of Long (number_len bs + 1))
+    (λ h. either_short (begins_with 93 (drop (number_len bs) bs)) (lexeme_of (Letter (number_of number)) (number_len bs + 2)) (lexeme_of Broken (number_len bs + 1)) (λ g. h) (λ g. tt))
     (λ h. tt))
 
 digit_short : (b : ℕ) → is_digit b ≡ true → nat_lt (b - 48) 2147483648 ≡ true
 digit_short b h = grind (arith, nat_tests)
 
-lexeme_short : (b : ℕ) (bs : List ℕ) → IsShortLexeme (lexeme b bs).lexeme
+lexeme_short : (b : ℕ) (bs : List ℕ) → IsShortLexeme (lexeme b bs).token
 lexeme_short b bs =
-    either_short (is_digit b) (piece (Letter (pos (b - 48))) 0) _ (λ e. digit_short b e)
-    (λ e. either_short (is_blank b) (piece Blank 0) _ (λ h. tt)
-    (λ h. either_short (b == 44) (piece Comma 0) _ (λ g. tt)
+    either_short (is_digit b) (lexeme_of (Letter (pos (b - 48))) 1) _ (λ e. digit_short b e)
+    (λ e. either_short (is_blank b) (lexeme_of Blank 1) _ (λ h. tt)
+    (λ h. either_short (b == 44) (lexeme_of Comma 1) _ (λ g. tt)
     (λ g. either_short (b == 91) (bracket bs) _ (λ k. bracket_short bs)
-    (λ k. either_short (b == 45 && begins_with 62 bs) (piece Arrow 1) (piece Other 0) (λ l. tt) (λ l. tt)))))
+    (λ k. either_short (b == 45 && begins_with 62 bs) (lexeme_of Arrow 2) (lexeme_of Other 1) (λ l. tt) (λ l. tt)))))
 
-lexemes_short : (at skipped : ℕ) (bs : List ℕ) → AllByRecursion IsShortLexeme (lexemes_in (spots_from at skipped bs))
+lexemes_short : (at skipped : ℕ) (bs : List ℕ) → AllByRecursion IsShortLexeme (tokens (spots_from lexing tt at skipped bs))
 lexemes_short at skipped [] = tt
 lexemes_short at (suc skipped) (b ∷ bs) = lexemes_short (suc at) skipped bs
-lexemes_short at zero (b ∷ bs) = (lexeme_short b bs, lexemes_short (suc at) (lexeme b bs).more bs)
+lexemes_short at zero (b ∷ bs) = (lexeme_short b bs, lexemes_short (suc at) ((lexeme b bs).len - 1) bs)
 
 abbrev AreShort : List Lexeme → Type 0
 AreShort ts = AllByRecursion IsShortLexeme ts
 
 abbrev ShortLetters : List ℤ → Type 0
-ShortLetters zs = AllByRecursion (λ z. is_short z ≡ true) zs
+ShortLetters zs = AllByRecursion (λ z. is_short (2 ^ 31) z ≡ true) zs
 
 after_blanks : (count : ℕ) (rest : List Lexeme) → AreShort (blanks_then count rest) → AreShort rest
 after_blanks zero rest h = h
@@ -64,7 +65,7 @@ after_image : (image : Image) (rest : List Lexeme) → AreShort (image_then imag
 after_image (only z) rest h = ((h.0, tt), h.1)
 after_image (longer image z) rest h =
     let others = after_image image (Letter z ∷ rest) h in
-    (all_append (λ y. is_short y ≡ true) (letters_of image) (z ∷ []) others.0 (others.1.0, tt), others.1.1)
+    (all_append (λ y. is_short (2 ^ 31) y ≡ true) (letters_of image) (z ∷ []) others.0 (others.1.0, tt), others.1.1)
 
 image_some : (image : Image) → 0 < length (letters_of image)
 image_some (only z) = omega arith

@@ -6,7 +6,7 @@ use Rattle.morph_words.specs.declared.fault.RulesFault.{RulesFault}
 use Rattle.morph_words.specs.declared.fault.RulesFault.TheVariants.{Syntax, Number, Memory}
 use Rattle.morph_words.specs.declared.lexeme.Lexeme.{Lexeme}
 use Rattle.morph_words.specs.declared.lexeme.Lexeme.TheVariants.{Letter, Long, Broken}
-use Rattle.morph_words.specs.declared.lexeme.Spot.{Spot}
+use Rattle.text_grammar.specs.Spots.{Spot}
 use Rattle.morph_words.specs.Lexemes.{spots, lexemes}
 use Rattle.morph_words.specs.Rules.{Rules}
 use Rattle.morph_words.specs.Grammar.{Spells}
@@ -19,8 +19,8 @@ no_letter Broken at after = Syntax after
 no_letter _ at after = Syntax at
 
 -- the fault of a lexeme with which no rules go on, where a letter may stand or may not
-abbrev pub fault_of : Bool → Spot → RulesFault
-fault_of true s = no_letter s.lexeme s.at s.after
+abbrev pub fault_of : Bool → Spot Lexeme → RulesFault
+fault_of true s = no_letter s.token s.at s.after
 fault_of false s = Syntax s.at
 
 -- a letter may stand after these lexemes
@@ -28,7 +28,7 @@ abbrev pub MayBeLetter : List Lexeme → Type 0
 MayBeLetter before = (letter : ℤ) × Begins Spells (before ++ Letter letter ∷ [])
 
 -- the fault at a lexeme of a text, the lexemes counted from 0; after the last it is at the text's length
-abbrev pub fault_at : List ℕ → Bool → Option Spot → RulesFault
+abbrev pub fault_at : List ℕ → Bool → Option (Spot Lexeme) → RulesFault
 fault_at text at_letter None = Syntax (length text)
 fault_at text at_letter (Some s) = fault_of at_letter s
 

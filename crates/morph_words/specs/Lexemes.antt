@@ -1,58 +1,46 @@
 -- The lexemes of a text of rules, one after another, each the longest possible.
-use Rattle.std.specs.Prelude.{ℕ, zero, suc, ◌+◌, ◌-◌, ◌==◌, ◌&&◌, if◌then◌else◌, List, [], ◌∷◌, drop, map, pos}
+use Rattle.std.specs.Prelude.{ℕ, ◌+◌, ◌-◌, ◌^◌, ◌==◌, ◌&&◌, false, if◌then◌else◌, List, [], take, drop, pos, ⊤}
 use Rattle.text_grammar.specs.Bytes.{is_blank, is_digit}
+use Rattle.text_grammar.specs.Numbers.{begins_with, is_short, number_len, number_of}
+use Rattle.text_grammar.specs.Spots.{lexeme_of, Lexing, Spot, spots_from, tokens}
+use Rattle.text_grammar.specs.Spots as cut
 use Rattle.morph_words.specs.declared.lexeme.Lexeme.{Lexeme}
 use Rattle.morph_words.specs.declared.lexeme.Lexeme.TheVariants.{Letter, Long, Broken, Arrow, Blank, Comma, Other}
-use Rattle.morph_words.specs.declared.lexeme.Piece.{Piece}
-use Rattle.morph_words.specs.declared.lexeme.Spot.{Spot}
-use Rattle.text_grammar.specs.Numbers.{begins_with, is_short}
-use Rattle.morph_words.specs.Numbers.{number_len, number_at}
-
--- a lexeme of so many bytes after its first
-abbrev pub piece : Lexeme → ℕ → Piece
-piece lexeme more = record { lexeme = lexeme; more = more }
 
 -- what a `[` is with the bytes after it: a letter, where a number of 32 bits, signed, and a `]` follow
-abbrev pub bracket : List ℕ → Piece
+abbrev pub bracket : List ℕ → cut.Lexeme Lexeme
 bracket bytes =
     if number_len bytes == 0
-    then piece Broken 0
+    then lexeme_of Broken 1
     else
-    if is_short (number_at bytes)
-    then (if begins_with 93 (drop (number_len bytes) bytes) then piece (Letter (number_at bytes)) (number_len bytes + 1) else piece Broken (number_len bytes))
-    else piece Long (number_len bytes)
+    if is_short (2 ^ 31) (number_of (take (number_len bytes) bytes))
+    then
+    (if begins_with 93 (drop (number_len bytes) bytes)
+    then lexeme_of (Letter (number_of (take (number_len bytes) bytes))) (number_len bytes + 2)
+    else lexeme_of Broken (number_len bytes + 1))
+    else lexeme_of Long (number_len bytes + 1)
 
 -- the lexeme that begins with a byte, before others: a digit is a letter
-abbrev pub lexeme : ℕ → List ℕ → Piece
+abbrev pub lexeme : ℕ → List ℕ → cut.Lexeme Lexeme
 lexeme byte bytes =
     if is_digit byte
-    then piece (Letter (pos (byte - 48))) 0
+    then lexeme_of (Letter (pos (byte - 48))) 1
     else
     if is_blank byte
-    then piece Blank 0
+    then lexeme_of Blank 1
     else
     if byte == 44
-    then piece Comma 0
-    else if byte == 91 then bracket bytes else if byte == 45 && begins_with 62 bytes then piece Arrow 1 else piece Other 0
+    then lexeme_of Comma 1
+    else if byte == 91 then bracket bytes else if byte == 45 && begins_with 62 bytes then lexeme_of Arrow 2 else lexeme_of Other 1
 
--- a lexeme at its byte, and the byte after it
-abbrev pub spot : ℕ → Piece → Spot
-spot at p = record { lexeme = p.lexeme; at = at; after = at + 1 + p.more }
-
--- the lexemes of bytes that begin at a place, of which some are passed over
-abbrev pub spots_from : ℕ → ℕ → List ℕ → List Spot
-spots_from at skipped [] = []
-spots_from at (suc skipped) (b ∷ bs) = spots_from (suc at) skipped bs
-spots_from at zero (b ∷ bs) = spot at (lexeme b bs) ∷ spots_from (suc at) (lexeme b bs).more bs
+-- rules are cut without a mode, and each byte is in a lexeme
+abbrev pub lexing : Lexing ⊤ Lexeme
+lexing = record { lexeme = λ mode at byte bytes. lexeme byte bytes; mode_after = λ mode l. mode; divides = λ b. false; ends = [] }
 
 -- the lexemes of a text, each at its byte
-abbrev pub spots : List ℕ → List Spot
-spots text = spots_from 0 0 text
-
--- lexemes without their bytes
-abbrev pub lexemes_in : List Spot → List Lexeme
-lexemes_in ss = map (λ (s : Spot). s.lexeme) ss
+abbrev pub spots : List ℕ → List (Spot Lexeme)
+spots text = spots_from lexing tt 0 0 text
 
 -- the lexemes of a text
 abbrev pub lexemes : List ℕ → List Lexeme
-lexemes text = lexemes_in (spots text)
+lexemes text = tokens (spots text)

@@ -1,4 +1,3 @@
-pub mod Numbers
 pub mod Lexemes
 pub mod Rules
 pub mod Grammar

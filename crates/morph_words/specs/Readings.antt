@@ -2,6 +2,10 @@
 use Rattle.std.specs.Prelude.{◌≡◌, Result, Ok, Err, ⊤}
 use Rattle.morph_words.specs.declared.fault.RulesFault.{RulesFault}
 use Rattle.morph_words.specs.declared.fault.RulesFault.TheVariants.{Syntax, Number, Memory}
+use Rattle.text_grammar.specs.Spots as spots
+use Rattle.morph_words.specs.declared.lexeme.Lexeme.{Lexeme}
+use Rattle.morph_words.specs.declared.lexeme.Piece.{Piece}
+use Rattle.morph_words.specs.declared.lexeme.Spot.{Spot}
 use Rattle.morph_words.specs.declared.stage.Stage.{Stage}
 use Rattle.morph_words.specs.declared.stage.Stage.TheVariants as variants
 use Rattle.morph_words.specs.Stages as stages
@@ -16,6 +20,13 @@ Fails Memory read = ⊤
 abbrev pub Reads : {X Y : Type 0} → (X → Y) → Result X RulesFault → Result Y RulesFault → Type 0
 Reads view (Ok x) read = read ≡ Ok (view x)
 Reads view (Err fault) read = Fails fault read
+
+-- a lexeme with its length, and at its byte
+abbrev pub piece_view : Piece → spots.Lexeme Lexeme
+piece_view p = record { token = p.lexeme; len = p.len }
+
+abbrev pub spot_view : Spot → spots.Spot Lexeme
+spot_view s = record { token = s.lexeme; at = s.at; after = s.after }
 
 -- a stage, without where it lies in memory
 abbrev pub stage_view : Stage → stages.Stage

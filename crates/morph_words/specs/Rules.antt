@@ -1,5 +1,5 @@
 -- Rules: letters with their images. By ascending letter, they are a finite map.
-use Rattle.std.specs.Prelude.{◌≡◌, ◌<◌, Bool, true, List, length, ℤ, Option, is_some}
+use Rattle.std.specs.Prelude.{◌≡◌, ◌<◌, ◌^◌, Bool, true, List, length, ℤ, Option, is_some}
 use Rattle.std.specs.List.{AllByRecursion}
 use Rattle.std.specs.List.Sorted.{IsStrictlySortedBy}
 use Rattle.std.specs.Ordering.{int_cmp}
@@ -25,9 +25,9 @@ put rules letter image = insert_entry int_cmp rules letter image
 
 -- a rule: letters have 32 bits, signed, and the image is not empty
 pub record IsRule (rule : ℤ × List ℤ) : Type 0 where
-  pub letter : is_short rule.0 ≡ true
+  pub letter : is_short (2 ^ 31) rule.0 ≡ true
   pub some : 0 < length rule.1
-  pub image : AllByRecursion (λ letter. is_short letter ≡ true) rule.1
+  pub image : AllByRecursion (λ letter. is_short (2 ^ 31) letter ≡ true) rule.1
 
 -- the rules of a morphism: one at least, by ascending letter
 pub record IsMorphism (rules : Rules) : Type 0 where

@@ -4,7 +4,8 @@ use Rattle.morph_words.specs.declared.fault.RulesFault.{RulesFault}
 use Rattle.morph_words.specs.declared.fault.RulesFault.TheVariants.{Syntax}
 use Rattle.morph_words.specs.declared.lexeme.Lexeme.{Lexeme}
 use Rattle.morph_words.specs.declared.lexeme.Lexeme.TheVariants.{Letter, Arrow, Blank, Comma}
-use Rattle.morph_words.specs.declared.lexeme.Spot.{Spot}
+use Rattle.text_grammar.specs.Spots.{Spot}
+use Rattle.text_grammar.specs.Results.{◌>>=◌}
 use Rattle.morph_words.specs.Lexemes.{spots}
 use Rattle.morph_words.specs.Rules.{Rules, has, put}
 use Rattle.morph_words.specs.Faults.{fault_of}
@@ -69,18 +70,13 @@ or_fault fault None = Err fault
 or_fault fault (Some x) = Ok x
 
 -- the stage after a lexeme of a text, or the fault that it is
-abbrev pub stepped : Stage → Spot → Result Stage RulesFault
-stepped stage s = or_fault (fault_of (takes_letter stage) s) (step stage s.lexeme)
-
--- what comes of a value, unless there is a fault
-abbrev pub and_then : {X Y : Type 0} → Result X RulesFault → (X → Result Y RulesFault) → Result Y RulesFault
-and_then (Ok x) f = f x
-and_then (Err fault) f = Err fault
+abbrev pub stepped : Stage → Spot Lexeme → Result Stage RulesFault
+stepped stage s = or_fault (fault_of (takes_letter stage) s) (step stage s.token)
 
 -- the rules of the further lexemes of a text that has `whole` bytes, or the first fault
-abbrev pub run : ℕ → Stage → List Spot → Result Rules RulesFault
+abbrev pub run : ℕ → Stage → List (Spot Lexeme) → Result Rules RulesFault
 run whole stage [] = or_fault (Syntax whole) (ended stage)
-run whole stage (s ∷ ss) = and_then (stepped stage s) (λ next. run whole next ss)
+run whole stage (s ∷ ss) = stepped stage s >>= λ next. run whole next ss
 
 -- the rules of a text, or its fault
 abbrev pub rules_at : List ℕ → Result Rules RulesFault

@@ -19,11 +19,11 @@ pub(crate) enum Lexeme {
     Other,
 }
 
-/// A lexeme, and how many bytes it has after its first.
+/// A lexeme, and how many bytes it has.
 #[derive(Clone, Copy)]
 pub(crate) struct Piece {
     pub lexeme: Lexeme,
-    pub more: usize,
+    pub len: usize,
 }
 
 /// A lexeme with the byte at which it begins, and the byte after it.

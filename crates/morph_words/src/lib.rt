@@ -10,8 +10,6 @@ mod fault;
 mod image;
 // what the text of rules is made of
 mod lexeme;
-// whole numbers
-mod numbers;
 // the lexeme at a byte
 mod lexing;
 // reading rules lexeme by lexeme

@@ -4,7 +4,7 @@ ghost use Rattle.std.specs.Prelude.{◌≡◌, ◌<◌, MatchResult};
 ghost use Rattle.morph_words.specs.declared.fault.RulesFault.TheVariants.{Memory};
 ghost use Rattle.morph_words.specs.Faults.{no_letter as fault_of_no_letter};
 ghost use Rattle.morph_words.specs.Rules.{put};
-ghost use Rattle.morph_words.specs.Readings.{Reads, stage_view};
+ghost use Rattle.morph_words.specs.Readings.{Reads, spot_view, stage_view};
 ghost use Rattle.morph_words.specs.Stages as stages;
 ghost use Rattle.morph_words.specs.Stages.{stepped, ended, or_fault};
 
@@ -58,7 +58,7 @@ fn with_rule(rules: Rules, letter: i32, image: Image) -> Result<Rules, RulesFaul
 /// Before the first rule.
 fn at_first(alloc: Global, spot: Spot) -> Result<Stage, RulesFault>
     requires { spot.at < spot.after }
-    ensures { Reads stage_view result (stepped stages.AtFirst spot) }
+    ensures { Reads stage_view result (stepped stages.AtFirst (spot_view spot)) }
 {
     match spot.lexeme {
         Lexeme::Blank => Ok(Stage::AtFirst),
@@ -69,7 +69,7 @@ fn at_first(alloc: Global, spot: Spot) -> Result<Stage, RulesFault>
 
 /// After a rule's letter.
 fn after_letter(rules: Rules, letter: i32, spot: Spot) -> Result<Stage, RulesFault>
-    ensures { Reads stage_view result (stepped (stages.AfterLetter rules.entries letter) spot) }
+    ensures { Reads stage_view result (stepped (stages.AfterLetter rules.entries letter) (spot_view spot)) }
 {
     match spot.lexeme {
         Lexeme::Blank => Ok(Stage::AfterLetter(rules, letter)),
@@ -81,7 +81,7 @@ fn after_letter(rules: Rules, letter: i32, spot: Spot) -> Result<Stage, RulesFau
 /// After a rule's arrow.
 fn after_arrow(alloc: Global, rules: Rules, letter: i32, spot: Spot) -> Result<Stage, RulesFault>
     requires { spot.at < spot.after }
-    ensures { Reads stage_view result (stepped (stages.AfterArrow rules.entries letter) spot) }
+    ensures { Reads stage_view result (stepped (stages.AfterArrow rules.entries letter) (spot_view spot)) }
 {
     match spot.lexeme {
         Lexeme::Blank => Ok(Stage::AfterArrow(rules, letter)),
@@ -97,7 +97,7 @@ fn after_arrow(alloc: Global, rules: Rules, letter: i32, spot: Spot) -> Result<S
 /// In a rule's image.
 fn in_image(rules: Rules, letter: i32, image: Image, spot: Spot) -> Result<Stage, RulesFault>
     requires { spot.at < spot.after }
-    ensures { Reads stage_view result (stepped (stages.InImage rules.entries letter image) spot) }
+    ensures { Reads stage_view result (stepped (stages.InImage rules.entries letter image) (spot_view spot)) }
 {
     match spot.lexeme {
         Lexeme::Letter(next) => {
@@ -124,7 +124,7 @@ fn begun(rules: Rules, letter: i32, at: usize) -> Result<Stage, RulesFault>
 /// After a rule and blanks.
 fn after_rule(rules: Rules, spot: Spot) -> Result<Stage, RulesFault>
     requires { spot.at < spot.after }
-    ensures { Reads stage_view result (stepped (stages.AfterRule rules.entries) spot) }
+    ensures { Reads stage_view result (stepped (stages.AfterRule rules.entries) (spot_view spot)) }
 {
     match spot.lexeme {
         Lexeme::Blank => Ok(Stage::AfterRule(rules)),
@@ -137,7 +137,7 @@ fn after_rule(rules: Rules, spot: Spot) -> Result<Stage, RulesFault>
 /// After a rule and a comma.
 fn after_comma(rules: Rules, spot: Spot) -> Result<Stage, RulesFault>
     requires { spot.at < spot.after }
-    ensures { Reads stage_view result (stepped (stages.AfterComma rules.entries) spot) }
+    ensures { Reads stage_view result (stepped (stages.AfterComma rules.entries) (spot_view spot)) }
 {
     match spot.lexeme {
         Lexeme::Blank | Lexeme::Comma => Ok(Stage::AfterComma(rules)),
@@ -150,7 +150,7 @@ impl Stage {
     /// The stage after a lexeme.
     pub(crate) fn step(self, alloc: Global, spot: Spot) -> Result<Stage, RulesFault>
         requires { spot.at < spot.after }
-        ensures { Reads stage_view result (stepped (stage_view self) spot) }
+        ensures { Reads stage_view result (stepped (stage_view self) (spot_view spot)) }
     {
         match self {
             Stage::AtFirst => at_first(alloc, spot),

@@ -14,7 +14,9 @@ use Rattle.regex_build.specs.declared.fault.Refusal.{Refusal}
 use Rattle.regex_build.specs.declared.fault.Refusal.TheVariants as refusals
 use Rattle.regex_build.specs.declared.fault.RegexFault.TheVariants as faults
 use Rattle.regex_build.specs.Tokens.{Token, other}
-use Rattle.regex_build.specs.Spots.{Spot, inside_behind, spots_from, spots, tokens_in, tokens, byte_of}
+use Rattle.text_grammar.specs.Spots.{Spot, spots_from}
+use Rattle.text_grammar.specs.Spots as cut
+use Rattle.regex_build.specs.Spots.{inside_behind, lexing, spots, tokens, byte_of}
 use Rattle.regex_build.specs.Grammar.{Spells}
 use Rattle.regex_build.specs.Postfix.{tree_of}
 use Rattle.regex_build.specs.Patterns.{IsOver}
@@ -58,30 +60,30 @@ read_more sets ts s n t h e a =
 
 -- the tokens before a byte were read
 pub record AtByte (sets : List (List ℤ)) (text : List ℕ) (at : ℕ) (s : State) : Type 0 where
-  pub front : List Spot
-  pub split : spots text ≡ front ++ spots_from (in_bracket s.place) at 0 (drop at text)
-  pub has_read : HasRead sets (tokens_in front) s
+  pub front : List (Spot Token)
+  pub split : spots text ≡ front ++ spots_from lexing (in_bracket s.place) at 0 (drop at text)
+  pub has_read : HasRead sets (cut.tokens front) s
   pub within : at ≤ length text
 
 pub byte_start : (sets : List (List ℤ)) (text : List ℕ) (s : State) → s ≡ start → AtByte sets text 0 s
 byte_start sets text s e = subst (λ (n : State). AtByte sets text 0 n) (sym e) (record { front = []; split = refl; has_read = read_start sets; within = omega arith })
 
-abbrev spot_of : Spot' → Spot
-spot_of r = record { token = token_view r.token; at = r.at }
+abbrev spot_of : Spot' → Spot Token
+spot_of r = record { token = token_view r.token; at = r.at; after = r.end }
 
 pub byte_next : (sets : List (List ℤ)) (text : List ℕ) (at : ℕ) (s n : State) (r : Spot') → AtByte sets text at s → IsNext (in_bracket s.place) text at r → Gives sets s (token_view r.token) n (Ok tt) → AtByte sets text r.end n
 byte_next sets text at s n r p x g =
     let t = token_view r.token in
     let k = keeps sets s n t g.0 in
-    let rest = spots_from (inside_behind (in_bracket s.place) t) r.end 0 (drop r.end text) in
+    let rest = spots_from lexing (inside_behind (in_bracket s.place) t) r.end 0 (drop r.end text) in
     record {
       front = p.front ++ spot_of r ∷ [];
       split =
           p.split
           ∙ (ap (λ ss. p.front ++ ss) x.spots_are
           ∙ (sym (append_assoc p.front (spot_of r ∷ []) rest)
-          ∙ ap (λ b. (p.front ++ spot_of r ∷ []) ++ spots_from b r.end 0 (drop r.end text)) k.inside_is));
-      has_read = subst (λ ts. HasRead sets ts n) (sym (map-append (λ (y : Spot). y.token) p.front (spot_of r ∷ []))) (read_more sets (tokens_in p.front) s n t p.has_read g.0 g.1);
+          ∙ ap (λ b. (p.front ++ spot_of r ∷ []) ++ spots_from lexing b r.end 0 (drop r.end text)) k.inside_is));
+      has_read = subst (λ ts. HasRead sets ts n) (sym (map-append (λ (y : Spot Token). y.token) p.front (spot_of r ∷ []))) (read_more sets (cut.tokens p.front) s n t p.has_read g.0 g.1);
       within = x.within;
     }
 
@@ -107,50 +109,50 @@ length-map f [] = refl
 length-map f (x ∷ xs) = ap suc (length-map f xs)
 
 -- a token behind a front
-record IsAt (text : List ℕ) (front : List Spot) (spot : Spot) : Type 0 where
+record IsAt (text : List ℕ) (front : List (Spot Token)) (spot : Spot Token) : Type 0 where
   place : ℕ
   within : place < length (tokens text)
-  front_is : take place (tokens text) ≡ tokens_in front
-  more_is : take (place + 1) (tokens text) ≡ tokens_in front ++ spot.token ∷ []
+  front_is : take place (tokens text) ≡ cut.tokens front
+  more_is : take (place + 1) (tokens text) ≡ cut.tokens front ++ spot.token ∷ []
   token_is : token_at (tokens text) place ≡ spot.token
   byte_is : byte_of text place ≡ spot.at
 
-is_at : (text : List ℕ) (front rest : List Spot) (spot : Spot) → spots text ≡ front ++ spot ∷ rest → IsAt text front spot
+is_at : (text : List ℕ) (front rest : List (Spot Token)) (spot : Spot Token) → spots text ≡ front ++ spot ∷ rest → IsAt text front spot
 is_at text front rest spot e =
-    let ts : tokens text ≡ tokens_in front ++ spot.token ∷ tokens_in rest = ap tokens_in e ∙ map-append (λ (y : Spot). y.token) front (spot ∷ rest) in
-    let bs : map (λ (y : Spot). y.at) (spots text) ≡ map (λ (y : Spot). y.at) front ++ spot.at ∷ map (λ (y : Spot). y.at) rest = ap (map (λ (y : Spot). y.at)) e ∙ map-append (λ (y : Spot). y.at) front (spot ∷ rest) in
-    let n : length (tokens text) ≡ length (tokens_in front) + length (spot.token ∷ tokens_in rest) = ap length ts ∙ length-append (tokens_in front) (spot.token ∷ tokens_in rest) in
-    let m : length (tokens_in front) ≡ length (map (λ (y : Spot). y.at) front) = length-map (λ (y : Spot). y.token) front ∙ sym (length-map (λ (y : Spot). y.at) front) in
+    let ts : tokens text ≡ cut.tokens front ++ spot.token ∷ cut.tokens rest = ap cut.tokens e ∙ map-append (λ (y : Spot Token). y.token) front (spot ∷ rest) in
+    let bs : map (λ (y : Spot Token). y.at) (spots text) ≡ map (λ (y : Spot Token). y.at) front ++ spot.at ∷ map (λ (y : Spot Token). y.at) rest = ap (map (λ (y : Spot Token). y.at)) e ∙ map-append (λ (y : Spot Token). y.at) front (spot ∷ rest) in
+    let n : length (tokens text) ≡ length (cut.tokens front) + length (spot.token ∷ cut.tokens rest) = ap length ts ∙ length-append (cut.tokens front) (spot.token ∷ cut.tokens rest) in
+    let m : length (cut.tokens front) ≡ length (map (λ (y : Spot Token). y.at) front) = length-map (λ (y : Spot Token). y.token) front ∙ sym (length-map (λ (y : Spot Token). y.at) front) in
     record {
-      place = length (tokens_in front);
+      place = length (cut.tokens front);
       within = omega (arith, n);
-      front_is = ap (take (length (tokens_in front))) ts ∙ take_front (tokens_in front) (spot.token ∷ tokens_in rest);
-      more_is = ap (take (length (tokens_in front) + 1)) ts ∙ take_more (tokens_in front) spot.token (tokens_in rest);
-      token_is = ap (λ us. token_at us (length (tokens_in front))) ts ∙ get_front (tokens_in front) spot.token (tokens_in rest) other;
+      front_is = ap (take (length (cut.tokens front))) ts ∙ take_front (cut.tokens front) (spot.token ∷ cut.tokens rest);
+      more_is = ap (take (length (cut.tokens front) + 1)) ts ∙ take_more (cut.tokens front) spot.token (cut.tokens rest);
+      token_is = ap (λ us. token_at us (length (cut.tokens front))) ts ∙ get_front (cut.tokens front) spot.token (cut.tokens rest) other;
       byte_is =
-          ap (λ (us : List ℕ). get_or us (length (tokens_in front)) (length text)) bs
-          ∙ (ap (λ k. get_or (map (λ (y : Spot). y.at) front ++ spot.at ∷ map (λ (y : Spot). y.at) rest) k (length text)) m
-          ∙ get_front (map (λ (y : Spot). y.at) front) spot.at (map (λ (y : Spot). y.at) rest) (length text));
+          ap (λ (us : List ℕ). get_or us (length (cut.tokens front)) (length text)) bs
+          ∙ (ap (λ k. get_or (map (λ (y : Spot Token). y.at) front ++ spot.at ∷ map (λ (y : Spot Token). y.at) rest) k (length text)) m
+          ∙ get_front (map (λ (y : Spot Token). y.at) front) spot.at (map (λ (y : Spot Token). y.at) rest) (length text));
     }
 
-stuck : (sets : List (List ℤ)) (text : List ℕ) (s : State) (front : List Spot) (spot : Spot) (i : IsAt text front spot) → HasRead sets (tokens_in front) s → step (length sets) s spot.token ≡ None → IsStuckAt sets (tokens text) i.place
+stuck : (sets : List (List ℤ)) (text : List ℕ) (s : State) (front : List (Spot Token)) (spot : Spot Token) (i : IsAt text front spot) → HasRead sets (cut.tokens front) s → step (length sets) s spot.token ≡ None → IsStuckAt sets (tokens text) i.place
 stuck sets text s front spot i h none =
     let within = i.within in
     record {
       breaks = record {
         within = omega (arith, within);
-        before = subst (Begins (Spells (length sets))) (sym i.front_is) (begins (length sets) (tokens_in front) s h.reached);
-        there = λ l b. breaks (length sets) (tokens_in front) s spot.token h.runs none (subst (Begins (Spells (length sets))) i.more_is b);
+        before = subst (Begins (Spells (length sets))) (sym i.front_is) (begins (length sets) (cut.tokens front) s h.reached);
+        there = λ l b. breaks (length sets) (cut.tokens front) s spot.token h.runs none (subst (Begins (Spells (length sets))) i.more_is b);
         end = λ e. absurd (omega (arith, within, e));
       };
       before = subst (AreAllowed sets nothing) (sym i.front_is) h.allowed;
     }
 
-refused : (sets : List (List ℤ)) (text : List ℕ) (s : State) (front : List Spot) (spot : Spot) (i : IsAt text front spot) (o : Option State) → HasRead sets (tokens_in front) s → step (length sets) s spot.token ≡ o → IsSome o → (IsAllowed sets (around s) spot.token → ⊥) → IsRefusedAt sets (tokens text) i.place
+refused : (sets : List (List ℤ)) (text : List ℕ) (s : State) (front : List (Spot Token)) (spot : Spot Token) (i : IsAt text front spot) (o : Option State) → HasRead sets (cut.tokens front) s → step (length sets) s spot.token ≡ o → IsSome o → (IsAllowed sets (around s) spot.token → ⊥) → IsRefusedAt sets (tokens text) i.place
 refused sets text s front spot i None h e k never = absurd cc
 refused sets text s front spot i (Some n) h e k never = record {
   within = i.within;
-  begins = subst (Begins (Spells (length sets))) (sym i.more_is) (begins (length sets) (tokens_in front ++ spot.token ∷ []) n (reached_more (length sets) (tokens_in front) s n spot.token h.reached e));
+  begins = subst (Begins (Spells (length sets))) (sym i.more_is) (begins (length sets) (cut.tokens front ++ spot.token ∷ []) n (reached_more (length sets) (cut.tokens front) s n spot.token h.reached e));
   before = subst (AreAllowed sets nothing) (sym i.front_is) h.allowed;
   refused = λ a. never (
       subst (λ (x : Around). IsAllowed sets x spot.token) (ap (behind_all nothing) i.front_is ∙ h.around_is)
@@ -170,24 +172,24 @@ byte_fault sets text at s n r refusal p x g = by_refusal refusal g (is_at text p
     by_refusal refusals.Memory g i = tt
 
 -- the whole text was read
-whole : (sets : List (List ℤ)) (text : List ℕ) (at : ℕ) (s : State) (p : AtByte sets text at s) → spots_from (in_bracket s.place) at 0 (drop at text) ≡ [] → tokens text ≡ tokens_in p.front
-whole sets text at s p e = ap tokens_in (p.split ∙ (ap (λ ss. p.front ++ ss) e ∙ append-nil p.front))
+whole : (sets : List (List ℤ)) (text : List ℕ) (at : ℕ) (s : State) (p : AtByte sets text at s) → spots_from lexing (in_bracket s.place) at 0 (drop at text) ≡ [] → tokens text ≡ cut.tokens p.front
+whole sets text at s p e = ap cut.tokens (p.split ∙ (ap (λ ss. p.front ++ ss) e ∙ append-nil p.front))
 
 -- the text ends too early
-pub byte_early : (sets : List (List ℤ)) (text : List ℕ) (at : ℕ) (s : State) → AtByte sets text at s → spots_from (in_bracket s.place) at 0 (drop at text) ≡ [] → ended s ≡ None → Parses sets text (Err (faults.Syntax (length text)))
+pub byte_early : (sets : List (List ℤ)) (text : List ℕ) (at : ℕ) (s : State) → AtByte sets text at s → spots_from lexing (in_bracket s.place) at 0 (drop at text) ≡ [] → ended s ≡ None → Parses sets text (Err (faults.Syntax (length text)))
 byte_early sets text at s p e none =
     let w = whole sets text at s p e in
     let h = p.has_read in
-    let all : take (length (tokens text)) (tokens text) ≡ tokens_in p.front = take_all (length (tokens text)) (tokens text) (omega arith) ∙ w in
-    let m : length (tokens text) ≡ length (map (λ (y : Spot). y.at) (spots text)) = length-map (λ (y : Spot). y.token) (spots text) ∙ sym (length-map (λ (y : Spot). y.at) (spots text)) in (
+    let all : take (length (tokens text)) (tokens text) ≡ cut.tokens p.front = take_all (length (tokens text)) (tokens text) (omega arith) ∙ w in
+    let m : length (tokens text) ≡ length (map (λ (y : Spot Token). y.at) (spots text)) = length-map (λ (y : Spot Token). y.token) (spots text) ∙ sym (length-map (λ (y : Spot Token). y.at) (spots text)) in (
       length (tokens text),
-      sym (ap (λ k. get_or (map (λ (y : Spot). y.at) (spots text)) k (length text)) m ∙ get_past (map (λ (y : Spot). y.at) (spots text)) (length text)),
+      sym (ap (λ k. get_or (map (λ (y : Spot Token). y.at) (spots text)) k (length text)) m ∙ get_past (map (λ (y : Spot Token). y.at) (spots text)) (length text)),
       record {
         breaks = record {
           within = omega arith;
-          before = subst (Begins (Spells (length sets))) (sym all) (begins (length sets) (tokens_in p.front) s h.reached);
+          before = subst (Begins (Spells (length sets))) (sym all) (begins (length sets) (cut.tokens p.front) s h.reached);
           there = λ l. absurd (omega arith);
-          end = λ _ tree g. ends_early (length sets) (tokens_in p.front) s tree h.runs none (subst (λ ts. Spells (length sets) ts tree) w g);
+          end = λ _ tree g. ends_early (length sets) (cut.tokens p.front) s tree h.runs none (subst (λ ts. Spells (length sets) ts tree) w g);
         };
         before = subst (AreAllowed sets nothing) (sym all) h.allowed;
       },
@@ -203,11 +205,11 @@ symbols_over sets s symbols k e = at_end s.outer s.place e
     at_end [] BehindNumber e = absurd cc
     at_end (g ∷ os) p e = absurd cc
 
-pub byte_end : (sets : List (List ℤ)) (text : List ℕ) (at : ℕ) (s : State) (symbols : List PostfixSymbol) → AtByte sets text at s → spots_from (in_bracket s.place) at 0 (drop at text) ≡ [] → ended s ≡ Some symbols → AreSymbolsOf sets text symbols
+pub byte_end : (sets : List (List ℤ)) (text : List ℕ) (at : ℕ) (s : State) (symbols : List PostfixSymbol) → AtByte sets text at s → spots_from lexing (in_bracket s.place) at 0 (drop at text) ≡ [] → ended s ≡ Some symbols → AreSymbolsOf sets text symbols
 byte_end sets text at s symbols p e done =
     let w = whole sets text at s p e in
     let h = p.has_read in
-    let x = ends (length sets) (tokens_in p.front) s symbols h.reached done in
+    let x = ends (length sets) (cut.tokens p.front) s symbols h.reached done in
     record {
       postfix = x.postfix;
       letters = All-from_recursion (IsOver sets) symbols (symbols_over sets s symbols h.kept done);

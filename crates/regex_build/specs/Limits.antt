@@ -1,5 +1,6 @@
 -- What a token keeps to apart from the grammar: numbers are members of their tracks' sets, and parentheses nest at most 128.
-use Rattle.std.specs.Prelude.{ℕ, suc, pred, ◌<◌, ◌^◌, nat_lt, Bool, ℤ, pos, negsuc, IsTrue, List, [], ◌∷◌, Contains, slice_index_or, ⊤}
+use Rattle.std.specs.Prelude.{ℕ, suc, pred, ◌<◌, ◌^◌, ℤ, pos, IsTrue, List, [], ◌∷◌, Contains, slice_index_or, ⊤}
+use Rattle.text_grammar.specs.Numbers.{is_short}
 use Rattle.regex_build.specs.Tokens.{Token, opening, closing, unbracket, digit, number}
 
 -- what a token stands within and behind: how many open parentheses, and how many numbers of its brackets
@@ -26,13 +27,9 @@ behind_all a (t ∷ ts) = behind_all (behind a t) ts
 abbrev pub set_at : List (List ℤ) → ℕ → List ℤ
 set_at sets track = slice_index_or sets track []
 
--- a number of 32 bits, signed
-abbrev pub is_short : ℤ → Bool
-is_short (pos n) = nat_lt n (2 ^ 31)
-is_short (negsuc n) = nat_lt n (2 ^ 31)
-
+-- a member of a set: a number of 32 bits, signed, that it has
 abbrev pub IsMember : List ℤ → ℤ → Type 0
-IsMember set z = IsTrue (is_short z) × Contains set z
+IsMember set z = IsTrue (is_short (2 ^ 31) z) × Contains set z
 
 -- the token keeps to its limit
 abbrev pub IsAllowed : List (List ℤ) → Around → Token → Type 0

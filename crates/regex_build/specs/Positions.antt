@@ -26,10 +26,6 @@ abbrev pub IsWritten : {L : Type 0} → (L → ℕ → Type 0) → List (Option 
 IsWritten code occurrences zero a = ⊥
 IsWritten code occurrences (suc k) a = IsSomeAnd (slice_get occurrences k) (λ occurrence. IsOf code occurrence a)
 
--- the letter of a table over numbers, which stands for itself
-abbrev pub IsSame : ℕ → ℕ → Type 0
-IsSame x a = x ≡ a
-
 -- The table of the expression's letters: a state for the beginning and one for each letter, and from state to state each letter
 -- that can come next.
 pub record IsPositionTable {L : Type 0} (code : L → ℕ → Type 0) (e : Expression L) (n : Branching) : Type 0 where

@@ -15,7 +15,8 @@ use Rattle.regex_build.specs.declared.reading.Place.{Place}
 use Rattle.regex_build.specs.declared.reading.Reading.{Reading}
 use Rattle.regex_build.specs.Tokens as tokens
 use Rattle.regex_build.specs.Tokens.{Token}
-use Rattle.regex_build.specs.Spots.{Lexeme, inside_behind, spots_from}
+use Rattle.text_grammar.specs.Spots.{Lexeme, spots_from}
+use Rattle.regex_build.specs.Spots.{inside_behind, lexing}
 use Rattle.regex_build.specs.Patterns.{IsOver}
 use Rattle.regex_build.specs.Postfix.{IsPostfix, tree_of}
 use Rattle.regex_build.specs.Limits.{Around, IsAllowed}
@@ -42,18 +43,18 @@ abbrev pub IsWritten : Token → Type 0
 IsWritten (tokens.digit d) = d < 10
 IsWritten _ = ⊤
 
-abbrev pub lexeme_view : Lexeme' → Lexeme
-lexeme_view l = record { token = token_view l.token; more = l.more }
+abbrev pub lexeme_view : Lexeme' → Lexeme Token
+lexeme_view l = record { token = token_view l.token; len = l.len }
 
 -- the next token of a text from a byte on
 pub record IsNext (inside : Bool) (text : List ℕ) (start : ℕ) (s : Spot') : Type 0 where
   pub within : s.end ≤ length text
   pub moves : start < s.end
   pub written : IsWritten (token_view s.token)
-  pub spots_are : spots_from inside start 0 (drop start text) ≡ record { token = token_view s.token; at = s.at } ∷ spots_from (inside_behind inside (token_view s.token)) s.end 0 (drop s.end text)
+  pub spots_are : spots_from lexing inside start 0 (drop start text) ≡ record { token = token_view s.token; at = s.at; after = s.end } ∷ spots_from lexing (inside_behind inside (token_view s.token)) s.end 0 (drop s.end text)
 
 abbrev pub IsNextOrNone : Bool → List ℕ → ℕ → Option Spot' → Type 0
-IsNextOrNone inside text start None = spots_from inside start 0 (drop start text) ≡ []
+IsNextOrNone inside text start None = spots_from lexing inside start 0 (drop start text) ≡ []
 IsNextOrNone inside text start (Some s) = IsNext inside text start s
 
 abbrev pub state_view : Reading → State

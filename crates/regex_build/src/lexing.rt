@@ -1,21 +1,28 @@
 //! The tokens of a text, read one after the other.
 
-ghost use Rattle.std.specs.Prelude.{◌≡◌, ◌≤◌, ◌<◌, Bool, false, drop, length, min, slice_index};
-ghost use Rattle.text_grammar.specs.Bytes.{is_blank};
+ghost use Rattle.std.specs.Prelude.{◌≡◌, ◌≤◌, ◌<◌, ◌+◌, ◌∷◌, ◌==◌, ◌&&◌, true, ℕ, Bool, List, false, drop, length, min, slice_index};
+ghost use Rattle.std.specs.List.{filter};
+ghost use Rattle.text_grammar.specs.declared.class.Class.TheVariants.{Blank, Digit};
+ghost use Rattle.text_grammar.specs.Bytes.{is_blank, is_digit};
+ghost use Rattle.text_grammar.specs.Fronts.{begins_in, behind_front};
+ghost use Rattle.text_grammar.specs.Numbers.{signed as signed_number, value_of};
+ghost use Rattle.text_grammar.specs.Signs.{sign_of};
+ghost use Rattle.text_grammar.specs.Spots.{lexeme_of, spots_from};
+ghost use Rattle.regex_build.specs.Tokens.{other};
 ghost use Rattle.regex_build.specs.Spots as spots;
 ghost use Rattle.regex_build.specs.Reading.{token_view, lexeme_view, IsWritten, IsNextOrNone};
 
 use crate::token::Token;
-use text_grammar::Class;
+use text_grammar::{Class, begins_in as begins_in_class, front_len};
 
 /// What stands for each greater number: no such number has 32 bits, with either sign.
 const GREATEST: u64 = 4294967295;
 
-/// A token that begins at a byte, and how many bytes beyond it has.
+/// A token that begins at a byte, and how many bytes it has.
 #[derive(Drop)]
 pub(crate) struct Lexeme {
     pub token: Token,
-    pub more: usize,
+    pub len: usize,
 }
 
 /// A token with the byte at which it begins, and the byte behind it.
@@ -26,41 +33,14 @@ pub(crate) struct Spot {
     pub end: usize,
 }
 
-/// How many bytes at the front are digits or blanks.
-fn front_len(bytes: &[u8]) -> usize
-    ensures len { result ≡ spots.front_len bytes.now }
-    ensures within { result ≤ length bytes.now }
-{
-    for (index, byte) in bytes.iter().enumerate() {
-        if !Class::Blank.contains(*byte) && !Class::Digit.contains(*byte) {
-            return index;
-        }
-    }
-    bytes.len()
-}
-
-/// Whether the first byte that is no blank is a digit.
-fn leads_digit(bytes: &[u8]) -> bool
-    ensures { result ≡ spots.leads_digit bytes.now }
-{
-    for byte in bytes {
-        if !Class::Blank.contains(*byte) {
-            return Class::Digit.contains(*byte);
-        }
-    }
-    false
-}
-
-/// The number that digits write behind the value of those before them, or `GREATEST` if it is
-/// greater. Blanks count for nothing.
+/// The number that the digits among the bytes write, or `GREATEST` if it is greater.
 #[tactic(auto, using(crate::proofs::SpotSteps::value_blank, crate::proofs::SpotSteps::value_digit, crate::proofs::SpotSteps::value_end))]
-fn value_behind(first: u64, bytes: &[u8]) -> u64
-    requires { first ≤ GREATEST }
-    ensures { result ≡ min (spots.value_behind first bytes.now) GREATEST }
+fn distance(bytes: &[u8]) -> u64
+    ensures { result ≡ min (value_of (filter is_digit bytes.now)) GREATEST }
 {
-    let mut value = first;
+    let mut value: u64 = 0;
     for byte in bytes {
-        if !Class::Blank.contains(*byte) {
+        if Class::Digit.contains(*byte) {
             value = (value * 10 + u64::from(byte.saturating_sub(b'0'))).min(GREATEST);
         }
     }
@@ -70,7 +50,7 @@ fn value_behind(first: u64, bytes: &[u8]) -> u64
 /// The number with this sign and this distance from 0.
 fn signed(negative: bool, distance: u64) -> i64
     requires { distance ≤ GREATEST }
-    ensures { result ≡ spots.signed negative distance }
+    ensures { result ≡ signed_number negative distance }
 {
     let number = distance as i64;
     if negative { -number } else { number }
@@ -78,7 +58,7 @@ fn signed(negative: bool, distance: u64) -> i64
 
 /// The token that a byte is by itself.
 fn sign_token(byte: u8) -> Token
-    ensures is { token_view result ≡ spots.sign_token byte }
+    ensures is { (bytes : List ℕ) → sign_of spots.signs other (byte ∷ bytes) ≡ lexeme_of (token_view result) 1 }
     ensures written { IsWritten (token_view result) }
 {
     match byte {
@@ -98,60 +78,85 @@ fn sign_token(byte: u8) -> Token
 
 impl Lexeme {
     fn short(token: Token) -> Lexeme
-        ensures { result ≡ record { token = token; more = 0 } }
+        ensures { result ≡ record { token = token; len = 1 } }
     {
-        Lexeme { token, more: 0 }
+        Lexeme { token, len: 1 }
     }
 
-    /// A number, whose digits go on behind the value of the first.
-    fn number(negative: bool, first: u64, behind: &[u8]) -> Lexeme
-        requires { first ≤ GREATEST }
-        ensures is { lexeme_view result ≡ spots.number_lexeme negative first behind.now }
-        ensures within { result.more ≤ length behind.now }
+    /// A number, after a sign or none.
+    fn number(negative: bool, sign: usize, bytes: &[u8]) -> Lexeme
+        requires { sign ≤ 1 }
+        ensures is { lexeme_view result ≡ spots.number_lexeme negative sign bytes.now }
+        ensures within { result.len ≤ sign + length bytes.now }
         ensures written { IsWritten (token_view result.token) }
     {
-        let more = front_len(behind);
-        let distance = value_behind(first, &behind[..more]);
+        let len = front_len(Class::DigitOrBlank, bytes);
+        let distance = distance(&bytes[..len]);
         Lexeme {
             token: Token::Number(signed(negative, distance)),
-            more,
+            len: sign + len,
         }
     }
 }
 
-/// The token that begins with a byte, inside of brackets or not.
-fn lexeme_of(inside: bool, first: u8, behind: &[u8]) -> Lexeme
-    ensures is { lexeme_view result ≡ spots.lexeme inside first behind.now }
-    ensures within { result.more ≤ length behind.now }
+/// Whether a `-` and a number begin with this byte and those after it.
+fn leads_number(first: u8, behind: &[u8]) -> bool
+    ensures { result ≡ (first == 45 && begins_in Digit (behind_front Blank behind.now)) }
+{
+    first == b'-' && begins_in_class(Class::Digit, &behind[front_len(Class::Blank, behind)..])
+}
+
+/// The token with which bytes inside of brackets begin: a first byte, and those after it.
+fn lexeme_inside(first: u8, behind: &[u8], all: &[u8]) -> Lexeme
+    requires { all.now ≡ first ∷ behind.now }
+    ensures is { lexeme_view result ≡ spots.lexeme true (first ∷ behind.now) }
+    ensures within { result.len ≤ length behind.now + 1 }
     ensures written { IsWritten (token_view result.token) }
 {
     if Class::Digit.contains(first) {
-        let digit = first - b'0';
-        if inside {
-            return Lexeme::number(false, u64::from(digit), behind);
-        }
-        return Lexeme::short(Token::Digit(digit));
+        return Lexeme::number(false, 0, all);
     }
-    if inside && first == b'-' && leads_digit(behind) {
-        return Lexeme::number(true, 0, behind);
+    if leads_number(first, behind) {
+        return Lexeme::number(true, 1, behind);
     }
     Lexeme::short(sign_token(first))
 }
 
+/// The token with which bytes outside of brackets begin: a first byte, and those after it.
+fn lexeme_outside(first: u8, behind: &[u8]) -> Lexeme
+    ensures is { lexeme_view result ≡ spots.lexeme false (first ∷ behind.now) }
+    ensures within { result.len ≤ length behind.now + 1 }
+    ensures written { IsWritten (token_view result.token) }
+{
+    if Class::Digit.contains(first) {
+        return Lexeme::short(Token::Digit(first - b'0'));
+    }
+    Lexeme::short(sign_token(first))
+}
+
+/// The token with which bytes begin, inside of brackets or not.
+fn lexeme_of_text(inside: bool, first: u8, behind: &[u8], all: &[u8]) -> Lexeme
+    requires { all.now ≡ first ∷ behind.now }
+    ensures is { lexeme_view result ≡ spots.lexeme inside (first ∷ behind.now) }
+    ensures within { result.len ≤ length behind.now + 1 }
+    ensures written { IsWritten (token_view result.token) }
+{
+    if inside {
+        lexeme_inside(first, behind, all)
+    } else {
+        lexeme_outside(first, behind)
+    }
+}
+
 /// The first byte from `start` on that is no blank, or the text's length.
-#[tactic(auto, using(crate::proofs::SpotSteps::spots_blank))]
 fn blanks_end(text: &[u8], start: usize) -> usize
     requires { start ≤ length text.now }
     ensures within { result ≤ length text.now }
     ensures from { start ≤ result }
-    ensures spots { (m : Bool) → spots.spots_from m start 0 (drop start text.now) ≡ spots.spots_from m result 0 (drop result text.now) }
+    ensures spots { (m : Bool) → spots_from spots.lexing m start 0 (drop start text.now) ≡ spots_from spots.lexing m result 0 (drop result text.now) }
     ensures stops { result < length text.now → is_blank (slice_index text.now result) ≡ false }
 {
-    let mut at = start;
-    while at < text.len() && Class::Blank.contains(text[at]) {
-        at += 1;
-    }
-    at
+    start + front_len(Class::Blank, &text[start..])
 }
 
 /// The token at or behind `start`, if there is one.
@@ -164,10 +169,10 @@ pub(crate) fn next_spot(text: &[u8], start: usize, inside: bool) -> Option<Spot>
     if at == text.len() {
         return None;
     }
-    let lexeme = lexeme_of(inside, text[at], &text[at + 1..]);
+    let lexeme = lexeme_of_text(inside, text[at], &text[at + 1..], &text[at..]);
     Some(Spot {
         token: lexeme.token,
         at,
-        end: at + 1 + lexeme.more,
+        end: at + lexeme.len,
     })
 }

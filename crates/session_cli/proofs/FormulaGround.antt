@@ -6,7 +6,8 @@ use Rattle.dfa_loading.specs.Headers.{headers_of}
 use Rattle.dfa_loading.specs.Loading.{AreListedBy}
 use Rattle.dfa_loading.specs.declared.loaded.Loaded.{Loaded}
 use Rattle.formula_parse.specs.Grammar.{Reads}
-use Rattle.formula_parse.specs.Spots.{spots, tokens}
+use Rattle.text_grammar.specs.Spots.{tokens}
+use Rattle.formula_parse.specs.Spots.{spots}
 use Rattle.formula_parse.specs.Trees as trees
 use Rattle.formula_truth.proofs.MeaningLemmas.{MeanTheSame}
 use Rattle.formula_resolve.specs.FirstMentions.{first_files, first_systems}

@@ -7,8 +7,9 @@ use Rattle.std.proofs.lemmas.Bool.{eqb-true}
 use Rattle.std.proofs.lemmas.Slice.Eq.{bytes_eq-Decides}
 use Rattle.dfa_reading.specs.Lines.{◌>>=◌, is_passed, lines_of, line_after, parts_of, each_of}
 use Rattle.dfa_reading.specs.Headers.{Header, Truth, Systems, Sets, digits_in, has_states, header_of, truth_of, sets_of, or_else}
-use Rattle.system_names.specs.UserNames.{is_alphanumeric}
-use Rattle.dfa_reading.specs.Systems.{is_system, is_direction, system_of, directs_as, of_one_direction, systems_of}
+use Rattle.text_grammar.specs.Bytes.{is_alphanumeric}
+use Rattle.text_grammar.specs.Systems.{is_system, is_direction}
+use Rattle.dfa_reading.specs.Systems.{system_of, directs_as, of_one_direction, systems_of}
 use Rattle.dfa_reading.specs.Listed.{Listed}
 use Rattle.dfa_reading.specs.Entries.{Entry, State, Line, entry_of}
 use Rattle.dfa_reading.specs.Reading.{Draft, no_draft, with_header, with_state, with_line, has_number, add_entry, add_to, add_line, add_lines_by, add_lines, then_read, placed_lines, lists, finish_with, finish, relation_of}

@@ -4,7 +4,8 @@ use Rattle.formula_parse.specs.Trees as trees
 use Rattle.formula_parse.specs.Flaws.{Flaw, mixed_chain, not_linear}
 use Rattle.formula_parse.specs.FormulaTrees.{tree_of}
 use Rattle.formula_parse.specs.Grammar.{Reads, IsFlawed}
-use Rattle.formula_parse.specs.Spots.{spots, tokens}
+use Rattle.text_grammar.specs.Spots.{tokens}
+use Rattle.formula_parse.specs.Spots.{spots}
 use Rattle.formula_parse.specs.Parsing.{Cut, Parses}
 use Rattle.formula_parse.specs.OneAnswer.{IsOfTheText}
 use Rattle.formula_parse.specs.declared.tree.Formula.{Formula as Tree}

@@ -4,7 +4,8 @@ use Rattle.dfa_loading.specs.Headers.{headers_of}
 use Rattle.dfa_loading.specs.Loading.{AreListedBy}
 use Rattle.digit_tuple.specs.Steps.{StepLog}
 use Rattle.formula_parse.specs.Grammar.{Reads}
-use Rattle.formula_parse.specs.Spots.{spots, tokens}
+use Rattle.text_grammar.specs.Spots.{tokens}
+use Rattle.formula_parse.specs.Spots.{spots}
 use Rattle.formula_parse.specs.Trees as trees
 use Rattle.formula_parse.specs.Views.{formula_view}
 use Rattle.formula_resolve.specs.FirstMentions.{first_files, first_systems}

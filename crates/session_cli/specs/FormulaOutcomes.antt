@@ -13,7 +13,8 @@ use Rattle.command_head.specs.Grammar.{SpellsNamed}
 use Rattle.formula_parse.specs.Flaws.{mixed_chain, not_linear}
 use Rattle.formula_parse.specs.Grammar.{Reads, IsFlawed}
 use Rattle.formula_parse.specs.Parsing as parsing
-use Rattle.formula_parse.specs.Spots.{spots, tokens}
+use Rattle.text_grammar.specs.Spots.{tokens}
+use Rattle.formula_parse.specs.Spots.{spots}
 use Rattle.formula_parse.specs.Trees as trees
 use Rattle.formula_resolve.specs.FirstMentions.{first_files, first_systems}
 use Rattle.formula_resolve.specs.FreeVariables.{free_variables}

@@ -3,13 +3,13 @@ use Rattle.std.proofs.Common.{◌≡◌, ℕ, ◌+◌, ◌%◌, ◌<◌, ◌≤�
 use Rattle.std.specs.List.{list_all}
 use Rattle.std.proofs.lemmas.Bool.{and_parts}
 use Rattle.std.proofs.lemmas.Fmt.{decimal_by_steps}
-use Rattle.text_grammar.specs.Bytes.{is_letter}
+use Rattle.text_grammar.specs.Bytes.{is_letter, is_alphanumeric}
 use Rattle.digit_tuple.specs.declared.direction.Direction.{Direction}
 use Rattle.digit_tuple.specs.declared.direction.Direction.TheVariants.{Msd, Lsd}
 use Rattle.system_names.specs.declared.system_kind.SystemKind.{SystemKind}
 use Rattle.system_names.specs.declared.system_kind.SystemKind.TheVariants.{Base, Fibonacci}
 use Rattle.system_names.specs.Names.{direction_part, kind_part, IsBuiltIn}
-use Rattle.system_names.specs.UserNames.{is_alphanumeric, is_word_of_letters, IsUserPart, user_name, UserNamesTellSystems, UserNamesAreNotBuiltIn}
+use Rattle.system_names.specs.UserNames.{is_word_of_letters, IsUserPart, user_name, UserNamesTellSystems, UserNamesAreNotBuiltIn}
 use Rattle.system_names.proofs.OneSystem.{one_direction, rest_of}
 
 -- the front of a name says the direction, and what stands after it the part

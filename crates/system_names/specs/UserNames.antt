@@ -2,14 +2,10 @@
 -- bytes, and not `fib`.
 use Rattle.std.specs.Prelude.{◌≡◌, ◌≢◌, ℕ, ◌≤◌, Bool, true, false, ◌&&◌, ◌||◌, List, [], ◌∷◌, ◌++◌, length, codes}
 use Rattle.std.specs.List.{list_all}
-use Rattle.text_grammar.specs.Bytes.{is_letter, is_digit}
+use Rattle.text_grammar.specs.Bytes.{is_alphanumeric, is_letter}
 use Rattle.digit_tuple.specs.declared.direction.Direction.{Direction}
 use Rattle.digit_tuple.specs.declared.direction.Direction.TheVariants.{Msd, Lsd}
 use Rattle.system_names.specs.Names.{direction_part, IsBuiltInName}
-
--- a letter or a digit
-abbrev pub is_alphanumeric : ℕ → Bool
-is_alphanumeric b = is_letter b || is_digit b
 
 -- a letter, and then letters and digits
 abbrev pub is_word_of_letters : List ℕ → Bool

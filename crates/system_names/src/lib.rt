@@ -14,4 +14,4 @@ mod laws;
 pub use laws::{names_tell_systems, user_names_are_not_built_in, user_names_tell_systems};
 pub use naming::{BuiltIn, GREATEST_BASE, LEAST_BASE, built_in};
 pub use system_kind::SystemKind;
-pub use users::{LONGEST_PART, UserName, adder_name, all_alphanumeric, user_name};
+pub use users::{LONGEST_PART, UserName, adder_name, user_name};

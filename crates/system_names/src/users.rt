@@ -1,14 +1,14 @@
 //! Names of the systems that users define.
 ghost use Rattle.std.specs.Prelude.{◌≡◌, ◌≢◌, ℕ, List, IfOk, IsTrue, ◌↔◌, MatchOption};
-ghost use Rattle.std.specs.List.{list_all};
 ghost use Rattle.digit_tuple.specs.declared.direction.Direction.{Direction};
 ghost use Rattle.system_names.specs.Names.{direction_part};
-ghost use Rattle.system_names.specs.UserNames.{IsUserPart, IsUserName, IsUsersName, is_alphanumeric as alphanumeric_is, is_word_of_letters as letters_are, user_name as name_of_user, adder_name as name_of_adder, turned as turned_way};
+ghost use Rattle.system_names.specs.UserNames.{IsUserPart, IsUserName, IsUsersName, is_word_of_letters as letters_are, user_name as name_of_user, adder_name as name_of_adder, turned as turned_way};
 
 use digit_tuple::direction::Direction;
 use digit_tuple::faults::OutOfMemory;
 use digit_tuple::name::Name;
 use std::alloc::Global;
+use text_grammar::all_alphanumeric;
 
 /// The most bytes of what a user may call a system.
 pub const LONGEST_PART: usize = 58;
@@ -119,11 +119,4 @@ fn is_word_of_letters(bytes: &[u8]) -> bool
         [first, others @ ..] => first.is_ascii_alphabetic() && all_alphanumeric(others),
         [] => false,
     }
-}
-
-/// Whether all bytes are letters and digits. It takes no memory.
-pub fn all_alphanumeric(bytes: &[u8]) -> bool
-    ensures { result ≡ list_all alphanumeric_is bytes.now }
-{
-    bytes.iter().all(|byte| byte.is_ascii_alphanumeric())
 }

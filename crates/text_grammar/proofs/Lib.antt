@@ -1,3 +1,8 @@
 -- Lemmas for the contracts of this crate and of those above it.
 pub mod FaultLemmas
 pub mod NumberSteps
+pub mod Decimals
+pub mod FrontLemmas
+pub mod SpotLemmas
+pub mod SignLemmas
+pub mod SystemLemmas

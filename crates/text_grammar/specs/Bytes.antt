@@ -17,6 +17,10 @@ is_digit b = nat_le 48 b && nat_le b 57
 abbrev pub is_letter : ℕ → Bool
 is_letter b = (nat_le 65 b && nat_le b 90) || (nat_le 97 b && nat_le b 122)
 
+-- a letter or a digit
+abbrev pub is_alphanumeric : ℕ → Bool
+is_alphanumeric b = is_letter b || is_digit b
+
 -- a letter, a digit or `_`
 abbrev pub is_name_byte : ℕ → Bool
 is_name_byte b = is_letter b || is_digit b || b == 95

@@ -1,17 +1,24 @@
 -- The longest front of a text whose bytes are of one class.
-use Rattle.std.specs.Prelude.{ℕ, suc, ◌==◌, Bool, not, ◌&&◌, if◌then◌else◌, List, [], ◌∷◌, take, drop}
+use Rattle.std.specs.Prelude.{ℕ, suc, ◌==◌, Bool, false, not, ◌||◌, ◌&&◌, if◌then◌else◌, List, [], ◌∷◌, length, take, drop}
 use Rattle.text_grammar.specs.declared.class.Class.{Class}
-use Rattle.text_grammar.specs.declared.class.Class.TheVariants.{Blank, Digit, Letter, NameByte, Word, Unquoted}
-use Rattle.text_grammar.specs.Bytes.{is_blank, is_digit, is_letter, is_name_byte}
+use Rattle.text_grammar.specs.declared.class.Class.TheVariants.{Blank, Digit, Letter, DigitOrBlank, Alphanumeric, NameByte, Word, Unquoted}
+use Rattle.text_grammar.specs.Bytes.{is_blank, is_digit, is_letter, is_alphanumeric, is_name_byte}
 
 -- whether a byte is of a class
 abbrev pub is_in : Class → ℕ → Bool
 is_in Blank b = is_blank b
 is_in Digit b = is_digit b
 is_in Letter b = is_letter b
+is_in DigitOrBlank b = is_digit b || is_blank b
+is_in Alphanumeric b = is_alphanumeric b
 is_in NameByte b = is_name_byte b
 is_in Word b = not (is_blank b) && not (b == 34)
 is_in Unquoted b = not (b == 34)
+
+-- whether the first byte is of a class
+abbrev pub begins_in : Class → List ℕ → Bool
+begins_in class [] = false
+begins_in class (b ∷ bs) = is_in class b
 
 -- how many bytes at the front are of a class
 abbrev pub front_len : Class → List ℕ → ℕ
@@ -25,3 +32,7 @@ front_of class bytes = take (front_len class bytes) bytes
 -- what comes behind them
 abbrev pub behind_front : Class → List ℕ → List ℕ
 behind_front class bytes = drop (front_len class bytes) bytes
+
+-- whether all bytes are of a class
+abbrev pub all_in : Class → List ℕ → Bool
+all_in class bytes = front_len class bytes == length bytes

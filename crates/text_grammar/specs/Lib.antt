@@ -2,3 +2,7 @@ pub mod Faults
 pub mod Bytes
 pub mod Fronts
 pub mod Numbers
+pub mod Systems
+pub mod Spots
+pub mod Signs
+pub mod Results

@@ -1,5 +1,7 @@
--- Whole numbers of 32 bits: digits, with an optional `-` before them.
-use Rattle.std.specs.Prelude.{ℕ, ◌+◌, ◌*◌, ◌-◌, ◌==◌, nat_lt, Bool, false, if◌then◌else◌, List, [], ◌∷◌, ℤ, pos, negsuc, neg_ℤ}
+-- Whole numbers: decimal digits, with an optional `-` directly before them.
+use Rattle.std.specs.Prelude.{ℕ, ◌+◌, ◌*◌, ◌-◌, ◌==◌, nat_lt, Bool, false, not, ◌&&◌, if◌then◌else◌, List, [], ◌∷◌, length, drop, ℤ, pos, negsuc, neg_ℤ}
+use Rattle.text_grammar.specs.declared.class.Class.TheVariants.{Digit}
+use Rattle.text_grammar.specs.Fronts.{front_len, all_in}
 
 -- whether the first byte is this one
 abbrev pub begins_with : ℕ → List ℕ → Bool
@@ -19,7 +21,27 @@ value_of digits = value_after 0 digits
 abbrev pub signed : Bool → ℕ → ℤ
 signed negative n = if negative then neg_ℤ (pos n) else pos n
 
--- a number of 32 bits, signed
-abbrev pub is_short : ℤ → Bool
-is_short (pos n) = nat_lt n 2147483648
-is_short (negsuc n) = nat_lt n 2147483648
+-- a number from minus the bound to one below the bound: with the bound 2 ^ 31 a number of 32 bits, signed
+abbrev pub is_short : ℕ → ℤ → Bool
+is_short bound (pos n) = nat_lt n bound
+is_short bound (negsuc n) = nat_lt n bound
+
+-- what follows the sign, if there is one
+abbrev pub unsigned : List ℕ → List ℕ
+unsigned bytes = if begins_with 45 bytes then drop 1 bytes else bytes
+
+-- whether these bytes are digits, at least one
+abbrev pub are_digits : List ℕ → Bool
+are_digits bytes = not (length bytes == 0) && all_in Digit bytes
+
+-- whether these bytes are a number: digits, at least one, after a sign or none
+abbrev pub is_number : List ℕ → Bool
+is_number bytes = are_digits (unsigned bytes)
+
+-- the number that they spell
+abbrev pub number_of : List ℕ → ℤ
+number_of bytes = signed (begins_with 45 bytes) (value_of (unsigned bytes))
+
+-- how long the number is with which the bytes begin, or 0 if they begin with none
+abbrev pub number_len : List ℕ → ℕ
+number_len bytes = if front_len Digit (unsigned bytes) == 0 then 0 else (if begins_with 45 bytes then 1 else 0) + front_len Digit (unsigned bytes)

@@ -11,6 +11,10 @@ pub enum Class {
     Digit,
     /// `A` to `Z` and `a` to `z`.
     Letter,
+    /// Digits and blanks.
+    DigitOrBlank,
+    /// Letters and digits.
+    Alphanumeric,
     /// The bytes of names: letters, digits and `_`.
     NameByte,
     /// The bytes of a command's first word: neither a blank nor a double quote.
@@ -28,6 +32,8 @@ impl Class {
             Class::Blank => is_blank(byte),
             Class::Digit => byte.is_ascii_digit(),
             Class::Letter => byte.is_ascii_alphabetic(),
+            Class::DigitOrBlank => byte.is_ascii_digit() || is_blank(byte),
+            Class::Alphanumeric => byte.is_ascii_alphanumeric(),
             Class::NameByte => byte.is_ascii_alphanumeric() || byte == b'_',
             Class::Word => !is_blank(byte) && byte != b'"',
             Class::Unquoted => byte != b'"',

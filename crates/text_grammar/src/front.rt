@@ -1,5 +1,5 @@
 ghost use Rattle.std.specs.Prelude.{◌≡◌, ◌≤◌, length};
-ghost use Rattle.text_grammar.specs.Fronts.{front_len as len_of_front};
+ghost use Rattle.text_grammar.specs.Fronts.{front_len as len_of_front, begins_in as first_in, all_in as all_in_class};
 
 use super::class::Class;
 
@@ -14,4 +14,21 @@ pub fn front_len(class: Class, bytes: &[u8]) -> usize
         }
     }
     bytes.len()
+}
+
+/// Whether the first byte is of the class.
+pub fn begins_in(class: Class, bytes: &[u8]) -> bool
+    ensures { result ≡ first_in class bytes.now }
+{
+    match bytes {
+        [first, ..] => class.contains(*first),
+        [] => false,
+    }
+}
+
+/// Whether all bytes are of the class.
+pub fn all_in(class: Class, bytes: &[u8]) -> bool
+    ensures { result ≡ all_in_class class bytes.now }
+{
+    front_len(class, bytes) == bytes.len()
 }

@@ -1,4 +1,5 @@
-use Rattle.formula_parse.specs.Spots.{spots, tokens}
+use Rattle.text_grammar.specs.Spots.{tokens}
+use Rattle.formula_parse.specs.Spots.{spots}
 use Rattle.formula_parse.proofs.OneAnswer.{one_tree_of}
 use Rattle.formula_parse.proofs.laws.one_tree.Goals as goal
 

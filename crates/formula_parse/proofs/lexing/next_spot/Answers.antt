@@ -1,6 +1,7 @@
 use Rattle.std.proofs.Common.{◌<◌, length, arith}
+use Rattle.std.proofs.lemmas.List.{take_rest}
 use Rattle.formula_parse.specs.LexemeViews.{mode_view}
-use Rattle.formula_parse.proofs.NextSteps.{next_within, next_token, take_rest}
+use Rattle.formula_parse.proofs.NextSteps.{next_within, next_token}
 use Rattle.formula_parse.proofs.lexing.next_spot.Goals as goal
 
 pub overflow_add-result : goal.overflow_add-result

@@ -4,7 +4,8 @@ use Rattle.std.specs.declared.alloc.Global.{Global}
 use Rattle.regex_build.specs.declared.postfix_symbol.PostfixSymbol.{PostfixSymbol}
 use Rattle.regex_build.specs.declared.fault.RegexFault.{RegexFault}
 use Rattle.regex_build.specs.Machine.{ended}
-use Rattle.regex_build.specs.Spots.{spots_from}
+use Rattle.text_grammar.specs.Spots.{spots_from}
+use Rattle.regex_build.specs.Spots.{lexing}
 use Rattle.regex_build.specs.Parsing.{Parses}
 use Rattle.regex_build.specs.Reading.{state_view, IsNext, Ends}
 use Rattle.regex_build.proofs.ParseSteps.{byte_start, byte_next, byte_fault, byte_early, byte_end}
@@ -12,7 +13,7 @@ use Rattle.regex_build.proofs.parsing.read.Goals as goal
 
 -- no token stands from a byte on
 abbrev NoNext : Bool → List ℕ → ℕ → Type 0
-NoNext inside text at = spots_from inside at 0 (drop at text) ≡ []
+NoNext inside text at = spots_from lexing inside at 0 (drop at text) ≡ []
 
 pub loop-spot-init : goal.loop-spot-init
 loop-spot-init c = byte_start c.args.sets.now c.args.text.now (state_view c.new-reading.result) c.new-reading.ensures
