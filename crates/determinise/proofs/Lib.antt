@@ -7,3 +7,5 @@ pub mod BitSetLemmas
 pub mod BitSubsetLemmas
 pub mod ViewedKeyLemmas
 pub mod BitMemberLemmas
+pub mod PlaceLemmas
+pub mod LinkLemmas

@@ -13,8 +13,8 @@ words_of states = (states + 31) / 32
 
 -- a set of states as bits takes few words, and so do sets for each letter together
 pub record HasFewWords (n : Branching) : Type 0 where
-  pub each : words_of (states_of n) ≤ 8192
-  pub together : letters_of n * words_of (states_of n) ≤ 8192
+  pub each : words_of (states_of n) ≤ 32768
+  pub together : letters_of n * words_of (states_of n) ≤ 32768
 
 -- the bit of an edge's target, among the words of its letter
 abbrev pub word_of : ℕ → Edge → BitWord

@@ -6,3 +6,5 @@ pub mod OneWidth
 pub mod Bits
 pub mod BitRows
 pub mod BitSubsets
+pub mod NumberSets
+pub mod Links

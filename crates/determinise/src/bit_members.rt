@@ -5,6 +5,7 @@ ghost use Rattle.std.specs.List.{All, AllPairs};
 ghost use Rattle.digit_tuple.specs.Groups.{some_set};
 ghost use Rattle.digit_tuple.specs.Keys.{AreKeyEdges, edges_to, part_of};
 ghost use Rattle.determinise.specs.Bits.{AddsMembers, members_in};
+ghost use Rattle.determinise.specs.NumberSets.{AreAtPlaces};
 
 use digit_tuple::faults::OutOfMemory;
 use digit_tuple::key_edges::KeyEdges;
@@ -43,14 +44,29 @@ fn push_list(letter: u32, list: &[u32], out: &mut KeyEdges) -> Result<(), OutOfM
     Ok(())
 }
 
-// Adds the numbers whose bits are set, in order.
-fn push_members(words: &[u32], members: &mut Vec<u32>) -> Result<(), OutOfMemory>
+/// Adds the numbers whose bits are set, in order.
+pub fn push_members(words: &[u32], members: &mut Vec<u32>) -> Result<(), OutOfMemory>
     requires few { length words.now ≤ 2 ^ 26 }
     requires empty { members.old.items ≡ [] }
     ensures { OnOk result (members.new.items ≡ members_in words.now) }
 {
     for place in 0..words.len() {
         push_bits(place as u32 * 32, words[place], members)?;
+    }
+    Ok(())
+}
+
+/// Adds the numbers whose bits are set, in order, where only the words at these places have bits.
+pub fn push_at(words: &[u32], places: &[u32], members: &mut Vec<u32>) -> Result<(), OutOfMemory>
+    requires few { length words.now ≤ 2 ^ 27 }
+    requires within { All (λ place. place < length words.now) places.now }
+    requires ascending { AllPairs (λ p q. p < q) places.now }
+    requires places { AreAtPlaces words.now places.now }
+    requires empty { members.old.items ≡ [] }
+    ensures { OnOk result (members.new.items ≡ members_in words.now) }
+{
+    for place in places {
+        push_bits(*place * 32, words[*place as usize], members)?;
     }
     Ok(())
 }

@@ -14,7 +14,7 @@ use digit_tuple::nfa::Nfa;
 use std::alloc::Global;
 
 /// The most words that sets of states as bits, one for each letter, take together.
-pub const MOST_WORDS: u32 = 8192;
+pub const MOST_WORDS: u32 = 32768;
 
 /// The edges of each state as a row of bits: for each letter in turn so many words, whose bits say
 /// which states it leads to. Words without a bit are left out. Beside them the accepting states as bits.

@@ -13,6 +13,12 @@ pub mod bit_rows;
 /// The numbers whose bits are set.
 pub mod bit_members;
 
+/// Numbers put in order by their bits.
+pub mod number_set;
+
+/// Edges put in order by their letters and targets.
+pub mod edge_order;
+
 /// The sets of states that words lead to, as bits.
 pub mod bit_subsets;
 

@@ -14,12 +14,12 @@ use digit_tuple::key_graph::KeyGraph;
 use digit_tuple::nfa::Nfa;
 use std::alloc::Global;
 
-// For so many words of bits that have to be looked at, an edge may as well be sorted.
-const WORDS_FOR_AN_EDGE: usize = 32;
+// For so many words of bits that have to be looked at, an edge may as well be gathered by its letter.
+const WORDS_FOR_AN_EDGE: usize = 8;
 
 /// The sets of states that words lead to from the states of a first set, each as the list of its
-/// states in order. The edges from a set are gathered as bits, which puts them in order, unless they
-/// are few. The empty set is no key.
+/// states in order. The edges from a set are gathered as bits of all letters together, unless they are
+/// few. The empty set is no key.
 #[derive(Clone, Copy)]
 pub struct RowSubsets<'a> {
     pub nfa: &'a Nfa,

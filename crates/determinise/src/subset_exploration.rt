@@ -30,9 +30,9 @@ use std::alloc::Global;
 /// exactly where the width passes the limit, and `Letters` never.
 ///
 /// Keys are sets as bits where there are at most 512 states with many edges, and else lists of states. The
-/// edges from a key are gathered as bits, one set for each letter, where these take at most 8,192 words
-/// together, and from a list only where these words are not many more than its members' edges; else edges
-/// are sorted.
+/// edges from a key are gathered as bits, one set for each letter, where these take at most 32,768 words
+/// together, and from a list only where these words are not many more than its members' edges; else they are
+/// gathered letter by letter.
 pub fn explore_subsets(
     alloc: Global,
     nfa: &Nfa,

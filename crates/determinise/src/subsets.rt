@@ -7,6 +7,8 @@ ghost use Rattle.digit_tuple.specs.declared.edges.Edge.{Edge};
 ghost use Rattle.determinise.specs.Subsets.{IsStateSet, set_after, has_accepting};
 ghost use Rattle.determinise.specs.SubsetLaws.{after_is_state_set};
 
+use crate::edge_order::in_order;
+use digit_tuple::blanks::Blanks;
 use digit_tuple::edges::Edge;
 use digit_tuple::faults::OutOfMemory;
 use digit_tuple::groups::group_into;
@@ -48,7 +50,9 @@ impl KeyGraph for Subsets<'_> {
         if key.len() == 1 {
             return group_into(self.nfa.edges(key[0]), out);
         }
-        let edges = edges_from(alloc, self.nfa, key)?;
+        let mut blanks = out.take_blanks(alloc);
+        let edges = edges_from(alloc, self.nfa, key, &mut blanks)?;
+        out.give_blanks(blanks);
         group_into(&edges, out)
     }
 
@@ -58,7 +62,12 @@ impl KeyGraph for Subsets<'_> {
 }
 
 // The edges from the states, in order, none twice.
-fn edges_from(alloc: Global, nfa: &Nfa, set: &[u32]) -> Result<Vec<Edge>, OutOfMemory>
+fn edges_from(
+    alloc: Global,
+    nfa: &Nfa,
+    set: &[u32],
+    blanks: &mut Blanks,
+) -> Result<Vec<Edge>, OutOfMemory>
     requires { All (λ q. q < states_of nfa.now) set.now }
     ensures ascending { IfOk result (λ edges. AllPairs IsBefore edges.items) }
     ensures members { IfOk result (λ edges. (edge : Edge) → Contains edges.items edge ↔ ((p : ℕ) × Contains set.now p × Contains (edges_of nfa.now p) edge)) }
@@ -67,7 +76,11 @@ fn edges_from(alloc: Global, nfa: &Nfa, set: &[u32]) -> Result<Vec<Edge>, OutOfM
     for state in set {
         edges.extend_from_slice(nfa.edges(*state))?;
     }
-    edges.sort_unstable();
-    edges.dedup();
-    Ok(edges)
+    in_order(
+        alloc,
+        &edges,
+        nfa.alphabet().letters(),
+        nfa.states(),
+        blanks,
+    )
 }

@@ -24,6 +24,7 @@ pub mod Steps
 pub mod StepResults
 pub mod Keys
 pub mod KeySpans
+pub mod Blanks
 pub mod KeyParts
 pub mod KeyHashes
 pub mod Slots

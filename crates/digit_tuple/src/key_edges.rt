@@ -5,6 +5,7 @@ ghost use Rattle.std.specs.List.{list_any};
 ghost use Rattle.digit_tuple.specs.Keys.{AreKeyEdges, KeyEdge, edge_at, part_of, some_nonzero};
 ghost use Rattle.digit_tuple.specs.KeySpans.{AreSpans, edges_in};
 
+use crate::blanks::Blanks;
 use crate::edges::Edge;
 use crate::faults::OutOfMemory;
 use std::alloc::Global;
@@ -12,12 +13,14 @@ use std::marker::Model;
 use std::mem;
 
 /// Edges from a key, each a letter and the key that it leads to, in one buffer that is used again. Beside
-/// them there is a spare buffer, in which numbers may be gathered before they are edges.
+/// them there is a spare buffer, in which numbers may be gathered before they are edges, and lists of zeros,
+/// which a step may use and give back.
 #[derive(Drop)]
 pub struct KeyEdges {
     spans: Vec<KeySpan>,
     numbers: Vec<u32>,
     spare: Vec<u32>,
+    blanks: Blanks,
 }
 
 // The letter of an edge, and where its key stands among the numbers.
@@ -49,6 +52,7 @@ impl KeyEdges {
             spans: Vec::new(alloc),
             numbers: Vec::new(alloc),
             spare: Vec::new(alloc),
+            blanks: Blanks::new(alloc),
         }
     }
 
@@ -99,6 +103,20 @@ impl KeyEdges {
         ensures { self.new ≡ self.old }
     {
         self.spare = list;
+    }
+
+    /// Takes the lists of zeros out.
+    pub fn take_blanks(&mut self, alloc: Global) -> Blanks
+        ensures { self.new ≡ self.old }
+    {
+        mem::replace(&mut self.blanks, Blanks::new(alloc))
+    }
+
+    /// Gives lists of zeros back, for the next key.
+    pub fn give_blanks(&mut self, blanks: Blanks)
+        ensures { self.new ≡ self.old }
+    {
+        self.blanks = blanks;
     }
 
     /// Makes each letter in turn lead to its part of the numbers, which has so many, unless all of them are 0.

@@ -88,6 +88,9 @@ pub mod stepped;
 /// The automaton of no words.
 pub mod no_words;
 
+/// Lists of zeros.
+pub mod blanks;
+
 /// Edges from a key, in one buffer.
 pub mod key_edges;
 
