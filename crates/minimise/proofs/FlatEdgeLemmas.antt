@@ -12,10 +12,9 @@ use Rattle.digit_tuple.proofs.DfaLemmas.{row_at}
 use Rattle.minimise.specs.Classes.{class_of, dead_class}
 use Rattle.minimise.specs.EdgeLetters.{letter_at, with_letters}
 use Rattle.minimise.specs.FlatEdges.{AreLaidOut, flat_edge}
-use Rattle.minimise.specs.Refinement.{AreAlike}
+use Rattle.minimise.specs.Alike.{AreAlike}
 use Rattle.minimise.proofs.EdgeLetterLemmas.{IsInPlace, letter_before, letter_behind, same_with}
-use Rattle.minimise.proofs.SignatureLemmas.{class_edges-same}
-use Rattle.minimise.proofs.StabilityLemmas.{alike_from_rows}
+use Rattle.minimise.proofs.ClassEdgeLemmas.{alike_from_rows, class_edges-same}
 
 -- no letters yet, and no targets
 same-none : (letters : Option (List ℕ)) (targets : List ℕ) → IfSome letters (λ list. list ≡ []) → targets ≡ [] → IfSome letters (λ list. length list ≡ length targets)

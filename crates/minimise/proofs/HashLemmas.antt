@@ -9,12 +9,11 @@ use Rattle.minimise.specs.Classes.{class_of, dead_class}
 use Rattle.minimise.specs.CoarseClasses.{AreCoarseClasses, AreCoarseNumbers}
 use Rattle.minimise.specs.FirstPlaces.{AreFirstPlaces}
 use Rattle.minimise.specs.Hashes.{AreHashed, hash_edge, hash_edges, hash_of, output_hash}
-use Rattle.minimise.specs.Refinement.{AreAlike}
-use Rattle.minimise.specs.Signatures.{class_edges}
+use Rattle.minimise.specs.Alike.{AreAlike}
+use Rattle.minimise.specs.ClassEdges.{class_edges}
 use Rattle.minimise.proofs.FirstPlaceLemmas.{All-first_places, same_first_place}
 use Rattle.minimise.proofs.ResidualLemmas.{alike_residual}
-use Rattle.minimise.proofs.SignatureLemmas.{class_edge, class_edges-push}
-use Rattle.minimise.proofs.StabilityLemmas.{rows_from_alike}
+use Rattle.minimise.proofs.ClassEdgeLemmas.{class_edge, class_edges-push, rows_from_alike}
 
 -- more edges
 hash_edges-append : (first end hash : ℕ) (es fs : List Edge) → hash_edges first end hash (es ++ fs) ≡ hash_edges first end (hash_edges first end hash es) fs

@@ -46,7 +46,7 @@ letter_within letters states (e ∷ es) a t range leads = by (e.letter == a) ref
 
 module _ (d : Automaton) (outputs : List ℕ) (given : length outputs ≡ states_of d) (table : IsTable (letters_of d) d.states) where
   -- a letter leads where next_of says
-  next_is : (q a t : ℕ) → step_of d q a ≡ Some t → next_of d q a ≡ t
+  pub next_is : (q a t : ℕ) → step_of d q a ≡ Some t → next_of d q a ≡ t
   next_is q a t leads = ap (λ (o : Option ℕ). unwrap_or o (states_of d)) leads
 
   step_is : (q a : ℕ) → next_of d q a < states_of d → step_of d q a ≡ Some (next_of d q a)
@@ -63,19 +63,24 @@ module _ (d : Automaton) (outputs : List ℕ) (given : length outputs ≡ states
       by (inl less) = less
       by (inr past) = absurd (none-some t (sym (ap (λ (es : List Edge). target_by es a) (no_edges_past d q past)) ∙ leads))
 
+  -- the edges into a union
+  module _ (edges : EdgeLists) (turned : AreTurned d edges) (into : List ℕ) (union : IsUnion d outputs into) (a : ℕ) where
+    pub edge_there : (q : ℕ) → Contains into (next_of d q a) → Contains (flat_map (edges_into edges) into) (edge_to a q)
+    edge_there q there =
+        let inside : next_of d q a < states_of d = All-contains (λ t. t < states_of d) into (next_of d q a) union.within there in
+        let leads = step_is q a inside in
+        Contains-flat_map (edges_into edges) into (next_of d q a) (edge_to a q) there ((turned.leads (next_of d q a) a q).1 (from_within q a (next_of d q a) leads, leads))
+
   -- the states from which a letter leads into a union
   module _ (edges : EdgeLists) (turned : AreTurned d edges) (into : List ℕ) (union : IsUnion d outputs into) (a : ℕ) (sources : List ℕ) (gathered : IsGathered (flat_map (edges_into edges) into) a sources) where
-    led : (q : ℕ) → Contains sources q → (t : ℕ) × Contains into t × (q < states_of d) × (step_of d q a ≡ Some t)
+    pub led : (q : ℕ) → Contains sources q → (t : ℕ) × Contains into t × (q < states_of d) × (step_of d q a ≡ Some t)
     led q there =
         let found = Contains-from_flat_map (edges_into edges) into (edge_to a q) ((gathered.targets q).0 there) in
         let leads = (turned.leads found.0 a q).0 found.2 in
         (found.0, found.1, leads.0, leads.1)
 
-    leading : (q : ℕ) → Contains into (next_of d q a) → Contains sources q
-    leading q there =
-        let inside : next_of d q a < states_of d = All-contains (λ t. t < states_of d) into (next_of d q a) union.within there in
-        let leads = step_is q a inside in
-        (gathered.targets q).1 (Contains-flat_map (edges_into edges) into (next_of d q a) (edge_to a q) there ((turned.leads (next_of d q a) a q).1 (from_within q a (next_of d q a) leads, leads)))
+    pub leading : (q : ℕ) → Contains into (next_of d q a) → Contains sources q
+    leading q there = (gathered.targets q).1 (edge_there edges turned into union a q there)
 
     pub IsUnion-sources : IsUnion d outputs sources
     IsUnion-sources = record {
@@ -103,14 +108,14 @@ IsUnion-live d outputs classes states coarse are = record {
 module _ (d : Automaton) (outputs : List ℕ) where
   -- the states of a class in a union
   module _ (classes : List ℕ) (coarse : IsCoarse d outputs classes) (union : List ℕ) (is : IsUnion d outputs union) (class : ℕ) (states : List ℕ) (gathered : IsGathered (edges_by_class classes union) class states) where
-    in_class : (q : ℕ) → Contains (edges_by_class classes union) (edge_to class q) → Contains union q × (class_of classes q ≡ class)
+    pub in_class : (q : ℕ) → Contains (edges_by_class classes union) (edge_to class q) → Contains union q × (class_of classes q ≡ class)
     in_class q there =
         let found = Contains-from_map (λ (x : ℕ). edge_to (class_of classes x) x) union (edge_to class q) there in
         let same : found.0 ≡ q = ap (λ (e : Edge). e.target) found.2 in
         let one : class_of classes found.0 ≡ class = ap (λ (e : Edge). e.letter) found.2 in
         (subst (Contains union) same found.1, ap (class_of classes) (sym same) ∙ one)
 
-    of_class : (q : ℕ) → Contains union q → class_of classes q ≡ class → Contains states q
+    pub of_class : (q : ℕ) → Contains union q → class_of classes q ≡ class → Contains states q
     of_class q there one = (gathered.targets q).1
         (subst (λ (a : ℕ). Contains (edges_by_class classes union) (edge_to a q)) one (Contains-map (λ (x : ℕ). edge_to (class_of classes x) x) union q there))
 
@@ -181,7 +186,7 @@ module _ (d : Automaton) (outputs classes states places : List ℕ) (spans : Lis
   }
 
   -- the state at a place
-  state_within : (place : ℕ) → place < length states → get_or states place 0 < states_of d
+  pub state_within : (place : ℕ) → place < length states → get_or states place 0 < states_of d
   state_within place small = omega (arith, parted.order.states_within place small, parted.count)
 
   module _ (class : ℕ) (made : class < length spans) where
@@ -195,7 +200,7 @@ module _ (d : Automaton) (outputs classes states places : List ℕ) (spans : Lis
     fits = parted.spanned.within class made
 
     -- a state of the class stands in its span
-    place_of : (q : ℕ) → q < states_of d → class_of classes q ≡ class → (place : ℕ) × (start ≤ place) × (place < end) × (get_or states place 0 ≡ q)
+    pub place_of : (q : ℕ) → q < states_of d → class_of classes q ≡ class → (place : ℕ) × (start ≤ place) × (place < end) × (get_or states place 0 ≡ q)
     place_of q small is =
         let place = get_or places q 0 in
         let low : place < length states = parted.order.places_within q (omega (arith, small, parted.count)) in
@@ -240,6 +245,7 @@ module _ (d : Automaton) (outputs classes states places : List ℕ) (spans : Lis
         coarse = parted.coarse;
         order = order;
         spanned = AreSpans-moved classes states spans parted.spanned class made new set middle moved;
+        filled = parted.filled;
         live = parted.live;
         made = parted.made;
       }
@@ -283,9 +289,18 @@ module _ (d : Automaton) (outputs classes states places : List ℕ) (spans : Lis
     below q low (inl there) = omega (arith, cut.width, given.there q there)
     below q low (inr none) = omega (arith, cut.width, given.elsewhere q none, parted.below q low)
 
+    -- each class still has a state
+    filled : middle ≢ last → (middle ≢ first) ⊎ (class ≡ 0) → (c : ℕ) → 0 < c → c < length new_spans → (c ≡ length spans) ⊎ (c ≡ length spans → ⊥) → (c ≡ class) ⊎ (c ≡ class → ⊥) → (span_of new_spans c).start < (span_of new_spans c).end
+    filled some rest c live small (inl is) at_class = subst (λ (k : ℕ). (span_of new_spans k).start < (span_of new_spans k).end) (sym is) (omega (arith, cut.next_start, cut.next_end, some, moved.before_end))
+    filled some (inl others) c live small (inr old) (inl is) = subst (λ (k : ℕ). (span_of new_spans k).start < (span_of new_spans k).end) (sym is) (omega (arith, cut.start, cut.end, others, moved.after_start))
+    filled some (inr sink) c live small (inr old) (inl is) = absurd (omega (arith, live, is, sink))
+    filled some rest c live small (inr old) (inr other) =
+        let before : c < length spans = omega (arith, small, cut.width, old) in
+        subst (λ (span : ClassSpan). span.start < span.end) (sym (cut.others c before other)) (parted.filled c live before)
+
     -- one more class is pending
-    pub AreParted-cut : (next : ℕ) (waiting : List ℕ) → 0 < next → next < length new_spans → waiting ≡ pending ++ next ∷ [] → AreParted d outputs new_classes states places new_spans waiting
-    AreParted-cut next waiting live small pushed = record {
+    pub AreParted-cut : middle ≢ last → (middle ≢ first) ⊎ (class ≡ 0) → (next : ℕ) (waiting : List ℕ) → 0 < next → next < length new_spans → waiting ≡ pending ++ next ∷ [] → AreParted d outputs new_classes states places new_spans waiting
+    AreParted-cut some rest next waiting live small pushed = record {
       table = parted.table;
       width = given.width ∙ parted.width;
       count = parted.count;
@@ -296,6 +311,7 @@ module _ (d : Automaton) (outputs classes states places : List ℕ) (spans : Lis
       order = parted.order;
       spanned = AreSpans-cut classes states spans parted.spanned class made new_classes places new_spans middle parted.order moved.after_start moved.before_end cut given
           (λ place low. parted.below (get_or states place 0) (omega (arith, state_within d outputs classes states places spans pending parted place low)));
+      filled = λ c from low. filled some rest c from low (cases_eq c (length spans)) (cases_eq c class);
       live = subst (All (λ c. 0 < c)) (sym pushed) (All-push (λ c. 0 < c) pending next parted.live live);
       made = subst (All (λ c. c < length new_spans)) (sym pushed)
           (All-push (λ c. c < length new_spans) pending next (λ k z within. omega (arith, parted.made k z within, cut.width)) small);
@@ -326,6 +342,7 @@ AreParted-one d outputs span table from to = record {
     from_start = λ place low. omega (arith, from, ap (λ (k : ℕ). (span_of (span ∷ []) k).start) (alike (get_or (range_with_len 0 (states_of d)) place 0)));
     to_end = λ place low. omega (arith, low, size, to, ap (λ (k : ℕ). (span_of (span ∷ []) k).end) (alike (get_or (range_with_len 0 (states_of d)) place 0)));
   };
+  filled = λ class live made. absurd (omega (arith, live, made));
   live = λ k z within. absurd (omega arith);
   made = λ k z within. absurd (omega arith);
 }
@@ -374,6 +391,7 @@ module _ (d : Automaton) (outputs classes states places : List ℕ) (spans : Lis
     coarse = parted.coarse;
     order = parted.order;
     spanned = parted.spanned;
+    filled = parted.filled;
     live = λ k z within. All-contains (λ c. 0 < c) pending (get_or rest k z) parted.live (among k z within);
     made = λ k z within. All-contains (λ c. c < length spans) pending (get_or rest k z) parted.made (among k z within);
   }

@@ -17,11 +17,11 @@ use Rattle.minimise.specs.Canonical.{IsCanonicalWithClasses}
 use Rattle.minimise.specs.Classes.{class_of, next_of, dead_class}
 use Rattle.minimise.specs.CoarseClasses.{AreResidualClasses}
 use Rattle.minimise.specs.Leaders.{AreLeaders}
-use Rattle.minimise.specs.Signatures.{class_edges}
+use Rattle.minimise.specs.ClassEdges.{class_edges}
 use Rattle.minimise.specs.Quotient.{IsQuotient, IsClass, leader_of, next_class, key_output, class_accepts, key_edge}
 use Rattle.minimise.proofs.SinkLemmas.{row_of, next_within}
 use Rattle.minimise.proofs.ClassFromLemmas.{class_from-sink, class_from-next}
-use Rattle.minimise.proofs.SignatureLemmas.{class_edge, class_edges-dead, class_edges-live, class_edges-all, class_edges-pairs, class_edges-lead}
+use Rattle.minimise.proofs.ClassEdgeLemmas.{class_edge, class_edges-dead, class_edges-live, class_edges-all, class_edges-pairs, class_edges-lead}
 
 -- key edges lead where the edges do
 pub key_by-edges : (es : List Edge) (a : ℕ) → key_by (map key_edge es) a ≡ option_map (λ class. class ∷ []) (target_by es a)

@@ -1,37 +1,15 @@
 -- Classes of which states are compared with a leader.
-use Rattle.std.proofs.Common.{◌≡◌, ℕ, ◌+◌, ◌<◌, ◌≤◌, List, ◌∷◌, refl, sym, ap, ◌∙◌, subst, arith}
-use Rattle.digit_tuple.specs.declared.edges.Edge.{Edge}
-use Rattle.digit_tuple.specs.Deterministic.{Automaton, IsTable, letters_of, states_of, edges_of}
-use Rattle.minimise.specs.Classes.{class_of, dead_class}
-use Rattle.minimise.specs.Signatures.{class_edges, numbers_in}
-use Rattle.minimise.specs.Refinement.{AreAlike}
-use Rattle.minimise.proofs.SignatureLemmas.{alike_from_signature, signature_from_alike, numbers_in-tells}
+use Rattle.std.proofs.Common.{◌≡◌, ℕ, ◌+◌, ◌<◌, ◌≤◌, List, refl, sym, ap, ◌∙◌, subst, arith}
+use Rattle.digit_tuple.specs.Deterministic.{Automaton, states_of}
+use Rattle.minimise.specs.Classes.{class_of}
+use Rattle.minimise.specs.Alike.{AreAlike}
+use Rattle.minimise.specs.CoarseClasses.{TellOutputs}
 
 -- states of one class are alike
 abbrev pub IsStable : Automaton → List ℕ → Type 0
 IsStable d classes = (p q : ℕ) → p ≤ states_of d → q ≤ states_of d → class_of classes p ≡ class_of classes q → AreAlike d classes p q
 
--- states of one class have one output
-abbrev pub TellOutputs : Automaton → List ℕ → List ℕ → Type 0
-TellOutputs d outputs classes = (p q : ℕ) → p ≤ states_of d → q ≤ states_of d → class_of classes p ≡ class_of classes q → class_of outputs p ≡ class_of outputs q
-
 module _ (d : Automaton) (classes : List ℕ) where
-  abbrev row : ℕ → List Edge
-  row q = class_edges classes (dead_class d classes) (edges_of d q)
-
-  module _ (table : IsTable (letters_of d) d.states) (p q : ℕ) where
-    -- states of one class with one row are alike
-    pub alike_from_rows : class_of classes p ≡ class_of classes q → row p ≡ row q → AreAlike d classes p q
-    alike_from_rows own rows = alike_from_signature d classes table p q (
-        ap (λ (c : ℕ). c ∷ numbers_in (row p)) own ∙ ap (λ (es : List Edge). class_of classes q ∷ numbers_in es) rows)
-
-    -- states that are alike have one row
-    pub rows_from_alike : AreAlike d classes p q → row p ≡ row q
-    rows_from_alike alike =
-        let same = signature_from_alike d classes table p q alike in
-        let numbers : numbers_in (row p) ≡ numbers_in (row q) = cc in
-        numbers_in-tells (row p) (row q) numbers
-
   pub AreAlike-refl : (q : ℕ) → AreAlike d classes q q
   AreAlike-refl q = record { own = refl; next = λ a inside. refl }
 

@@ -4,7 +4,7 @@ use Rattle.digit_tuple.specs.Deterministic.{Automaton, edges_of, states_of}
 use Rattle.digit_tuple.specs.KeyHashes.{mixed}
 use Rattle.digit_tuple.specs.declared.edges.Edge.{Edge}
 use Rattle.minimise.specs.Classes.{class_of, dead_class}
-use Rattle.minimise.specs.Signatures.{class_edges}
+use Rattle.minimise.specs.ClassEdges.{class_edges}
 
 -- the hash with one more edge, where it is by a letter from the first to before the end
 abbrev pub hash_edge : ℕ → ℕ → ℕ → Edge → ℕ

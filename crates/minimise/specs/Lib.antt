@@ -5,8 +5,9 @@ pub mod Outputs
 pub mod Canonical
 pub mod Tracked
 pub mod CoarseClasses
-pub mod Signatures
-pub mod Refinement
+pub mod OutputParts
+pub mod ClassEdges
+pub mod Alike
 pub mod FirstPlaces
 pub mod PlaceSlots
 pub mod Hashes
@@ -17,6 +18,8 @@ pub mod TurnedEdges
 pub mod Leaders
 pub mod Gathering
 pub mod StateOrder
+pub mod Pending
+pub mod Settled
 pub mod Partition
 pub mod Quotient
 pub mod QuotientLaws

@@ -19,11 +19,3 @@ bit_of b = if b then 1 else 0
 -- for each state 1 where it accepts, and 0 elsewhere
 abbrev pub bits_of : Automaton → List ℕ
 bits_of d = map (λ (state : State). bit_of state.accepting) d.states
-
--- the classes are the numbers below count, and states and the sink have one class exactly where they have one output
-pub record AreOutputClasses (outputs classes : List ℕ) (count : ℕ) : Type 0 where
-  pub width : length classes ≡ length outputs + 1
-  pub small : count ≤ length outputs + 1
-  pub below : (q : ℕ) → q ≤ length outputs → class_of classes q < count
-  pub onto : (k : ℕ) → k < count → (q : ℕ) × (q ≤ length outputs) × (class_of classes q ≡ k)
-  pub same : (p q : ℕ) → p ≤ length outputs → q ≤ length outputs → class_of classes p ≡ class_of classes q ↔ (class_of outputs p ≡ class_of outputs q)

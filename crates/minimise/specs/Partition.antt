@@ -5,6 +5,7 @@ use Rattle.digit_tuple.specs.Deterministic.{Automaton, IsTable, letters_of, stat
 use Rattle.minimise.specs.Outputs.{SameOutputs}
 use Rattle.minimise.specs.Classes.{class_of}
 use Rattle.minimise.specs.CoarseClasses.{IsCoarse}
+use Rattle.minimise.specs.Settled.{AreAllPending, AreSettled}
 use Rattle.minimise.specs.StateOrder.{AreInverse}
 use Rattle.minimise.specs.TurnedEdges.{AreTurned}
 use Rattle.minimise.specs.declared.machine.Machine.{Machine}
@@ -47,7 +48,7 @@ pub record AreSpans (classes states : List ℕ) (spans : List ClassSpan) : Type 
   pub from_start : (place : ℕ) → place < length states → (span_of spans (class_of classes (slice_index states place))).start ≤ place
   pub to_end : (place : ℕ) → place < length states → place < (span_of spans (class_of classes (slice_index states place))).end
 
--- the states of each class stand in its span, the sink's class is 0 and not pending, and states from which words lead to
+-- the states of each class stand in its span, each class but the sink's has one, the sink's class is 0 and not pending, and states from which words lead to
 -- the same outputs are never parted
 pub record AreParted (d : Automaton) (outputs classes states places : List ℕ) (spans : List ClassSpan) (pending : List ℕ) : Type 0 where
   pub table : IsTable (letters_of d) d.states
@@ -59,6 +60,7 @@ pub record AreParted (d : Automaton) (outputs classes states places : List ℕ) 
   pub coarse : IsCoarse d outputs classes
   pub order : AreInverse states places
   pub spanned : AreSpans classes states spans
+  pub filled : (class : ℕ) → 0 < class → class < length spans → (span_of spans class).start < (span_of spans class).end
   pub live : All (λ class. 0 < class) pending
   pub made : All (λ class. class < length spans) pending
 
@@ -67,7 +69,17 @@ pub record IsPartition (m : Machine) (p : Partition) : Type 0 where
   pub turned : AreTurned m.dfa.now p.turned
   pub parted : AreParted m.dfa.now m.outputs.now p.classes.items p.states.items p.places.items p.spans.items p.pending
 
--- there are as many classes as before, or more, and each that is new has made one pending at most
+-- there are as many classes as before, or more, and each that is new has made one pending at most; no states have come into
+-- one class, and those that were settled still are
 pub record HasGrown (old new : Partition) : Type 0 where
   pub classes : length old.spans.items ≤ length new.spans.items
   pub pending : length new.pending + length old.spans.items ≤ length old.pending + length new.spans.items
+  pub parted : (p q : ℕ) → class_of new.classes.items p ≡ class_of new.classes.items q → class_of old.classes.items p ≡ class_of old.classes.items q
+  pub settled : (p q : ℕ) → AreSettled old.classes.items old.pending p q → AreSettled new.classes.items new.pending p q
+
+-- the states of a class are apart from those of the set, all others have their old classes, and parts of the sink's class are pending
+pub record IsSplit (old new : Partition) (class : ℕ) (set : List ℕ) : Type 0 where
+  pub apart : (p q : ℕ) → class_of old.classes.items p ≡ class → class_of new.classes.items p ≡ class_of new.classes.items q → Contains set p → Contains set q
+  pub others : (q : ℕ) → ¬ (class_of old.classes.items q ≡ class) → class_of new.classes.items q ≡ class_of old.classes.items q
+  pub outside : (q : ℕ) → ¬ Contains set q → class_of new.classes.items q ≡ class_of old.classes.items q
+  pub waiting : class ≡ 0 → AreAllPending (length old.spans.items) old.pending → AreAllPending (length new.spans.items) new.pending

@@ -4,7 +4,7 @@ ghost use Rattle.std.specs.Prelude.{◌≡◌, ◌+◌, ◌<◌, ◌++◌, [], l
 ghost use Rattle.std.specs.List.{All};
 ghost use Rattle.digit_tuple.specs.Deterministic.{edges_of, states_of};
 ghost use Rattle.minimise.specs.Classes.{dead_class};
-ghost use Rattle.minimise.specs.Signatures.{class_edges};
+ghost use Rattle.minimise.specs.ClassEdges.{class_edges};
 
 use digit_tuple::dfa::Dfa;
 use digit_tuple::edges::Edge;

@@ -1,8 +1,7 @@
 //! The classes of states that are the residuals: what words that follow lead to.
 //!
 //! Rounds by hashes make them at once where few rounds do. Where they could go on for long, as where states
-//! stand in a long chain, Hopcroft's algorithm goes on from the classes that they leave. A comparison of all
-//! states tells whether that was all. Rounds by whole signatures are left for where it was not.
+//! stand in a long chain, Hopcroft's algorithm goes on from the classes that they leave, each parted by outputs.
 
 ghost use Rattle.std.specs.Prelude.{IfOk};
 ghost use Rattle.minimise.specs.CoarseClasses.{AreResidualClasses};
@@ -10,10 +9,9 @@ ghost use Rattle.minimise.specs.Outputs.{HasOutputs};
 
 use crate::flat_edges::FlatEdges;
 use crate::machine::Machine;
+use crate::output_parts::parted_by_outputs;
 use crate::partition::parted;
-use crate::refinement::refined_classes;
 use crate::rounds::classes_by_rounds;
-use crate::stability::is_stable;
 use digit_tuple::faults::OutOfMemory;
 use std::alloc::Global;
 
@@ -28,9 +26,8 @@ pub fn residual_classes(alloc: Global, machine: &Machine) -> Result<Vec<u32>, Ou
     if rounds.stable {
         return Ok(rounds.classes);
     }
-    let classes = parted(alloc, machine, &flat, rounds.classes)?;
-    if is_stable(alloc, machine, &flat, &classes)? {
-        return Ok(classes);
-    }
-    refined_classes(alloc, machine)
+    let classes = parted_by_outputs(alloc, machine, &rounds.classes)?;
+    // Memory goes before more is taken.
+    drop(rounds);
+    parted(alloc, machine, &flat, classes)
 }

@@ -2,7 +2,7 @@
 
 ghost use Rattle.std.specs.Prelude.{◌<◌, length, OnOk};
 ghost use Rattle.std.specs.List.{All, flat_map};
-ghost use Rattle.minimise.specs.Gathering.{IsGathered, edges_by_class};
+ghost use Rattle.minimise.specs.Gathering.{HaveLetters, IsGathered, edges_by_class};
 ghost use Rattle.minimise.specs.TurnedEdges.{edges_into};
 
 use crate::turned_edges::TurnedEdges;
@@ -19,7 +19,8 @@ pub fn sources_by_letter(
     edges: &mut Vec<Edge>,
     out: &mut KeyEdges,
 ) -> Result<(), OutOfMemory>
-    ensures { OnOk result (All (λ part. IsGathered (flat_map (edges_into turned.now) set.now) part.letter part.key) out.new) }
+    ensures gathered { OnOk result (All (λ part. IsGathered (flat_map (edges_into turned.now) set.now) part.letter part.key) out.new) }
+    ensures letters { OnOk result (HaveLetters out.new (flat_map (edges_into turned.now) set.now)) }
 {
     edges.clear();
     for state in set {
@@ -37,7 +38,8 @@ pub fn states_by_class(
     out: &mut KeyEdges,
 ) -> Result<(), OutOfMemory>
     requires { All (λ q. q < length classes.now) set.now }
-    ensures { OnOk result (All (λ part. IsGathered (edges_by_class classes.now set.now) part.letter part.key) out.new) }
+    ensures gathered { OnOk result (All (λ part. IsGathered (edges_by_class classes.now set.now) part.letter part.key) out.new) }
+    ensures letters { OnOk result (HaveLetters out.new (edges_by_class classes.now set.now)) }
 {
     edges.clear();
     for state in set {
@@ -51,7 +53,8 @@ pub fn states_by_class(
 
 // Writes the targets of the edges, by letter.
 fn gather(edges: &mut Vec<Edge>, out: &mut KeyEdges) -> Result<(), OutOfMemory>
-    ensures { OnOk result (All (λ part. IsGathered edges.old.items part.letter part.key) out.new) }
+    ensures gathered { OnOk result (All (λ part. IsGathered edges.old.items part.letter part.key) out.new) }
+    ensures letters { OnOk result (HaveLetters out.new edges.old.items) }
 {
     edges.sort_unstable();
     edges.dedup();

@@ -6,7 +6,7 @@ ghost use Rattle.digit_tuple.specs.Deterministic.{edges_of, states_of};
 ghost use Rattle.minimise.specs.Classes.{dead_class};
 ghost use Rattle.minimise.specs.EdgeLetters.{listed};
 ghost use Rattle.minimise.specs.FlatEdges.{AreLaidOut};
-ghost use Rattle.minimise.specs.Signatures.{class_edges};
+ghost use Rattle.minimise.specs.ClassEdges.{class_edges};
 ghost use Rattle.minimise.specs.Hashes.{hash_edges, hash_of};
 
 use crate::edge_letters::EdgeLetters;

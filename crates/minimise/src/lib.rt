@@ -7,8 +7,8 @@ pub mod laws;
 /// Automata with outputs, and the outputs that acceptance gives.
 mod machine;
 
-/// Classes of states by their outputs.
-mod output_classes;
+/// Classes of states, parted by outputs.
+mod output_parts;
 
 /// Sets of states, gathered by the letters that lead from them, and by their classes.
 mod gathering;
@@ -24,9 +24,6 @@ mod partition;
 
 /// The edges of a state between classes.
 mod class_row;
-
-/// What tells states of one class apart.
-mod signatures;
 
 /// States that stand for their classes.
 mod leaders;
@@ -51,9 +48,6 @@ mod hashing;
 
 /// Hashes of states that rounds make anew.
 mod state_hashes;
-
-/// Classes that are refined by signatures.
-mod refinement;
 
 /// Rounds that part states by hashes.
 mod rounds;

@@ -9,6 +9,9 @@
 //! one that fewer edges lead to, and of a class that was pending both are. Of the sink's class it is the states
 //! that leave, however many: no edges are kept that lead to the sink.
 //!
+//! States of one class have one output, and lead by each letter into one class, unless one of the two classes is
+//! pending. Each cut leaves it so. Where no class is pending the classes are the residuals.
+//!
 //! So each edge is looked at once, and once more each time that its target goes with a smaller part. For
 //! m edges, and classes of s states at most to begin with, these are m + (m / 2) log s looks at most: where
 //! a smaller part has a share f of the edges, f is at most half of the entropy of f and 1 - f, and these
@@ -19,13 +22,15 @@
 //!
 //! Besides the edges these lists take 13 bytes a state, and up to 16 bytes a class in vectors that grow.
 
-ghost use Rattle.std.specs.Prelude.{◌≡◌, ◌≢◌, ℕ, ◌+◌, ◌-◌, ◌<◌, ◌≤◌, ◌^◌, ◌↔◌, length, IfOk, OnOk};
+ghost use Rattle.std.specs.Prelude.{◌≡◌, ◌≢◌, ℕ, ◌+◌, ◌-◌, ◌<◌, ◌≤◌, ◌^◌, ◌↔◌, ◌∷◌, ◌++◌, [], List, length, IfOk, OnOk};
 ghost use Rattle.std.specs.List.{All, Contains};
+ghost use Rattle.digit_tuple.specs.Deterministic.{states_of};
 ghost use Rattle.minimise.specs.Classes.{class_of};
-ghost use Rattle.minimise.specs.CoarseClasses.{AreCoarseClasses};
+ghost use Rattle.minimise.specs.CoarseClasses.{AreCoarseClasses, AreResidualClasses, TellOutputs};
 ghost use Rattle.minimise.specs.FlatEdges.{AreFlat};
 ghost use Rattle.minimise.specs.Outputs.{HasOutputs};
-ghost use Rattle.minimise.specs.Partition.{HasGrown, IsCut, IsGiven, IsPartition, IsUnion};
+ghost use Rattle.minimise.specs.Partition.{HasGrown, IsCut, IsGiven, IsPartition, IsSplit, IsUnion};
+ghost use Rattle.minimise.specs.Settled.{AreAllPending, AreApart, AreLiveParts, IsSettled};
 
 use crate::flat_edges::FlatEdges;
 use crate::gathering::{sources_by_letter, states_by_class};
@@ -38,8 +43,8 @@ use digit_tuple::faults::OutOfMemory;
 use digit_tuple::key_edges::KeyEdges;
 use std::alloc::Global;
 
-/// The class of each state, and last that of the sink, where missing edges lead, after the classes are
-/// parted. States from which words lead to the same outputs have one class, as they had before.
+/// The class of each state, and last that of the sink, where missing edges lead, after classes of one output each are
+/// parted: states have one class exactly where all words lead from them to the same outputs.
 pub fn parted(
     alloc: Global,
     machine: &Machine,
@@ -49,7 +54,8 @@ pub fn parted(
     requires outputs { HasOutputs machine.now }
     requires flat { AreFlat machine.now.dfa.now flat.now }
     requires classes { AreCoarseClasses machine.now.dfa.now machine.now.outputs.now classes.items }
-    ensures { IfOk result (λ classes. AreCoarseClasses machine.now.dfa.now machine.now.outputs.now classes.items) }
+    requires told { TellOutputs machine.now.dfa.now machine.now.outputs.now classes.items }
+    ensures { IfOk result (λ classes. AreResidualClasses machine.now.dfa.now machine.now.outputs.now classes.items) }
 {
     let parts = live_parts(alloc, machine, &classes)?;
     // Memory goes before more is taken.
@@ -94,7 +100,8 @@ impl Partition {
     // One class of all states.
     fn new(alloc: Global, machine: &Machine, flat: &FlatEdges) -> Result<Self, OutOfMemory>
         requires { AreFlat machine.now.dfa.now flat.now }
-        ensures { IfOk result (IsPartition machine.now) }
+        ensures partition { IfOk result (IsPartition machine.now) }
+        ensures one { IfOk result (λ made. length made.spans.items ≡ 1) }
     {
         let turned = TurnedEdges::new(alloc, machine.dfa, flat)?;
         let states = machine.dfa.states();
@@ -118,7 +125,11 @@ impl Partition {
     fn part_by_class(&mut self, machine: &Machine, parts: &KeyEdges) -> Result<(), OutOfMemory>
         requires partition { IsPartition machine.now self.old }
         requires parts { All (λ part. IsUnion machine.now.dfa.now machine.now.outputs.now part.key) parts.now }
-        ensures { OnOk result (IsPartition machine.now self.new) }
+        requires one { length self.old.spans.items ≡ 1 }
+        ensures partition { OnOk result (IsPartition machine.now self.new) }
+        ensures pending { OnOk result (AreAllPending (length self.new.spans.items) self.new.pending) }
+        ensures parted { OnOk result ((classes : List ℕ) → AreLiveParts machine.now.dfa.now classes parts.now → (p q : ℕ) → p ≤ states_of machine.now.dfa.now → q ≤ states_of machine.now.dfa.now
+            → class_of self.new.classes.items p ≡ class_of self.new.classes.items q → class_of classes p ≡ class_of classes q) }
     {
         for place in 0..parts.len() {
             self.split(machine, 0, parts.key(place))?;
@@ -137,8 +148,10 @@ impl Partition {
         requires outputs { HasOutputs machine.now }
         requires live { 0 < class }
         requires class { class < length self.old.spans.items }
+        requires settled { IsSettled machine.now.dfa.now machine.now.outputs.now self.old.classes.items (self.old.pending ++ class ∷ []) }
         ensures partition { OnOk result (IsPartition machine.now self.new) }
         ensures grown { OnOk result (HasGrown self.old self.new) }
+        ensures settled { OnOk result (IsSettled machine.now.dfa.now machine.now.outputs.now self.new.classes.items self.new.pending) }
     {
         let Buffers {
             edges,
@@ -166,6 +179,7 @@ impl Partition {
         requires set { IsUnion machine.now.dfa.now machine.now.outputs.now set.now }
         ensures partition { OnOk result (IsPartition machine.now self.new) }
         ensures grown { OnOk result (HasGrown self.old self.new) }
+        ensures apart { OnOk result (AreApart self.new.classes.items set.now) }
     {
         states_by_class(&self.classes, set, edges, parts)?;
         for place in 0..parts.len() {
@@ -181,14 +195,15 @@ impl Partition {
         requires states { IsUnion machine.now.dfa.now machine.now.outputs.now states.now }
         ensures partition { OnOk result (IsPartition machine.now self.new) }
         ensures grown { OnOk result (HasGrown self.old self.new) }
+        ensures split { OnOk result (IsSplit self.old self.new class states.now) }
     {
+        // That states, and so classes, are numbered by 32 bits.
+        let _states = machine.dfa.states();
         let count = self.spans.len();
         let ClassSpan { start, end, .. } = self.spans[class as usize];
         let middle = move_to_end(&mut self.states, &mut self.places, start, end, states);
-        // None leaves, or all of a class do. All may leave the sink's class, as the sink stays. There are never more
-        // classes than states and the sink.
-        let stays = middle == end || (middle == start && class > 0);
-        if stays || count > machine.dfa.states() as usize {
+        // None leaves, or all of a class do. All may leave the sink's class, as the sink stays.
+        if middle == end || (middle == start && class > 0) {
             return Ok(());
         }
         let leaving = &self.states[middle as usize..end as usize];
@@ -244,7 +259,8 @@ impl Buffers {
 // The states of each class but the sink's.
 fn live_parts(alloc: Global, machine: &Machine, classes: &[u32]) -> Result<KeyEdges, OutOfMemory>
     requires { AreCoarseClasses machine.now.dfa.now machine.now.outputs.now classes.now }
-    ensures { IfOk result (λ parts. All (λ part. IsUnion machine.now.dfa.now machine.now.outputs.now part.key) parts) }
+    ensures unions { IfOk result (λ parts. All (λ part. IsUnion machine.now.dfa.now machine.now.outputs.now part.key) parts) }
+    ensures parts { IfOk result (AreLiveParts machine.now.dfa.now classes.now) }
 {
     // That there are fewer than 2^32 states.
     let _states = machine.dfa.states();

@@ -1,6 +1,7 @@
 //! The classes by which others are still to be parted.
 
-ghost use Rattle.std.specs.Prelude.{◌≡◌, ◌∷◌, ◌++◌, [], IfOk, OnOk, MatchOption};
+ghost use Rattle.std.specs.Prelude.{◌≡◌, ◌↔◌, ℕ, ◌∷◌, ◌++◌, ◌+◌, ◌≤◌, [], false, length, slice_index_or, IfOk, IsTrue, OnOk, MatchOption};
+ghost use Rattle.std.specs.List.{Contains};
 
 use digit_tuple::faults::OutOfMemory;
 use std::alloc::Global;
@@ -16,10 +17,13 @@ pub struct PendingClasses {
 
 impl Model for PendingClasses {
     ghost use Rattle.std.specs.Prelude.{ℕ, List};
+    ghost use Rattle.minimise.specs.Pending.{AreMarked};
 
     ghost Value = { List ℕ };
 
     ghost view = { λ pending. pending.classes.items };
+
+    ghost invariant = { λ pending. AreMarked pending.classes.items pending.flags.items };
 }
 
 impl PendingClasses {
@@ -33,33 +37,42 @@ impl PendingClasses {
         })
     }
 
-    /// Whether a class is pending, where each of them came once.
-    pub fn has(&self, class: u32) -> bool {
+    /// Whether a class is pending.
+    pub fn has(&self, class: u32) -> bool
+        ensures { IsTrue result ↔ Contains self.now class }
+    {
         self.flags.get(class as usize).copied().unwrap_or(false)
     }
 
     /// Makes a class pending.
     pub fn push(&mut self, class: u32) -> Result<(), OutOfMemory>
+        requires { ¬ Contains self.old class }
         ensures { OnOk result (self.new ≡ self.old ++ class ∷ []) }
     {
-        mark(&mut self.flags, class, true);
+        widen(&mut self.flags, class as usize + 1)?;
         self.classes.push(class)?;
+        self.flags[class as usize] = true;
         Ok(())
     }
 
     /// Takes the class that is next, which is no longer pending.
     pub fn pop(&mut self) -> Option<u32>
-        ensures { MatchOption result (self.new ≡ self.old) (λ class. self.old ≡ self.new ++ class ∷ []) }
+        ensures taken { MatchOption result (self.new ≡ self.old) (λ class. self.old ≡ self.new ++ class ∷ []) }
+        ensures once { MatchOption result (self.new ≡ []) (λ class. ¬ Contains self.new class) }
     {
         let class = self.classes.pop()?;
-        mark(&mut self.flags, class, false);
+        self.flags[class as usize] = false;
         Some(class)
     }
 }
 
-// Writes whether a class is pending.
-fn mark(flags: &mut Vec<bool>, class: u32, pending: bool) {
-    if let Some(flag) = flags.get_mut(class as usize) {
-        *flag = pending;
+// Adds flags that are not set, so that there are so many at least.
+fn widen(flags: &mut Vec<bool>, count: usize) -> Result<(), OutOfMemory>
+    ensures same { (class : ℕ) → slice_index_or flags.new.items class false ≡ slice_index_or flags.old.items class false }
+    ensures room { OnOk result (count ≤ length flags.new.items) }
+{
+    for _ in flags.len()..count {
+        flags.push(false)?;
     }
+    Ok(())
 }

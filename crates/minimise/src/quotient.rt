@@ -4,7 +4,7 @@ ghost use Rattle.std.specs.Prelude.{◌≡◌, ◌<◌, ◌++◌, [], ◌∷◌,
 ghost use Rattle.std.specs.List.{All};
 ghost use Rattle.digit_tuple.specs.Deterministic.{letters_of};
 ghost use Rattle.minimise.specs.Classes.{class_of};
-ghost use Rattle.minimise.specs.Signatures.{class_edges};
+ghost use Rattle.minimise.specs.ClassEdges.{class_edges};
 ghost use Rattle.minimise.specs.Quotient.{IsQuotient, IsClass, next_class, class_accepts, key_edge, key_output};
 ghost use Rattle.minimise.specs.QuotientLaws.{start_is_class, next_class_is_class};
 

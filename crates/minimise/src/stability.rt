@@ -7,7 +7,7 @@ ghost use Rattle.minimise.specs.CoarseClasses.{AreCoarseClasses, AreResidualClas
 ghost use Rattle.minimise.specs.FlatEdges.{AreFlat};
 ghost use Rattle.minimise.specs.Leaders.{AreLeaders};
 ghost use Rattle.minimise.specs.Outputs.{HasOutputs};
-ghost use Rattle.minimise.specs.Refinement.{AreAlike};
+ghost use Rattle.minimise.specs.Alike.{AreAlike};
 
 use crate::class_row::ClassRow;
 use crate::flat_edges::FlatEdges;

@@ -1,7 +1,7 @@
 use Rattle.std.proofs.Common.{◌∷◌, ◌++◌, [], List, take, get_or, ap, ◌∙◌, append_assoc, arith}
 use Rattle.digit_tuple.specs.declared.edges.Edge.{Edge}
-use Rattle.minimise.specs.Signatures.{class_edges}
-use Rattle.minimise.proofs.SignatureLemmas.{class_edge, class_edges-dead, class_edges-live}
+use Rattle.minimise.specs.ClassEdges.{class_edges}
+use Rattle.minimise.proofs.ClassEdgeLemmas.{class_edge, class_edges-dead, class_edges-live}
 use Rattle.minimise.proofs.class_row.add_class_edges.Goals as goal
 use Rattle.minimise.proofs.class_row.add_class_edges.Goals.{then-class-dead+in_ok-push, else-class-dead}
 

@@ -1,5 +1,5 @@
 use Rattle.std.proofs.Common.{◌≡◌, ◌++◌, take}
-use Rattle.minimise.specs.Signatures.{class_edges}
+use Rattle.minimise.specs.ClassEdges.{class_edges}
 use Rattle.minimise.proofs.class_row.add_class_edges.Given as goal
 
 abbrev pub invariant-loop-edge : goal.invariant-loop-edge

@@ -1,5 +1,5 @@
 use Rattle.std.proofs.Common.{◌≡◌, ◌++◌, take, map}
-use Rattle.minimise.specs.Signatures.{class_edges}
+use Rattle.minimise.specs.ClassEdges.{class_edges}
 use Rattle.minimise.specs.Quotient.{key_edge}
 use Rattle.minimise.proofs.quotient.add_key_edges.Given as goal
 

@@ -1,7 +1,7 @@
 use Rattle.std.proofs.Common.{◌≡◌, ℕ, [], refl, sym, ◌∙◌, subst, below_more, arith}
 use Rattle.std.proofs.lemmas.Bool.{false≢true}
 use Rattle.minimise.specs.Classes.{class_of}
-use Rattle.minimise.specs.Refinement.{AreAlike}
+use Rattle.minimise.specs.Alike.{AreAlike}
 use Rattle.minimise.proofs.StabilityLemmas.{AreAlike-refl, IsStable-led, TellOutputs-led}
 use Rattle.minimise.proofs.ResidualLemmas.{AreAlike-residuals, AreResidualClasses-stable}
 use Rattle.minimise.proofs.stability.are_like_leaders.Goals as goal

@@ -1,6 +1,6 @@
 use Rattle.std.proofs.Common.{◌≡◌, ℕ, ◌<◌}
 use Rattle.minimise.specs.Classes.{class_of}
-use Rattle.minimise.specs.Refinement.{AreAlike}
+use Rattle.minimise.specs.Alike.{AreAlike}
 use Rattle.minimise.proofs.stability.are_like_leaders.Given as goal
 
 abbrev pub invariant-loop-place : goal.invariant-loop-place

@@ -3,7 +3,7 @@ use Rattle.std.proofs.lemmas.Bool.{cases_lt}
 use Rattle.digit_tuple.specs.declared.edges.Edge.{Edge}
 use Rattle.digit_tuple.specs.Deterministic.{edges_of}
 use Rattle.minimise.specs.Classes.{class_of, dead_class}
-use Rattle.minimise.specs.Signatures.{class_edges}
+use Rattle.minimise.specs.ClassEdges.{class_edges}
 use Rattle.minimise.specs.EdgeLetters.{listed}
 use Rattle.minimise.specs.Hashes.{hash_edges}
 use Rattle.minimise.proofs.FlatEdgeLemmas.{HasPlace-between, edge_by_place}

@@ -1,7 +1,7 @@
 use Rattle.std.proofs.Common.{◌≡◌, take}
 use Rattle.digit_tuple.specs.Deterministic.{edges_of}
 use Rattle.minimise.specs.Classes.{dead_class}
-use Rattle.minimise.specs.Signatures.{class_edges}
+use Rattle.minimise.specs.ClassEdges.{class_edges}
 use Rattle.minimise.specs.Hashes.{hash_edges}
 use Rattle.minimise.proofs.hashing.RoundPart.mix_full.Given as goal
 

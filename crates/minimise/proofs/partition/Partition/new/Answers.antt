@@ -4,8 +4,8 @@ use Rattle.digit_tuple.specs.Deterministic.{states_of}
 use Rattle.minimise.proofs.PartitionLemmas.{AreParted-one}
 use Rattle.minimise.proofs.partition.Partition.new.Goals as goal
 
-pub returns : goal.returns
-returns c =
+pub returns-clause-partition : goal.returns-clause-partition
+returns-clause-partition c =
     let d = c.args.machine.now.dfa.now in
     let outputs = c.args.machine.now.outputs.now in
     let count : c.states-states.result ≡ states_of d = c.states-states.ensures.value in

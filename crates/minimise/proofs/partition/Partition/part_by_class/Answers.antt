@@ -1,9 +1,39 @@
-use Rattle.std.proofs.Common.{◌<◌, length, sym, subst, arith}
-use Rattle.digit_tuple.specs.Keys.{no_edge}
-use Rattle.minimise.specs.Partition.{IsUnion}
+use Rattle.std.proofs.Common.{◌<◌, ℕ, List, length, refl, sym, subst, arith}
+use Rattle.digit_tuple.specs.Keys.{edge_at, no_edge}
+use Rattle.minimise.specs.Partition.{IsSplit, IsUnion}
+use Rattle.minimise.proofs.PartedLemmas.{AreTakenOut-more, AreTakenOut-none, parted_before}
+use Rattle.minimise.proofs.SettledLemmas.{class_made}
 use Rattle.minimise.proofs.partition.Partition.part_by_class.Goals as goal
+
+pub loop-place-init : goal.loop-place-init
+loop-place-init c =
+    let p = c.args.self.now in
+    let m = c.args.machine.now in
+    let made = class_made m.dfa.now m.outputs.now p.classes.items p.states.items p.places.items p.spans.items p.pending c.requires.partition.parted in
+    record {
+      partition = c.requires.partition;
+      pending = λ class live small. absurd (omega (arith, live, small, c.requires.one));
+      taken = AreTakenOut-none m.dfa.now p.classes.items c.args.parts.now (λ q. omega (arith, made q, c.requires.one));
+    }
 
 pub split-requires-clause-states : goal.split-requires-clause-states
 split-requires-clause-states c =
     let within : c.loop-place.place < length c.args.parts.now = omega (arith, c.loop-place-test.true, c.len-place-end.ensures) in
     subst (IsUnion c.args.machine.now.dfa.now c.args.machine.now.outputs.now) (sym c.key.ensures) (c.requires.parts c.loop-place.place no_edge within)
+
+pub loop-place-preserved : goal.loop-place-preserved
+loop-place-preserved c =
+    let d = c.args.machine.now.dfa.now in
+    let parts = c.args.parts.now in
+    let place = c.loop-place.place in
+    let mid = c.loop-place.self in
+    let new = c.split.new.self in
+    let split : IsSplit mid new 0 (edge_at parts place).key = subst (IsSplit mid new 0) c.key.ensures c.in_ok-split.ensures.split in
+    record {
+      partition = c.in_ok-split.ensures.partition;
+      pending = split.waiting refl c.loop-place.invariant.pending;
+      taken = AreTakenOut-more d parts mid new place (omega (arith, c.loop-place-test.true, c.len-place-end.ensures)) c.in_ok-split.ensures.grown split c.loop-place.invariant.taken;
+    }
+
+pub returns-clause-parted : goal.returns-clause-parted
+returns-clause-parted c = parted_before c.args.machine.now.dfa.now c.args.parts.now c.loop-place.self.classes.items c.loop-place.place (omega (arith, c.loop-place-test.false, c.len-place-end.ensures)) c.loop-place.invariant.taken

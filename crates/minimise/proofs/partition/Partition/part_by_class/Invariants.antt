@@ -1,5 +1,12 @@
+use Rattle.std.proofs.Common.{length}
 use Rattle.minimise.specs.Partition.{IsPartition}
+use Rattle.minimise.specs.Settled.{AreAllPending}
+use Rattle.minimise.proofs.PartedLemmas.{AreTakenOut}
 use Rattle.minimise.proofs.partition.Partition.part_by_class.Given as goal
 
 abbrev pub invariant-loop-place : goal.invariant-loop-place
-invariant-loop-place l = IsPartition l.machine l.self
+invariant-loop-place l = record {
+  partition : IsPartition l.machine l.self;
+  pending : AreAllPending (length l.self.spans.items) l.self.pending;
+  taken : AreTakenOut l.machine.dfa.now l.self.classes.items l.parts l.place;
+}

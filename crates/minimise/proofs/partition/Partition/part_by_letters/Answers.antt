@@ -1,9 +1,15 @@
-use Rattle.std.proofs.Common.{◌≡◌, ◌<◌, List, ℕ, length, sym, ap, ◌∙◌, subst, arith}
-use Rattle.std.specs.List.{slice_range}
+use Rattle.std.proofs.Common.{◌≡◌, ◌↔◌, ◌+◌, ◌<◌, ◌≤◌, ◌⊎◌, inl, inr, List, ℕ, [], ◌∷◌, ◌++◌, length, refl, sym, ap, ◌∙◌, subst, arith}
+use Rattle.std.specs.List.{Contains, slice_range}
+use Rattle.std.proofs.lemmas.Bool.{cases_lt}
 use Rattle.std.proofs.lemmas.List.{get_or_default}
-use Rattle.digit_tuple.specs.Keys.{edge_at, no_edge}
+use Rattle.digit_tuple.specs.Keys.{KeyEdge, edge_at, no_edge}
 use Rattle.minimise.specs.declared.partition.ClassSpan.{ClassSpan}
-use Rattle.minimise.specs.Partition.{IsUnion, no_span, span_of}
+use Rattle.minimise.specs.declared.partition.Partition.{Partition}
+use Rattle.minimise.specs.Classes.{class_of}
+use Rattle.minimise.specs.Partition.{HasGrown, IsUnion, no_span, span_of}
+use Rattle.minimise.specs.Settled.{AreApart}
+use Rattle.minimise.proofs.PartedLemmas.{AreApart-grown, HasGrown-more, HasGrown-none, IsSettled-parted}
+use Rattle.minimise.proofs.SettledLemmas.{span_has}
 use Rattle.minimise.proofs.PartitionLemmas.{IsUnion-sources, IsUnion-span}
 use Rattle.minimise.proofs.partition.Partition.part_by_letters.Goals as goal
 
@@ -22,4 +28,50 @@ part-requires-clause-set c =
     (IsUnion-span m.dfa.now m.outputs.now p.classes.items p.states.items p.places.items p.spans.items p.pending c.requires.partition.parted class c.requires.class c.requires.live) in
     subst (IsUnion m.dfa.now m.outputs.now) (sym c.key.ensures)
     (IsUnion-sources m.dfa.now m.outputs.now c.requires.outputs c.requires.partition.parted.table p.turned c.requires.partition.turned (slice_range c.deref.result.now c.index-span.result.now.start c.index-span.result.now.end) union
-    (edge_at sources place).letter (edge_at sources place).key (c.in_ok-sources_by_letter.ensures place no_edge within))
+    (edge_at sources place).letter (edge_at sources place).key (c.in_ok-sources_by_letter.ensures.gathered place no_edge within))
+
+pub loop-place-init : goal.loop-place-init
+loop-place-init c = record {
+  partition = c.requires.partition;
+  grown = HasGrown-none c.args.self.now;
+  apart = λ place less. absurd (omega arith);
+}
+
+-- the sets for the letters up to one stay apart
+apart_more : (mid new : Partition) (sources : List KeyEdge) (count : ℕ) → HasGrown mid new → ((place : ℕ) → place < count → AreApart mid.classes.items (edge_at sources place).key) → AreApart new.classes.items (edge_at sources count).key
+    → (place : ℕ) → place < count + 1 → AreApart new.classes.items (edge_at sources place).key
+apart_more mid new sources count grown so_far here place less = by (cases_lt place count)
+  where
+    by : (place < count) ⊎ (count ≤ place) → AreApart new.classes.items (edge_at sources place).key
+    by (inl before) = AreApart-grown mid new (edge_at sources place).key grown (so_far place before)
+    by (inr past) =
+        let is : count ≡ place = omega arith in
+        subst (λ (k : ℕ). AreApart new.classes.items (edge_at sources k).key) is here
+
+pub loop-place-preserved : goal.loop-place-preserved
+loop-place-preserved c =
+    let sources = c.sources_by_letter.new.out in
+    let mid = c.loop-place.self in
+    let new = c.part.new.self in
+    record {
+      partition = c.in_ok-part.ensures.partition;
+      grown = HasGrown-more c.args.self.now mid new c.loop-place.invariant.grown c.in_ok-part.ensures.grown;
+      apart = apart_more mid new sources c.loop-place.place c.in_ok-part.ensures.grown c.loop-place.invariant.apart (subst (AreApart new.classes.items) c.key.ensures c.in_ok-part.ensures.apart);
+    }
+
+pub returns-clause-settled : goal.returns-clause-settled
+returns-clause-settled c =
+    let p = c.args.self.now in
+    let m = c.args.machine.now in
+    let class = c.args.class in
+    let sources = c.sources_by_letter.new.out in
+    let is : c.index-span.result.now ≡ span_of p.spans.items class = c.index-span.ensures ∙ get_or_default p.spans.items class c.index-span.result.now no_span c.requires.class in
+    let set : slice_range c.deref.result.now c.index-span.result.now.start c.index-span.result.now.end ≡ slice_range p.states.items (span_of p.spans.items class).start (span_of p.spans.items class).end =
+    ap (λ (xs : List ℕ). slice_range xs c.index-span.result.now.start c.index-span.result.now.end) c.deref.ensures.value ∙ ap (λ (span : ClassSpan). slice_range p.states.items span.start span.end) is in
+    let union = subst (IsUnion m.dfa.now m.outputs.now) (sym set)
+    (IsUnion-span m.dfa.now m.outputs.now p.classes.items p.states.items p.places.items p.spans.items p.pending c.requires.partition.parted class c.requires.class c.requires.live) in
+    let has = subst (λ (xs : List ℕ). (q : ℕ) → Contains xs q ↔ (class_of p.classes.items q ≡ class)) (sym set)
+    (span_has m.dfa.now m.outputs.now p.classes.items p.states.items p.places.items p.spans.items p.pending c.requires.partition.parted class c.requires.live c.requires.class) in
+    IsSettled-parted m.dfa.now m.outputs.now c.requires.outputs c.requires.partition.parted.table p.turned c.requires.partition.turned (slice_range c.deref.result.now c.index-span.result.now.start c.index-span.result.now.end) union class p
+    c.loop-place.self has sources c.in_ok-sources_by_letter.ensures.gathered c.in_ok-sources_by_letter.ensures.letters c.loop-place.invariant.grown
+    (λ place within. c.loop-place.invariant.apart place (omega (arith, within, c.loop-place-test.false, c.len-place-end.ensures))) (p.pending ++ class ∷ []) refl c.requires.settled

@@ -4,7 +4,7 @@ use Rattle.digit_tuple.specs.declared.edges.Edge.{Edge}
 use Rattle.digit_tuple.specs.Deterministic.{letters_of, edges_of}
 use Rattle.digit_tuple.specs.Keys.{KeyEdge, AreKeyEdges}
 use Rattle.minimise.specs.Classes.{class_of}
-use Rattle.minimise.specs.Signatures.{class_edges}
+use Rattle.minimise.specs.ClassEdges.{class_edges}
 use Rattle.minimise.specs.Quotient.{next_class, leader_of, key_edge}
 use Rattle.minimise.proofs.QuotientLemmas.{AreKeyEdges-class}
 use Rattle.minimise.proofs.quotient.QuotientKeyGraph.edges.Goals as goal

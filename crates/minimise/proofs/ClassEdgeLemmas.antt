@@ -1,4 +1,4 @@
--- Signatures of states.
+-- The edges of states between classes.
 use Rattle.std.proofs.Common.{◌≡◌, ◌≢◌, ◌==◌, ℕ, suc, ◌+◌, ◌<◌, Bool, true, false, List, [], ◌∷◌, ◌++◌, take, length, get_or, Option, None, Some, unwrap_or, if◌then◌else◌, ◌⊎◌, inl, inr, refl, sym, ap, ◌∙◌, eq-eqb, arith}
 use Rattle.std.specs.List.{All, AllPairs}
 use Rattle.std.proofs.lemmas.Bool.{cases_eq, eqb-true, ne_eqb}
@@ -10,8 +10,8 @@ use Rattle.digit_tuple.specs.declared.edges.Edge.{Edge}
 use Rattle.digit_tuple.specs.Deterministic.{Automaton, IsTable, IsByEarlier, letters_of, states_of, edges_of, target_by}
 use Rattle.digit_tuple.proofs.DfaLemmas.{target_by-other, target_by-first}
 use Rattle.minimise.specs.Classes.{class_of, next_of, dead_class, live_class}
-use Rattle.minimise.specs.Signatures.{class_edges, numbers_in, signature_of}
-use Rattle.minimise.specs.Refinement.{AreAlike}
+use Rattle.minimise.specs.ClassEdges.{class_edges}
+use Rattle.minimise.specs.Alike.{AreAlike}
 use Rattle.minimise.proofs.EdgeLemmas.{rest_pairs, target_by-early, same_edges}
 use Rattle.minimise.proofs.SinkLemmas.{row_of}
 
@@ -57,25 +57,6 @@ class_edges-same classes dead (e ∷ es) (f ∷ fs) long same =
     ap (λ (c : ℕ). let g : Edge = record { letter = e.letter; target = c } in if c == dead then class_edges classes dead es else g ∷ class_edges classes dead es) head.1
     ∙ ap (λ (x : ℕ). let g : Edge = record { letter = x; target = class_of classes f.target } in if class_of classes f.target == dead then class_edges classes dead es else g ∷ class_edges classes dead es) head.0
     ∙ ap (λ (xs : List Edge). if class_of classes f.target == dead then xs else class_edge classes f ∷ xs) rest
-
-pub numbers_in-append : (es fs : List Edge) → numbers_in (es ++ fs) ≡ numbers_in es ++ numbers_in fs
-numbers_in-append [] fs = refl
-numbers_in-append (e ∷ es) fs = ap (λ ns. e.letter ∷ e.target ∷ ns) (numbers_in-append es fs)
-
-pub numbers_in-tells : (es fs : List Edge) → numbers_in es ≡ numbers_in fs → es ≡ fs
-numbers_in-tells [] [] same = refl
-numbers_in-tells [] (f ∷ fs) same = absurd (cc)
-numbers_in-tells (e ∷ es) [] same = absurd (cc)
-numbers_in-tells (e ∷ es) (f ∷ fs) same =
-    let one : e.letter ≡ f.letter = cc in
-    let two : e.target ≡ f.target = cc in
-    let left : numbers_in es ≡ numbers_in fs = cc in
-    let head : e ≡ f = ap (λ (x : ℕ). let g : Edge = record { letter = x; target = e.target } in g) one ∙ ap (λ (x : ℕ). let g : Edge = record { letter = f.letter; target = x } in g) two in
-    ap (λ (g : Edge). g ∷ es) head ∙ ap (λ (gs : List Edge). f ∷ gs) (numbers_in-tells es fs left)
-
--- the numbers of the next edge
-pub numbers_in-more : (es : List Edge) (k : ℕ) (z : Edge) → k < length es → numbers_in (take (k + 1) es) ≡ numbers_in (take k es) ++ (get_or es k z).letter ∷ (get_or es k z).target ∷ []
-numbers_in-more es k z within = ap numbers_in (take_more es k z within) ∙ numbers_in-append (take k es) (get_or es k z ∷ [])
 
 -- what holds of the letters still holds
 pub class_edges-all : (classes : List ℕ) (dead : ℕ) (P : ℕ → Type 0) (es : List Edge) → All (λ e. P e.letter) es → All (λ e. P e.letter) (class_edges classes dead es)
@@ -140,20 +121,17 @@ module _ (d : Automaton) (classes : List ℕ) where
     leads_at : (q a : ℕ) → target_by (edges_at q) a ≡ live_class d classes (next_of d q a)
     leads_at q a = class_edges-lead (edges_of d q) a (row_of d table q).ascending
 
-    pub alike_from_signature : (p q : ℕ) → signature_of d classes p ≡ signature_of d classes q → AreAlike d classes p q
-    alike_from_signature p q same =
-        let own : class_of classes p ≡ class_of classes q = cc in
-        let numbers : numbers_in (edges_at p) ≡ numbers_in (edges_at q) = cc in
-        let edges : edges_at p ≡ edges_at q = numbers_in-tells (edges_at p) (edges_at q) numbers in
-        record {
-          own = own;
-          next = λ a small. live_class-tells (next_of d p a) (next_of d q a) (sym (leads_at p a) ∙ ap (λ (es : List Edge). target_by es a) edges ∙ leads_at q a);
-        }
+    -- states of one class with one row are alike
+    pub alike_from_rows : (p q : ℕ) → class_of classes p ≡ class_of classes q → edges_at p ≡ edges_at q → AreAlike d classes p q
+    alike_from_rows p q own edges = record {
+      own = own;
+      next = λ a small. live_class-tells (next_of d p a) (next_of d q a) (sym (leads_at p a) ∙ ap (λ (es : List Edge). target_by es a) edges ∙ leads_at q a);
+    }
 
-    pub signature_from_alike : (p q : ℕ) → AreAlike d classes p q → signature_of d classes p ≡ signature_of d classes q
-    signature_from_alike p q alike =
+    -- states that are alike have one row
+    pub rows_from_alike : (p q : ℕ) → AreAlike d classes p q → edges_at p ≡ edges_at q
+    rows_from_alike p q alike =
         let small = λ (x : ℕ). class_edges-all classes (dead_class d classes) (λ a. a < letters_of d) (edges_of d x) (λ k z within. ((row_of d table x).in_range k z within).0) in
         let pairs = λ (x : ℕ). class_edges-pairs classes (dead_class d classes) (edges_of d x) (row_of d table x).ascending in
-        let edges : edges_at p ≡ edges_at q = same_edges (letters_of d) (edges_at p) (edges_at q) (pairs p) (pairs q) (small p) (small q)
-        (λ a inside. leads_at p a ∙ ap (λ (c : ℕ). if c == dead_class d classes then None else Some c) (alike.next a inside) ∙ sym (leads_at q a)) in
-        ap (λ (c : ℕ). c ∷ numbers_in (edges_at p)) alike.own ∙ ap (λ (es : List Edge). class_of classes q ∷ numbers_in es) edges
+        same_edges (letters_of d) (edges_at p) (edges_at q) (pairs p) (pairs q) (small p) (small q)
+        (λ a inside. leads_at p a ∙ ap (λ (c : ℕ). if c == dead_class d classes then None else Some c) (alike.next a inside) ∙ sym (leads_at q a))

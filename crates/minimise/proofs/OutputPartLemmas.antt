@@ -1,0 +1,28 @@
+-- Classes that are parted by outputs.
+use Rattle.std.proofs.Common.{◌≡◌, ℕ, ◌+◌, ◌*◌, ◌/◌, ◌-◌, ◌^◌, ◌<◌, ◌≤◌, List, [], length, max, sym, ap, ◌∙◌, arith}
+use Rattle.digit_tuple.specs.Deterministic.{Automaton, states_of}
+use Rattle.minimise.specs.Classes.{class_of}
+use Rattle.minimise.specs.CoarseClasses.{AreCoarseClasses, AreCoarseNumbers, TellOutputs}
+use Rattle.minimise.specs.FirstPlaces.{AreFirstPlaces}
+use Rattle.minimise.specs.OutputParts.{part_number}
+use Rattle.minimise.proofs.FirstPlaceLemmas.{same_first_place}
+
+module _ (d : Automaton) (outputs classes numbers : List ℕ) (width : length numbers ≡ states_of d + 1)
+    (are : (q : ℕ) → q ≤ states_of d → class_of numbers q ≡ part_number (states_of d) (class_of classes q) (class_of outputs q)) where
+  -- states from which words lead to the same outputs have one number
+  pub AreCoarseNumbers-parts : AreCoarseClasses d outputs classes → AreCoarseNumbers d outputs numbers
+  AreCoarseNumbers-parts coarse = record {
+    width = width;
+    coarse = λ p q small low same.
+        are p small ∙ ap (λ (c : ℕ). part_number (states_of d) c (class_of outputs p)) (coarse.coarse p q small low same)
+        ∙ ap (part_number (states_of d) (class_of classes q)) (same [] tt) ∙ sym (are q low);
+  }
+
+  -- the number tells the output
+  pub TellOutputs-parts : ((q : ℕ) → q ≤ states_of d → class_of outputs q < 2 ^ 32) → (places : List ℕ) → AreFirstPlaces numbers places → TellOutputs d outputs places
+  TellOutputs-parts small places firsts p q low inside same =
+      let one = (same_first_place numbers places firsts p q (omega (arith, low, width)) (omega (arith, inside, width))).1 same in
+      lower (class_of classes p * ((2 ^ 32 - 1) / max (states_of d) 1)) (class_of classes q * ((2 ^ 32 - 1) / max (states_of d) 1)) (class_of outputs p) (class_of outputs q) (small p low) (small q inside) (sym (are p low) ∙ one ∙ are q inside)
+    where
+      lower : (x y a b : ℕ) → a < 2 ^ 32 → b < 2 ^ 32 → x * 2 ^ 32 + a ≡ y * 2 ^ 32 + b → a ≡ b
+      lower x y a b less more equal = omega (arith, less, more, equal)

@@ -1,0 +1,30 @@
+use Rattle.std.proofs.Common.{◌≡◌, ℕ, ◌+◌, ◌-◌, ◌*◌, ◌/◌, ◌^◌, ◌++◌, [], ◌∷◌, length, max, ap, ◌∙◌, below_more, arith}
+use Rattle.std.proofs.lemmas.List.{get_or_push, get_or_append_left, length_push}
+use Rattle.digit_tuple.specs.Deterministic.{states_of}
+use Rattle.minimise.specs.Classes.{class_of}
+use Rattle.minimise.specs.OutputParts.{part_number}
+use Rattle.minimise.proofs.output_parts.part_numbers.Goals as goal
+
+pub loop-place-preserved : goal.loop-place-preserved
+loop-place-preserved c =
+    let old = c.loop-place.numbers.items in
+    let place = c.loop-place.place in
+    let classes = c.args.classes.now in
+    let outputs = c.args.machine.now.outputs.now in
+    let states = states_of c.args.machine.now.dfa.now in
+    let class = c.from.result in
+    let output = c.from-in-loop-place.result in
+    let spread = c.from-spread.result in
+    let number : ℕ = class * spread * 2 ^ 32 + output in
+    let spread_is : spread ≡ (2 ^ 32 - 1) / max states 1 = c.from-spread.ensures ∙ ap (λ (n : ℕ). (2 ^ 32 - 1) / n) (c.max.ensures ∙ ap (λ (n : ℕ). max n 1) c.states.ensures.value) in
+    let class_is : class ≡ class_of classes place = c.from.ensures in
+    let output_is : output ≡ class_of outputs place = c.from-in-loop-place.ensures ∙ c.output.ensures in
+    let is : c.push.new.self.items ≡ old ++ number ∷ [] = c.in_ok-push.ensures.items in
+    let here : class_of c.push.new.self.items place ≡ part_number states (class_of classes place) (class_of outputs place) =
+    ap (λ ns. class_of ns place) is ∙ get_or_push old number 0 place c.loop-place.invariant.width ∙ ap (λ (n : ℕ). n * spread * 2 ^ 32 + output) class_is
+    ∙ ap (λ (n : ℕ). class_of classes place * n * 2 ^ 32 + output) spread_is ∙ ap (λ (n : ℕ). class_of classes place * ((2 ^ 32 - 1) / max states 1) * 2 ^ 32 + n) output_is in
+    record {
+      width = omega (arith, ap length is, length_push old number, c.loop-place.invariant.width);
+      outputs = below_more _ _ c.loop-place.invariant.outputs (omega (arith, c.output.ensures));
+      are = below_more _ _ (λ q less. ap (λ ns. class_of ns q) is ∙ get_or_append_left old (number ∷ []) 0 q (omega (arith, less, c.loop-place.invariant.width)) ∙ c.loop-place.invariant.are q less) here;
+    }

@@ -1,0 +1,13 @@
+use Rattle.std.proofs.Common.{List, ℕ, Bool, ◌∷◌, ◌++◌, [], set, true, sym, subst, arith}
+use Rattle.std.specs.List.{Contains}
+use Rattle.minimise.specs.Pending.{AreMarked}
+use Rattle.minimise.proofs.PendingLemmas.{AreMarked-push, AreMarked-same}
+use Rattle.minimise.proofs.pending_classes.PendingClasses.push.Goals as goal
+
+pub invariant_of-self-2 : goal.invariant_of-self-2
+invariant_of-self-2 c =
+    let classes = c.self.inside.classes.items in
+    let flags = c.widen.new.flags.items in
+    let are : AreMarked classes flags = AreMarked-same classes c.self.inside.flags.items flags c.self.invariant c.widen.ensures.same in
+    subst (λ (cs : List ℕ). AreMarked cs (set flags c.args.class true)) (sym c.in_ok-push.ensures.items)
+    (AreMarked-push classes flags c.args.class are (subst (λ (cs : List ℕ). Contains cs c.args.class → ⊥) (sym c.self.view_is) c.requires) (omega (arith, c.in_ok-widen.ensures.room)))
