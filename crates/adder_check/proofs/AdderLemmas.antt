@@ -11,11 +11,11 @@ use Rattle.digit_tuple.specs.declared.step_fault.StepFault.{StepFault}
 use Rattle.digit_tuple.specs.declared.direction.Direction.{Direction}
 use Rattle.digit_tuple.specs.declared.direction.Direction.TheVariants.{Msd, Lsd}
 use Rattle.digit_tuple.proofs.PaddingLemmas.{IsWord-in_order}
+use Rattle.digit_tuple.proofs.TruthLemmas.{same_tests}
 use Rattle.minimise.specs.Tracked.{NamedAutomaton}
 use Rattle.numeration.specs.Systems.{System, IsSystem, AreSystems}
 use Rattle.numeration.specs.Spelling.{sizes_of, letters_in}
 use Rattle.numeration.specs.Relations.{HoldsOf}
-use Rattle.numeration.proofs.RankLemmas.{same_tests}
 use Rattle.numeration.proofs.SpellLemmas.{spellings}
 use Rattle.num_system.specs.Joined.{AreLanguagesOf}
 use Rattle.num_system.specs.Spellings.{HasSpelling, IgnoresZeros}

@@ -13,7 +13,6 @@ use Rattle.numeration.specs.Systems.{System, IsSystem}
 use Rattle.numeration.specs.Relations.{IsLanguageOf, IsZeroOf, IsEqualityOf}
 use Rattle.numeration.specs.SomeTracks.{system_at}
 use Rattle.numeration.specs.Spelling.{sizes_of}
-use Rattle.numeration.proofs.RankLemmas.{same_tests}
 use Rattle.num_system.specs.Joined.{AreLanguagesOf}
 use Rattle.product_op.specs.Validity.{language_at}
 use Rattle.digit_tuple.proofs.PaddingLemmas.{in_order-twice}
@@ -28,6 +27,7 @@ use Rattle.adder_check.specs.ZeroSums.{AreZeroAndEquality}
 use Rattle.adder_check.proofs.SystemLemmas.{laws_tell_system}
 use mathlib.Core.Path.{fun_ext}
 use Rattle.digit_tuple.specs.Deterministic.{accepts_of}
+use Rattle.digit_tuple.proofs.TruthLemmas.{same_tests}
 
 -- the size of the one track
 pub own_size : (ns : List ℕ) (k : ℕ) → ns ≡ k ∷ [] → ns ≡ get_or ns 0 0 ∷ []

@@ -6,7 +6,7 @@ use Rattle.digit_tuple.specs.Steps.{StepLog, with_line}
 use Rattle.digit_tuple.specs.declared.step_fault.StepFault.{StepFault}
 use Rattle.digit_tuple.specs.declared.step_fault.StepFault.TheVariants as steps
 use Rattle.digit_tuple.specs.declared.steps.StepLine.{StepLine}
-use Rattle.numeration.proofs.RankLemmas.{same_tests}
+use Rattle.digit_tuple.proofs.TruthLemmas.{same_tests}
 use Rattle.automaton_steps.specs.Laws.{HasOneOutcome}
 use Rattle.automaton_steps.specs.StepLines.{IsRefused}
 use Rattle.adder_check.specs.declared.admit_fault.AdmitFault.{AdmitFault}

@@ -5,11 +5,11 @@ use Rattle.digit_tuple.specs.Letters.{IsWord, product}
 use Rattle.digit_tuple.specs.Paddings.{in_order}
 use Rattle.digit_tuple.specs.declared.direction.Direction.{Direction}
 use Rattle.digit_tuple.proofs.PaddingLemmas.{in_order-twice, IsWord-in_order}
+use Rattle.digit_tuple.proofs.TruthLemmas.{same_tests}
 use Rattle.minimise.specs.Residuals.{SameLanguage}
 use Rattle.numeration.specs.Systems.{System, AreSystems}
 use Rattle.numeration.specs.Spelling.{Spells, letters_in}
 use Rattle.numeration.specs.Relations.{HoldsOf}
-use Rattle.numeration.proofs.RankLemmas.{same_tests}
 use Rattle.numeration.proofs.SpellLemmas.{spelling}
 use Rattle.numeration.proofs.TrackLemmas.{numerals_from_spelling}
 use Rattle.numeration.proofs.PartSpelling.{numerals_only}

@@ -2,3 +2,4 @@ mod ValueLemmas
 mod CarryLemmas
 mod AdderLemmas
 mod TableLemmas
+pub mod BaseAlphabets

@@ -81,16 +81,6 @@ adder_holds way k none one d some states is =
 abbrev pub home : ℕ → Option ℕ
 home digit = Some 0
 
-pub language_table : (k : ℕ) (state : DfaState) → AreEdgesBy home k 1 state.edges.items → IsTable (product (k ∷ [])) (states_in (state ∷ []))
-language_table k state edges =
-    subst (λ (letters : ℕ). IsTable letters (states_in (state ∷ []))) (let one : k ≡ k * 1 = omega arith in one) (record {
-      initial = omega arith;
-      part = record {
-        small = omega arith;
-        rows = All-cons (λ s. IsRow k 1 s.edges) (state_in state) [] (row_by home k 1 state.edges.items edges) (λ i d within. absurd (omega arith));
-      };
-    })
-
 -- the one state accepts the words over the digits
 home_accepts : (k : ℕ) (state : DfaState) (w : List ℕ) → state.accepting ≡ true → AreEdgesBy home k 1 state.edges.items
     → accepts_of (record { sizes = k ∷ []; states = states_in (state ∷ []) }) w ≡ are_digits k w

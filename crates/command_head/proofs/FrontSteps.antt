@@ -40,13 +40,6 @@ front_of-append class xs ys all stops = rw (front_len-append class xs ys all sto
 pub behind_front-append : (class : Class) (xs ys : List ℕ) → AllByRecursion (λ b. is_in class b ≡ true) xs → Stops class ys → behind_front class (xs ++ ys) ≡ ys
 behind_front-append class xs ys all stops = rw (front_len-append class xs ys all stops) (drop_at xs ys (length xs) refl)
 
--- behind the front no byte of the class comes
-pub behind_front-stops : (class : Class) (bytes : List ℕ) → Stops class (behind_front class bytes)
-behind_front-stops class [] = tt
-behind_front-stops class (b ∷ bs) =
-    let Q : Bool → Type 0 = λ t. (is_in class b ≡ t) → Stops class (drop (cond t (suc (front_len class bs)) 0) (b ∷ bs)) in
-    (elim (is_in class b) as Q [ true ↦ λ h. behind_front-stops class bs | false ↦ λ h. h ]) refl
-
 pub front_split : (class : Class) (bytes : List ℕ) → front_of class bytes ++ behind_front class bytes ≡ bytes
 front_split class bytes = take-append-drop (front_len class bytes) bytes
 

@@ -106,10 +106,6 @@ listing_more text word automata whole all blank next_blank rest part next valued
       less = omega arith;
     }
 
--- there are fewer than half as many automata as bytes
-pub listing_few : (text word : List ℕ) (automata : List ValuedName) (whole : ℕ) (blank : Bool) (rest : List ℕ) → IsListing text word automata whole blank rest → 2 * length automata ≤ length text
-listing_few text word automata whole blank rest listing = let few = listing.few in omega arith
-
 no_items : (items : List (List ℕ)) (automata : List ValuedName) → automata ≡ [] → SpellEach items automata → items ≡ []
 no_items [] automata none each = refl
 no_items (item ∷ items) [] none each = absurd each

@@ -7,11 +7,11 @@ use Rattle.digit_tuple.specs.Width.{HasApart, HasWidth}
 use Rattle.digit_tuple.specs.declared.direction.Direction.{Direction}
 use Rattle.digit_tuple.proofs.WidthLemmas.{HasApart-within, HasWidth-unique, HasWidth-excludes}
 use Rattle.digit_tuple.proofs.WordLemmas.{IsWord-append}
+use Rattle.digit_tuple.proofs.TruthLemmas.{same_tests}
 use Rattle.minimise.specs.Canonical.{IsCanonical}
 use Rattle.minimise.proofs.ApartLemmas.{canonical_apart}
 use Rattle.numeration.specs.Systems.{System, IsNumeral}
 use Rattle.numeration.specs.Spelling.{Spells}
-use Rattle.numeration.proofs.RankLemmas.{same_tests}
 use Rattle.numeration.proofs.ConstantLemmas.{one_track}
 use Rattle.constants.specs.Constants.{IsConstantOf, ConstantAlike}
 use Rattle.constants.specs.ConstantWidth.{ConstantAlikeIsEquivalence, OneConstantWidth, ConstantWidthExcludes}

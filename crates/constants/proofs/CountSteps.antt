@@ -1,9 +1,8 @@
 -- Counts of the words of a length at each state, and those of words of one digit more.
-use Rattle.std.proofs.Common.{◌≡◌, ℕ, suc, ◌+◌, ◌<◌, Bool, true, false, cond, nat_eq, List, [], ◌∷◌, reverse, get_or, Option, None, Some, refl, ap, sym, ◌∙◌, count_by}
+use Rattle.std.proofs.Common.{◌≡◌, ℕ, suc, ◌+◌, ◌<◌, Bool, false, cond, nat_eq, List, [], ◌∷◌, reverse, get_or, Option, None, Some, refl, ap, sym, ◌∙◌, count_by}
 use Rattle.std.specs.List.{All, sum_by}
 use Rattle.std.specs.Option.{option_map_or, option_and_then, IfSome}
 use Rattle.digit_tuple.specs.declared.edges.Edge.{Edge}
-use Rattle.digit_tuple.specs.declared.direction.Direction.{Direction}
 use Rattle.digit_tuple.specs.declared.direction.Direction.TheVariants.{Msd, Lsd}
 use Rattle.digit_tuple.specs.Deterministic.{Automaton, IsTable, IsRow, accepts_from, edges_of, letters_of, run_of, states_of, step_of}
 use Rattle.digit_tuple.proofs.DfaLemmas.{row_at}
@@ -18,19 +17,6 @@ use Rattle.constants.proofs.CappedLemmas.{capped-again, capped-add, capped-sum_b
 
 row_is : (a : Automaton) (q : ℕ) → IsTable (letters_of a) a.states → q < states_of a → IsRow (letters_of a) (states_of a) (edges_of a q)
 row_is a q table within = row_at a q table within
-
--- of words of no digit there is one at most
-pub words_at-zero : (way : Direction) (a : Automaton) (q : ℕ) → capped (words_at way a 0 q) ≡ words_at way a 0 q
-words_at-zero Msd a q = by (accepts_from a q [])
-  where
-    by : (b : Bool) → capped (0 + cond {A = ℕ} b 1 0) ≡ 0 + cond {A = ℕ} b 1 0
-    by true = refl
-    by false = refl
-words_at-zero Lsd a q = by (leads_to a q [])
-  where
-    by : (b : Bool) → capped (0 + cond {A = ℕ} b 1 0) ≡ 0 + cond {A = ℕ} b 1 0
-    by true = refl
-    by false = refl
 
 -- a word leads to a state of the automaton, or nowhere
 pub run-in_range : (a : Automaton) (w : List ℕ) → IsTable (letters_of a) a.states → IfSome (run_of a 0 w) (λ p. p < states_of a)

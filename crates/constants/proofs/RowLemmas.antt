@@ -36,9 +36,6 @@ get-push (z ∷ xs) y (suc i) x is = by (get-push xs y i x is)
     by (inl early) = inl early
     by (inr last) = inr (ap suc last.0, last.1)
 
-pub rows-none : (way : Direction) (a : Automaton) → AreRows way a []
-rows-none way a n row is = absurd (none-some row is)
-
 -- a row more
 pub rows-push : (way : Direction) (a : Automaton) (rows : List (Vec ℕ Global)) (row : Vec ℕ Global) → AreRows way a rows → AreCounts way a (length rows) row.items
     → AreRows way a (rows ++ row ∷ [])

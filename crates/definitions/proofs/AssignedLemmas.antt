@@ -4,6 +4,7 @@ use Rattle.std.specs.Str.{bytes_eq}
 use Rattle.std.proofs.lemmas.Slice.Eq.{bytes_eq-Decides}
 use Rattle.digit_tuple.specs.Names.{AreDistinct}
 use Rattle.formula_truth.specs.Assignments.{Assignment, with_value}
+use Rattle.formula_truth.proofs.TrialLemmas.{value_here}
 use Rattle.definitions.specs.Trees.{Variable}
 use Rattle.definitions.specs.TreeMeanings.{assigned}
 
@@ -22,10 +23,6 @@ others_kept x n a (y ∷ names) apart =
     let rest : map (with_value x n a) names ≡ map a names = others_kept x n a names (λ j within. apart (suc j) (omega (arith, within))) in
     λ i. first i ∷ rest i
 
--- the number of a variable stands under its name
-own_number : (x : List ℕ) (n : ℕ) (a : Assignment) → with_value x n a x ≡ n
-own_number x n a = let same : bytes_eq x x ≡ true = (bytes_eq-Decides x x).1 refl in rw same refl
-
 abbrev pub names_of_variables : List Variable → List (List ℕ)
 names_of_variables variables = map (λ (v : Variable). v.name) variables
 
@@ -35,7 +32,7 @@ assigned_numbers [] (n ∷ ns) distinct count = absurd (omega (arith, count))
 assigned_numbers (v ∷ variables) [] distinct count = absurd (omega (arith, count))
 assigned_numbers (v ∷ variables) (n ∷ ns) distinct count =
     let a : Assignment = assigned variables ns in
-    let first : with_value v.name n a v.name ≡ n = own_number v.name n a in
+    let first : with_value v.name n a v.name ≡ n = value_here v.name n a in
     let others : map (with_value v.name n a) (names_of_variables variables) ≡ map a (names_of_variables variables) =
     others_kept v.name n a (names_of_variables variables) (λ j within. distinct 0 (suc j) [] (omega arith) (omega (arith, within))) in
     let rest : map a (names_of_variables variables) ≡ ns = assigned_numbers variables ns (λ i j d before within. distinct (suc i) (suc j) d (omega (arith, before)) (omega (arith, within))) (omega (arith, count)) in

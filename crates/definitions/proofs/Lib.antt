@@ -15,8 +15,6 @@ pub mod WordValueTexts
 pub mod FileBindings
 pub mod CustomTexts
 pub mod TableSystems
-pub mod TableDone
-pub mod BranchTables
 pub mod TableWords
 pub mod TableRelations
 pub mod OneTable

@@ -1,5 +1,5 @@
 -- Names tell their systems.
-use Rattle.std.proofs.Common.{◌≡◌, ℕ, zero, suc, ◌<◌, List, [], ◌∷◌, length, take, drop, get_or, ◌⊎◌, inl, inr, refl, sym, ap, ◌∙◌, subst, arith}
+use Rattle.std.proofs.Common.{◌≡◌, ℕ, suc, ◌<◌, List, [], ◌∷◌, length, drop, get_or, inl, inr, refl, sym, ap, ◌∙◌, subst, arith}
 use Rattle.std.specs.List.{AllByRecursion}
 use Rattle.digit_tuple.specs.declared.direction.Direction.{Direction}
 use Rattle.numeration.specs.Systems.{System, IsSystem, AreSystems}
@@ -7,14 +7,13 @@ use Rattle.base_k.specs.BaseLaws.{base_is_system}
 use Rattle.fib_system.specs.FibonacciLaws.{fibonacci_is_system}
 use Rattle.system_names.specs.declared.system_kind.SystemKind.{SystemKind}
 use Rattle.system_names.specs.declared.system_kind.SystemKind.TheVariants.{Base, Fibonacci}
-use Rattle.system_names.specs.Names.{IsSystemKind, IsBuiltInName}
-use Rattle.system_names.specs.UserNames.{IsUsersName}
+use Rattle.system_names.specs.Names.{IsSystemKind}
 use Rattle.system_names.proofs.OneSystem.{one_system}
 use Rattle.system_names.proofs.UserSystems.{none_is_built_in}
 use Rattle.system_files.proofs.OneSystem.{names_mean_one_system}
 use Rattle.definitions.specs.Tracks.{NamedSystem, names_of, systems_of}
 use Rattle.system_files.specs.SystemFiles.{Custom}
-use Rattle.definitions.specs.Named.{built_in_system, IsSystemNamed, IsOf, IsKnown, AreKnown, IsFirstWithout, AreNamed}
+use Rattle.definitions.specs.Named.{built_in_system, IsSystemNamed, IsOf, IsFirstWithout, AreNamed}
 
 -- what a name means: one direction and one system
 pub one_meaning : (custom : Custom) (name : List ℕ) (way other : Direction) (s r : System) → IsSystemNamed custom name way s → IsSystemNamed custom name other r → (way ≡ other) × (s ≡ r)
@@ -27,14 +26,6 @@ one_meaning custom name way other s r (inr user) (inr another) = names_mean_one_
 
 pub one_direction : (custom : Custom) (way other : Direction) (name : List ℕ) → IsOf custom way name → IsOf custom other name → way ≡ other
 one_direction custom way other name (s, named) (r, named') = (one_meaning custom name way other s r named named').0
-
--- the names that are known are those of built-in systems, and some of users' systems
-pub known_of : (custom : Custom) (name : List ℕ) → IsBuiltInName name → IsKnown custom name
-known_of custom name (way, kind, named) = (way, (built_in_system kind, inl (kind, named, refl)))
-
-pub of_known : (custom : Custom) (name : List ℕ) → IsKnown custom name → IsBuiltInName name ⊎ IsUsersName name
-of_known custom name (way, (s, inl (kind, named, is))) = inl (way, kind, named)
-of_known custom name (way, (s, inr user)) = inr (way, user.part, user.is_name)
 
 -- what a name means is a system
 pub kind_is_system : (kind : SystemKind) → IsSystemKind kind → IsSystem (built_in_system kind)
@@ -63,26 +54,10 @@ no_first P [] a all first = first
 no_first P (name ∷ names) a all (inl (without, is)) = without all.0
 no_first P (name ∷ names) a all (inr (with, rest)) = no_first P names a all.1 rest
 
--- and of a property that is the same
-pub first_so : (P Q : List ℕ → Type 0) (names : List (List ℕ)) (a : List ℕ) → ((name : List ℕ) → P name → Q name) → ((name : List ℕ) → Q name → P name) → IsFirstWithout P names a → IsFirstWithout Q names a
-first_so P Q [] a there back first = first
-first_so P Q (name ∷ names) a there back (inl (without, is)) = inl ((λ with. without (back name with)), is)
-first_so P Q (name ∷ names) a there back (inr (with, rest)) = inr (there name with, first_so P Q names a there back rest)
-
--- the first one without stands where all before have the property
-pub first_at : (P : List ℕ → Type 0) (names : List (List ℕ)) (i : ℕ) (name : List ℕ) → i < length names → name ≡ get_or names i name → AllByRecursion P (take i names) → ¬ P name → IsFirstWithout P names name
-first_at P [] i name within is all without = absurd (omega (arith, within))
-first_at P (n ∷ names) zero name within is all without = inl ((λ with. without (subst P (sym is) with)), is)
-first_at P (n ∷ names) (suc i) name within is all without = inr (all.0, first_at P names i name (omega (arith, within)) is all.1 without)
-
 -- names that mean systems in one direction are of that direction
 pub named_of_direction : (custom : Custom) (way : Direction) (named : List NamedSystem) → AreNamed custom way named → AllByRecursion (IsOf custom way) (names_of named)
 named_of_direction custom way [] are = tt
 named_of_direction custom way (s ∷ named) are = ((s.system, are.0), named_of_direction custom way named are.1)
-
-pub named_known : (custom : Custom) (way : Direction) (named : List NamedSystem) → AreNamed custom way named → AreKnown custom (names_of named)
-named_known custom way [] are = tt
-named_known custom way (s ∷ named) are = ((way, (s.system, are.0)), named_known custom way named are.1)
 
 same_named : (s r : NamedSystem) → s.name ≡ r.name → s.system ≡ r.system → s ≡ r
 same_named s r names systems = λ i. record { name = names i; system = systems i }

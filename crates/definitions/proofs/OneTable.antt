@@ -27,7 +27,7 @@ use Rattle.number_relations.proofs.StepOutcomes.{same_relation}
 use Rattle.definitions.specs.TableSteps.{AreForTracks, AreStepsBelow, AreSystemTableSteps, IsTableOver, PassesBelow, PassesSystems}
 use Rattle.num_system.proofs.LineLemmas.{only_memory, refused_letters, refused_states}
 use Rattle.definitions.specs.TableLaws.{TablesHaveOneOutcome}
-use Rattle.definitions.proofs.BranchTables.{same_branching}
+use Rattle.digit_tuple.proofs.BranchTables.{same_branching}
 
 -- an alphabet is not too large
 not_too_large : (sizes : List ℕ) → IsAlphabet sizes → IsTooLarge sizes → ⊥

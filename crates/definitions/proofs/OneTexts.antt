@@ -1,15 +1,10 @@
 -- An entry has one text, and a formula one verdict.
 use Rattle.std.proofs.Common.{◌≡◌, ℕ, Bool, List, [], ◌∷◌, ℤ, Option, None, Some, refl, sym, ap, ◌∙◌, subst}
-use Rattle.digit_tuple.specs.Deterministic.{Automaton, letters_of, accepts_of}
-use Rattle.digit_tuple.specs.Letters.{IsWord, product}
-use Rattle.digit_tuple.specs.Paddings.{in_order}
+use Rattle.digit_tuple.specs.Deterministic.{Automaton}
 use Rattle.digit_tuple.specs.declared.direction.Direction.{Direction}
-use Rattle.minimise.specs.Canonical.{IsCanonical}
-use Rattle.minimise.proofs.CanonicalLemmas.{canonical_forms}
 use Rattle.dfa_text.specs.RelationText.{relation_text}
-use Rattle.numeration.specs.Systems.{System}
-use Rattle.numeration.specs.Spelling.{Spells, letters_in}
 use Rattle.numeration.specs.Relations.{HoldsOf}
+use Rattle.num_system.proofs.OneSystem.{one_holding}
 use Rattle.formula_parse.specs.Trees as trees
 use Rattle.regex_build.specs.Expression.{Expression}
 use Rattle.reg_steps.proofs.OneRegex.{same_truth}
@@ -23,15 +18,6 @@ use Rattle.definitions.specs.Texts.{IsTrackText, HasTreeText}
 use Rattle.definitions.specs.Laws.{OneText}
 use Rattle.definitions.proofs.RegexTexts.{one_regex_text}
 use Rattle.definitions.proofs.OneWordTexts.{one_word_text, one_fixed_text}
-
--- canonical automata that hold of one relation are one
-pub one_holding : (way : Direction) (ss : List System) (holds : List ℕ → Type 0) (c d : Automaton) → IsCanonical c → IsCanonical d → HoldsOf way ss holds c → HoldsOf way ss holds d → c ≡ d
-one_holding way ss holds c d first second one other = canonical_forms c d first second (one.sizes ∙ sym other.sizes) same
-  where
-    same : (word : List ℕ) → IsWord (letters_of c) word → accepts_of c word ≡ accepts_of d word
-    same word over =
-        let inside : IsWord (letters_in ss) word = subst (λ (s : List ℕ). IsWord (product s) word) one.sizes over in
-        same_truth (accepts_of c word) (accepts_of d word) ((ns : List ℕ) × Spells ss (in_order way word) ns × holds ns) (one.accepts word inside) (other.accepts word inside)
 
 -- an expression over tracks has one text
 pub one_track_text : (custom : Custom) (tracks : Tracks) (e : Expression (List ℤ)) (text other : List ℕ) → IsTrackText custom tracks e text → IsTrackText custom tracks e other → text ≡ other

@@ -5,10 +5,10 @@ use Rattle.digit_tuple.specs.declared.direction.Direction.{Direction}
 use Rattle.dfa_reading.specs.Branching.{IsBranching}
 use Rattle.dfa_reading.specs.Listed.{Listed}
 use Rattle.dfa_reading.proofs.Words.{accepts_listed}
+use Rattle.dfa_reading.proofs.TupleWords.{tuples_of, word_of_tuples}
 use Rattle.numeration.specs.Spelling.{sizes_of}
 use Rattle.numeration.specs.Systems.{System}
 use Rattle.number_relations.specs.Readings.{IsListedOf}
-use Rattle.word_output.proofs.TupleWords.{tuples_of, word_of_tuples}
 use Rattle.definitions.specs.Files.{HasListedWord}
 
 module _ (way : Direction) (ss : List System) (listed : Listed) (n : Branching) (is : IsBranching (sizes_of ss) listed n) where

@@ -17,7 +17,6 @@ use Rattle.numeration.specs.Spelling as spelling
 use Rattle.numeration.specs.Spelling.{letters_in}
 use Rattle.numeration.specs.Relations.{HoldsOf}
 use Rattle.num_system.proofs.HoldLemmas.{one_tuple, spelled_count, spelling_of}
-use Rattle.word_output.proofs.TupleWords.{tuples_of, word_of_tuples}
 use Rattle.regex_build.specs.Expression.{Expression}
 use Rattle.reg_steps.specs.Relations.{HasMatch}
 use Rattle.dfa_reading.specs.Branching.{IsLetterOfDigits}
@@ -25,6 +24,7 @@ use Rattle.dfa_reading.specs.Headers.{Truth, truth_of, header_of as file_header_
 use Rattle.dfa_reading.specs.Listed.{Listed, ListedAccepts}
 use Rattle.dfa_reading.specs.Reading.{relation_of, add_line}
 use Rattle.dfa_reading.specs.Lines.{is_passed}
+use Rattle.dfa_reading.proofs.TupleWords.{tuples_of, word_of_tuples}
 use Rattle.dfa_text.specs.Lists.{automaton_listed, IsAutomatonUnder}
 use Rattle.dfa_text.specs.RelationText.{relation_text}
 use Rattle.dfa_text.proofs.ListedPaths.{accepts_listed}

@@ -18,7 +18,7 @@ use Rattle.dfa_reading.specs.Reading.{Draft, no_draft, add_line, add_lines_by, p
 use Rattle.dfa_reading.specs.Systems.{systems_of}
 use Rattle.dfa_reading.proofs.Drafts.{then_ok}
 use Rattle.dfa_reading.proofs.Options.{bind_some, map_some, cond_some, cond_some-then, each_holds}
-use Rattle.dfa_reading.proofs.ReadWords.{IsHeaded, line_headed, lines_kept}
+use Rattle.dfa_reading.proofs.ReadWords.{IsHeaded, line_headed, lines_kept, or_else_some}
 use Rattle.digit_tuple.specs.declared.direction.Direction.{Direction}
 use Rattle.numeration.specs.Systems.{System}
 use Rattle.numeration.proofs.RankLemmas.{two_digits}
@@ -86,10 +86,6 @@ between_small (piece ∷ next ∷ pieces) sets h =
 line_small : (line : List ℕ) (sets : List (List ℤ)) → sets_of line ≡ Some sets → AreSmall sets
 unfolding sets_of
 line_small line sets h = between_small (slice_split (λ b. eqb b 125) line) sets h
-
-or_else_some : {A : Type 0} (o other : Option A) (x : A) (P : Type 0) → (o ≡ Some x → P) → (other ≡ Some x → P) → or_else o other ≡ Some x → P
-or_else_some None other x P first second h = second h
-or_else_some (Some y) other x P first second h = first h
 
 pub header_small : (line : List ℕ) (sets : List (List ℤ)) → header_of line ≡ Some (Sets sets) → AreSmall sets
 unfolding header_of

@@ -15,6 +15,7 @@ use Rattle.digit_tuple.specs.declared.header.Header.{Header}
 use Rattle.dfa_reading.specs.Branching.{IsLetterOfDigits}
 use Rattle.dfa_reading.specs.Listed.{Listed, MovesAlong, output_of}
 use Rattle.dfa_reading.specs.WordFiles.{word_of}
+use Rattle.dfa_reading.proofs.TupleWords.{tuples_of, word_of_tuples}
 use Rattle.dfa_text.specs.Lists.{word_listed, AreOutputs}
 use Rattle.dfa_text.specs.RelationText.{word_text}
 use Rattle.dfa_text.proofs.ListedPaths.{runs_listed}
@@ -29,7 +30,6 @@ use Rattle.word_output.specs.LetterFunctions.{LetterFunctionValue, IsLetterFunct
 use Rattle.word_output.specs.WordReadings.{HasListedLetterAt}
 use Rattle.word_output.proofs.LetterFunctionLemmas.{letter_in-class}
 use Rattle.word_output.proofs.StripLemmas.{IsWord-stripped, in_order-strip, strip-twice}
-use Rattle.word_output.proofs.TupleWords.{tuples_of, word_of_tuples}
 use Rattle.system_files.specs.SystemFiles.{Custom}
 use Rattle.definitions.specs.Tracks.{NamedSystem, OverSystems, names_of, systems_of, header_of, header_tracks}
 use Rattle.definitions.specs.WordFiles.{HasLetterUnder, ListedLetter, FileLetter}

@@ -1,5 +1,5 @@
 -- Bits of words.
-use Rattle.std.proofs.Common.{◌≡◌, ◌≢◌, ℕ, ◌+◌, ◌*◌, ◌/◌, ◌%◌, ◌^◌, ◌<◌, ◌≤◌, max, min, List, [], ◌∷◌, take, drop, set, replicate, length, get_or, ◌↔◌, ◌⊎◌, inl, inr, refl, sym, ap, ◌∙◌, subst, arith, get_or-set_same, get_or-set_other, drop-cons, add-one}
+use Rattle.std.proofs.Common.{◌≡◌, ◌≢◌, ℕ, ◌+◌, ◌^◌, ◌<◌, ◌≤◌, max, min, List, [], ◌∷◌, take, set, replicate, length, get_or, ◌↔◌, ◌⊎◌, inl, inr, refl, sym, ap, ◌∙◌, subst, arith, get_or-set_same, get_or-set_other}
 use Rattle.std.specs.Prelude.{bit_or, bit_and}
 use Rattle.std.specs.Int.{bit_at, trailing_zeros}
 use mir.Syntax.{w32}
@@ -8,9 +8,9 @@ use Rattle.std.proofs.lemmas.Bool.{cases_eq, cases_lt}
 use Rattle.std.proofs.lemmas.List.{take_more, get_or_past, length-replicate, get_or-replicate}
 use Rattle.std.proofs.lemmas.List.Elements.{Contains-append_left, Contains-push, Contains-push_cases}
 use Rattle.std.proofs.lemmas.Nat.Bits.{bit_at_or, bit_at_and, bit_at-lt, bit_at-zero, bit_at-trailing_zeros}
-use Rattle.std.proofs.lemmas.Nat.{one_shl, mod_below, and_le_l}
+use Rattle.std.proofs.lemmas.Nat.{and_le_l}
 use Rattle.determinise.specs.declared.bit_words.BitWord.{BitWord}
-use Rattle.determinise.specs.Bits.{HasBit, RowHas, AreSet, with_bit, with_bits}
+use Rattle.determinise.specs.Bits.{HasBit, RowHas, AreSet}
 
 one_of_max : (x y : ℕ) → x < 2 → y < 2 → (max x y ≡ 1) ↔ ((x ≡ 1) ⊎ (y ≡ 1))
 one_of_max x y small few = ((λ is. forth is (cases_eq x 1)), back)
@@ -122,14 +122,6 @@ AreSet-more old words row k d within room are place bit =
         by : RowHas (take k row) place bit ⊎ (((get_or row k d).place ≡ place) × (bit_at (get_or row k d).bits bit ≡ 1)) → HasBit words place bit ⊎ (((get_or row k d).place ≡ place) × (bit_at (get_or row k d).bits bit ≡ 1))
         by (inl early) = inl ((are place bit).1 (inr early))
         by (inr last) = inr last
-
--- the bit of a number set in its word
-pub with_bit-shift : (words : List ℕ) (number : ℕ) → set words (number / 32) (bit_or (get_or words (number / 32) 0) ((1 * 2 ^ (number % 32)) % 2 ^ 32)) ≡ with_bit words number
-with_bit-shift words number = ap (λ bits. set words (number / 32) (bit_or (get_or words (number / 32) 0) bits)) (one_shl (number % 32) 32 (mod_below number 32 (omega arith)))
-
--- the next of the numbers
-pub with_bits-next : (words numbers : List ℕ) (k : ℕ) → k < length numbers → with_bits words (drop k numbers) ≡ with_bits (with_bit words (get_or numbers k 0)) (drop (k + 1) numbers)
-with_bits-next words numbers k within = ap (with_bits words) (drop-cons numbers k 0 within ∙ ap (λ n. get_or numbers k 0 ∷ drop n numbers) (sym (add-one k)))
 
 -- two words have a bit in common where their bits together are not 0
 pub common_bit : (a b : ℕ) → a < 2 ^ 32 → bit_and a b ≢ 0 → (bit : ℕ) × (bit_at a bit ≡ 1) × (bit_at b bit ≡ 1)

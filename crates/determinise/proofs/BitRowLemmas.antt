@@ -1,5 +1,5 @@
 -- Rows of bits that are set for the members of a set.
-use Rattle.std.proofs.Common.{◌≡◌, ◌≢◌, ℕ, suc, ◌+◌, ◌*◌, ◌/◌, ◌%◌, ◌^◌, ◌-◌, ◌<◌, ◌≤◌, Bool, cond, filter, List, [], ◌∷◌, ◌++◌, replicate, take, length, get_or, map, min, ◌↔◌, ◌⊎◌, inl, inr, refl, sym, ap, ◌∙◌, subst, arith}
+use Rattle.std.proofs.Common.{◌≡◌, ◌≢◌, ℕ, suc, ◌+◌, ◌*◌, ◌/◌, ◌%◌, ◌^◌, ◌-◌, ◌<◌, ◌≤◌, Bool, cond, filter, List, [], ◌∷◌, ◌++◌, take, length, get_or, map, min, ◌↔◌, ◌⊎◌, inl, inr, refl, sym, ap, ◌∙◌, subst, arith}
 use Rattle.std.specs.Prelude.{bit_and, Vec}
 use Rattle.std.specs.Int.{bit_at, bit_not}
 use Rattle.std.specs.List.{All, Contains, range_with_len}
@@ -16,7 +16,7 @@ use Rattle.digit_tuple.specs.declared.edges.Edge.{Edge}
 use Rattle.determinise.specs.BitRows.{word_of}
 use Rattle.determinise.specs.declared.bit_words.BitWord.{BitWord}
 use Rattle.determinise.specs.Bits.{HasBit, HasMember, RowHas, AreSet, AreRowsSet, AreGathered, AreUnited, row_at, rows_in}
-use Rattle.determinise.proofs.BitLemmas.{HasBit-within, HasBit-replicate}
+use Rattle.determinise.proofs.BitLemmas.{HasBit-within}
 
 -- a number of 32 bits without one of them
 abbrev pub without_bit : ℕ → ℕ → ℕ
@@ -160,8 +160,6 @@ abbrev pub MembersHave : List (List BitWord) → List ℕ → ℕ → ℕ → �
 MembersHave rows set count place bit = (q : ℕ) × (q < count * 32) × HasMember set q × RowHas (row_at rows q) place bit
 
 module _ (rows : List (List BitWord)) (set : List ℕ) where
-  pub MembersHave-none : (width : ℕ) (place bit : ℕ) → HasBit (replicate width 0) place bit ↔ MembersHave rows set 0 place bit
-  MembersHave-none width place bit = ((λ is. absurd (HasBit-replicate width place bit is)), (λ there. absurd (omega (arith, there.1))))
 
   pub MembersHave-more : (words new : List ℕ) (count : ℕ) → get_or set count 0 < 2 ^ 32 → ((place bit : ℕ) → HasBit words place bit ↔ MembersHave rows set count place bit)
       → AreRowsSet words rows (count * 32) (get_or set count 0) new → (place bit : ℕ) → HasBit new place bit ↔ MembersHave rows set (count + 1) place bit

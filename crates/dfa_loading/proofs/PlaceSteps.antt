@@ -20,11 +20,11 @@ use Rattle.dfa_loading.specs.Places.{place_of, IsReadAt, ListsAs, IsNotListed, I
 use Rattle.dfa_loading.proofs.ReadSteps.{quiet_read}
 
 -- the files that are told, or else some that have this everywhere
-abbrev files_by : Option Files → Option (List ℕ) → Files
+abbrev pub files_by : Option Files → Option (List ℕ) → Files
 files_by None there = λ folder name. there
 files_by (Some files) there = files
 
-told_by : (told : Option Files) (there : Option (List ℕ)) → IfSome told (λ files. files_by told there ≡ files)
+pub told_by : (told : Option Files) (there : Option (List ℕ)) → IfSome told (λ files. files_by told there ≡ files)
 told_by None there = tt
 told_by (Some files) there = refl
 

@@ -5,12 +5,13 @@ use Rattle.std.specs.List.{All, AllByRecursion}
 use Rattle.std.proofs.lemmas.Bool.{eqb-false}
 use Rattle.std.proofs.lemmas.List.{length_push}
 use Rattle.std.proofs.lemmas.List.Quantifiers.{position-Some}
+use Rattle.digit_tuple.proofs.AllLemmas.{all_weaker}
 use Rattle.dfa_reading.specs.Lines.{◌>>=◌, is_passed, parts_of, arrow_at, each_of}
 use Rattle.dfa_reading.specs.Headers.{Header, Digits, digits_in, has_states, header_of}
 use Rattle.dfa_reading.specs.Listed.{ListedLine, IsListedLine, IsListed}
 use Rattle.dfa_reading.specs.Entries.{Entry, State, Line, digit_of, digits_of, targets_of, state_number, state_of, entry_by, entry_of}
 use Rattle.dfa_reading.specs.Numbers.{integer_of}
-use Rattle.dfa_reading.specs.Reading.{Draft, no_draft, with_header, with_state, with_line, has_number, add_entry, add_to, add_line, then_read, state_at, placed_line, placed_lines, tracks_in, IsDraftLine, IsDraft}
+use Rattle.dfa_reading.specs.Reading.{Draft, with_header, with_state, with_line, has_number, add_entry, add_to, add_line, then_read, state_at, placed_line, placed_lines, tracks_in, IsDraftLine, IsDraft}
 use Rattle.dfa_reading.proofs.Options.{bind_some, map_some, cond_some, cond_some-then, each_holds}
 
 -- a line has a digit for each track
@@ -44,13 +45,6 @@ entry_digits-by tracks line (Some p) digits targets h =
 entry_digits : (tracks : List Digits) (line : List ℕ) (digits : List (Option ℕ)) (targets : List ℕ) → entry_of tracks line ≡ Some (Line digits targets) → length digits ≡ length tracks
 unfolding entry_of
 entry_digits tracks line digits targets h = entry_digits-by tracks line (arrow_at line) digits targets h
-
-pub IsDraft-none : IsDraft no_draft
-IsDraft-none = record { numbers = refl; lines = tt; none = λ e. refl }
-
-all_weaker : {X : Type 0} (P Q : X → Type 0) → ((x : X) → P x → Q x) → (xs : List X) → AllByRecursion P xs → AllByRecursion Q xs
-all_weaker P Q f [] h = tt
-all_weaker P Q f (x ∷ xs) h = (f x h.0, all_weaker P Q f xs h.1)
 
 all_push : {X : Type 0} (P : X → Type 0) (xs : List X) (x : X) → AllByRecursion P xs → P x → AllByRecursion P (xs ++ x ∷ [])
 all_push P [] x h k = (k, tt)

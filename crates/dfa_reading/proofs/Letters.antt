@@ -2,7 +2,7 @@
 use Rattle.std.proofs.Common.{◌≡◌, ℕ, zero, suc, ◌+◌, ◌*◌, ◌<◌, ◌≤◌, inl, inr, Bool, true, false, cond, ltb, List, [], ◌∷◌, ◌++◌, length, drop, get_or, Option, None, Some, refl, sym, ap, ◌∙◌, subst, arith}
 use Rattle.std.specs.List.{All, Contains, flat_map, range_with_len}
 use Rattle.std.proofs.lemmas.Bool.Decides.{nat_tests}
-use Rattle.std.proofs.lemmas.List.{drop_more, flat_map_more}
+use Rattle.std.proofs.lemmas.List.{flat_map_more}
 use Rattle.std.proofs.lemmas.List.Elements.{Contains-get_or, All-contains}
 use Rattle.std.proofs.lemmas.List.FromFn.{length-range_with_len, get_or-range_with_len}
 use Rattle.digit_tuple.specs.Letters.{product, code_of, AreDigits}
@@ -93,14 +93,6 @@ last_product (s ∷ sizes) (suc i) some =
     over_tail : (m n : ℕ) → 0 < m * n → n ≤ m * n
     over_tail zero n h = omega arith
     over_tail (suc m) n h = grind arith
-
--- one track more
-pub with_track-letters : (sizes : List ℕ) (digits : List (Option ℕ)) (i weight : ℕ) (letters : List ℕ) → i < length sizes → length digits ≡ length sizes → letters ≡ letters_taken (drop (i + 1) sizes) (drop (i + 1) digits) → weight ≡ product (drop (i + 1) sizes)
-    → flat_map (λ digit. shifted (digit * weight) letters) (digits_taken (get_or sizes i 0) (get_or digits i None)) ≡ letters_taken (drop i sizes) (drop i digits)
-with_track-letters sizes digits i weight letters lt long is heavy =
-    ap (λ (w : ℕ). flat_map (λ digit. shifted (digit * w) letters) (digits_taken (get_or sizes i 0) (get_or digits i None))) heavy
-    ∙ ap (λ (l : List ℕ). flat_map (λ digit. shifted (digit * product (drop (i + 1) sizes)) l) (digits_taken (get_or sizes i 0) (get_or digits i None))) is
-    ∙ sym (ap (λ (ss : List ℕ). letters_taken ss (drop i digits)) (drop_more sizes i 0 lt) ∙ ap (letters_taken (get_or sizes i 0 ∷ drop (i + 1) sizes)) (drop_more digits i None (omega arith)))
 
 pub with_track-weight : (sizes : List ℕ) (i weight : ℕ) → i < length sizes → weight ≡ product (drop (i + 1) sizes) → weight * get_or sizes i 0 ≡ product (drop i sizes)
 with_track-weight sizes i weight lt heavy =

@@ -10,6 +10,7 @@ pub mod ReadDrafts
 pub mod Letters
 pub mod Rows
 pub mod Words
+pub mod TupleWords
 pub mod ConflictLemmas
 pub mod ReadWords
 pub mod TableRows

@@ -2,11 +2,12 @@
 use Rattle.std.proofs.Common.{◌≡◌, ℕ, zero, suc, ◌+◌, ◌<◌, ◌≤◌, Bool, true, false, not, cond, eqb, List, [], ◌∷◌, ◌++◌, length, take, drop, get_or, Option, None, Some, refl, sym, ap, ◌∙◌, subst, arith}
 use Rattle.std.specs.List.{slice_split, onto_first, filter, prefix_len}
 use Rattle.std.proofs.lemmas.Bool.{eq-eqb, ne_eqb}
+use Rattle.std.proofs.Math.Bool.{and-false}
 use Rattle.text_grammar.specs.Bytes.{is_blank}
 use Rattle.text_grammar.specs.Fronts.{front_len}
 use Rattle.text_grammar.specs.declared.class.Class.TheVariants.{Blank}
 use Rattle.dfa_reading.specs.Lines.{has_bytes, parts_of, arrow_at}
-use Rattle.dfa_reading.proofs.Splits.{parts_of-append, and-false}
+use Rattle.dfa_reading.proofs.Splits.{parts_of-append}
 
 -- a text before the first of two
 abbrev pub behind : List ℕ → Option (List ℕ × List ℕ) → Option (List ℕ × List ℕ)

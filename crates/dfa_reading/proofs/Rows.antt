@@ -45,13 +45,6 @@ AreInOrder-next old rows place row within sorted same ascending = record {
     in_order q low (inr (inl less)) = subst (λ (b : Branch). AllPairs IsBefore b.edges) (sym (other q (omega arith))) (sorted.ascending q less)
     in_order q low (inr (inr more)) = absurd (omega arith)
 
-pub AreInOrder-none : (rows : List Branch) → AreInOrder rows rows 0
-AreInOrder-none rows = record {
-  size = refl;
-  same = λ q. record { accepting = refl; edges = λ e. ((λ h. h), (λ h. h)) };
-  ascending = λ q low. absurd (omega arith);
-}
-
 -- a line's edges are added to its state
 length-with_line : (sizes : List ℕ) (rows : List Branch) (line : ListedLine) → length (with_line sizes rows line) ≡ length rows
 length-with_line sizes rows line = length-set rows line.state (with_edges (branch_at rows line.state) (edges_of_line sizes line))
@@ -165,9 +158,6 @@ not_zero z = (
 
 -- the rows of the listed states
 module _ (sizes : List ℕ) (listed : Listed) (rows : List Branch) (are : AreRowsOf sizes listed rows) where
-  bare : List Branch
-  bare = map bare_row listed.outputs
-
   inside : All (λ line. line.state < length (map bare_row listed.outputs)) listed.lines
   inside k d lt = let line = are.lines k d lt in omega (arith, line.state, length-map listed.outputs bare_row)
 

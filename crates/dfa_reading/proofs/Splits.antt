@@ -1,5 +1,5 @@
 -- How lines are divided into parts.
-use Rattle.std.proofs.Common.{◌≡◌, ℕ, ◌<◌, Bool, true, false, ◌&&◌, cond, List, [], ◌∷◌, ◌++◌, length, refl, ap, ◌∙◌, arith}
+use Rattle.std.proofs.Common.{◌≡◌, ℕ, ◌<◌, Bool, true, false, cond, List, [], ◌∷◌, ◌++◌, length, refl, ap, ◌∙◌, arith}
 use Rattle.std.specs.List.{slice_split, onto_first, filter}
 use Rattle.std.proofs.lemmas.List.Elements.{filter-append}
 use Rattle.std.proofs.lemmas.List.Splits.{length-slice_split}
@@ -14,7 +14,7 @@ onto_first-append : (x : ℕ) (parts more : List (List ℕ)) → 0 < length part
 onto_first-append x [] more h = absurd (omega arith)
 onto_first-append x (part ∷ parts) more h = refl
 
-split-append : (p : ℕ → Bool) (xs : List ℕ) (c : ℕ) (ys : List ℕ) → p c ≡ true → slice_split p (xs ++ c ∷ ys) ≡ slice_split p xs ++ slice_split p ys
+pub split-append : (p : ℕ → Bool) (xs : List ℕ) (c : ℕ) (ys : List ℕ) → p c ≡ true → slice_split p (xs ++ c ∷ ys) ≡ slice_split p xs ++ slice_split p ys
 split-append p [] c ys h = rw h refl
 split-append p (x ∷ xs) c ys h =
     elim (p x) as (λ b. cond b ([] ∷ slice_split p (xs ++ c ∷ ys)) (onto_first x (slice_split p (xs ++ c ∷ ys))) ≡ cond b ([] ∷ slice_split p xs) (onto_first x (slice_split p xs)) ++ slice_split p ys) [
@@ -25,7 +25,3 @@ split-append p (x ∷ xs) c ys h =
 -- the parts of two texts with a blank between them
 pub parts_of-append : (xs : List ℕ) (c : ℕ) (ys : List ℕ) → is_blank c ≡ true → parts_of (xs ++ c ∷ ys) ≡ parts_of xs ++ parts_of ys
 parts_of-append xs c ys h = ap (filter has_bytes) (split-append is_blank xs c ys h) ∙ filter-append has_bytes (slice_split is_blank xs) (slice_split is_blank ys)
-
-pub and-false : (a : Bool) → (a && false) ≡ false
-and-false true = refl
-and-false false = refl

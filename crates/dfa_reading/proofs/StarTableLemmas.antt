@@ -11,10 +11,6 @@ use Rattle.indexmap.specs.IndexMap.{insert_entry}
 use Rattle.dfa_reading.specs.declared.star_table.Targets.{Targets}
 use Rattle.dfa_reading.specs.StarTables.{kept_digit, masked, same_digits, entry_in, entries_in, targets_at}
 
-drop_nil : {X : Type 0} (n : ℕ) → drop n (let none : List X = [] in none) ≡ []
-drop_nil zero = refl
-drop_nil (suc n) = refl
-
 one_more : (n : ℕ) → suc n + 1 ≡ suc (n + 1)
 one_more n = omega arith
 

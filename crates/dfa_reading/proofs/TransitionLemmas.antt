@@ -208,9 +208,6 @@ IsOwnTable-last digits tables table place last pattern = record {
 pub IsOwnTable-found : (digits : List (Option ℕ)) (tables : List StarTable) (place : ℕ) → position (λ (table : StarTable). same_stars digits table.pattern) tables ≡ Some place → IsOwnTable digits tables place
 IsOwnTable-found digits tables place h = let found = position-Some (λ (table : StarTable). same_stars digits table.pattern) tables place no_table h in record { within = found.0; stars = found.1 }
 
-pub AreIndexed-none : AreIndexed [] []
-AreIndexed-none = record { tables_of = λ k d lt. absurd (omega arith); covered = λ k d lt. absurd (omega arith) }
-
 -- a list whose first elements are changed, with one more
 pub set_front : {X : Type 0} (f : X → X) (xs : List X) (i : ℕ) (d y : X) → i < length xs → y ≡ f (get_or xs i d) → set (map f (take i xs) ++ drop i xs) i y ≡ map f (take (i + 1) xs) ++ drop (i + 1) xs
 set_front f [] i d y within is = absurd (omega arith)

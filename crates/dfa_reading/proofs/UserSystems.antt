@@ -9,7 +9,7 @@ use Rattle.system_names.specs.UserNames.{is_word_of_letters, IsUserPart, IsUsers
 use Rattle.system_names.specs.Names.{direction_part}
 use Rattle.system_names.proofs.UserSystems.{user_front, user_rest, none_is_built_in}
 use Rattle.text_grammar.specs.Systems.{is_direction, is_system}
-use Rattle.dfa_reading.specs.Systems.{directs_as, digit_limit}
+use Rattle.dfa_reading.specs.Systems.{digit_limit}
 use Rattle.dfa_reading.proofs.SystemNames.{digit_limit-other}
 use Rattle.dfa_reading.proofs.ConflictLemmas.{both_hold}
 
@@ -50,8 +50,3 @@ users_name_passes name (way, part, (is, named)) = subst (λ (n : List ℕ). is_s
 -- and any digit of 32 bits on its tracks
 pub users_digit_limit : (name : List ℕ) → IsUsersName name → digit_limit name ≡ 2 ^ 32
 users_digit_limit name is = digit_limit-other name (none_is_built_in name is)
-
--- names of one direction begin alike
-pub users_direct_alike : (way : Direction) (part another : List ℕ) → directs_as (user_name way part) (user_name way another) ≡ true
-users_direct_alike Msd part another = refl
-users_direct_alike Lsd part another = refl

@@ -1,6 +1,6 @@
 -- Lists made over numbers in order.
-use Rattle.std.proofs.Common.{◌≡◌, ℕ, zero, suc, ◌+◌, ◌-◌, ◌<◌, ◌≤◌, List, [], ◌∷◌, ◌++◌, length, sym, ap, ◌∙◌, arith, append_assoc}
-use Rattle.std.specs.List.{flat_map, range_with_len, AllByRecursion}
+use Rattle.std.proofs.Common.{◌≡◌, ℕ, zero, suc, ◌+◌, ◌-◌, ◌≤◌, List, [], ◌∷◌, ◌++◌, length, sym, ap, ◌∙◌, arith, append_assoc}
+use Rattle.std.specs.List.{flat_map, range_with_len}
 use Rattle.std.proofs.lemmas.List.{append-nil, length-append}
 use Rattle.std.proofs.lemmas.List.Concat.{flat_map-append}
 use Rattle.dfa_text.specs.Parts.{text_of_lines}
@@ -28,11 +28,6 @@ pub state_more : (before between after line : List ℕ) (steps : List (List ℕ)
 state_more before between after line steps h k =
     k ∙ ap (λ t. t ++ text_of_lines steps) h ∙ append_assoc before (text_of_lines ([] ∷ line ∷ [])) (text_of_lines steps)
     ∙ ap (λ t. before ++ t) (sym (text_of_lines-append ([] ∷ line ∷ []) steps))
-
--- what holds of each number holds of all in the list
-pub each_number : (P : ℕ → Type 0) (a n : ℕ) → ((i : ℕ) → a ≤ i → i < a + n → P i) → AllByRecursion P (range_with_len a n)
-each_number P a zero h = tt
-each_number P a (suc n) h = (h a (omega arith) (omega arith), each_number P (a + 1) n (λ i low high. h i (omega arith) (omega arith)))
 
 -- further numbers make no text shorter
 pub longer_by_numbers : (f : ℕ → List (List ℕ)) (k n : ℕ) → k ≤ n → length (text_of_lines (flat_map f (range_with_len 0 k))) ≤ length (text_of_lines (flat_map f (range_with_len 0 n)))

@@ -18,9 +18,6 @@ pub record AreFirstFronts (sets : List (List ℤ)) (bytes ends : List ℕ) (lett
   pub are : AreEnds (length bytes) 0 ends
   pub last : get_or (0 ∷ ends) (length ends) 0 ≡ length bytes
 
-pub no_fronts : (sets : List (List ℤ)) → AreFirstFronts sets [] [] 0
-no_fronts sets = record { fronts = refl; are = omega arith; last = refl }
-
 -- the last of a list to which a number was added
 last_pushed : (start end : ℕ) (ends : List ℕ) → get_or (start ∷ ends ++ end ∷ []) (length (ends ++ end ∷ [])) 0 ≡ end
 last_pushed start end [] = refl

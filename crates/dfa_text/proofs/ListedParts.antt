@@ -1,5 +1,5 @@
 -- What is listed, and the tuples of letters.
-use Rattle.std.proofs.Common.{◌≡◌, ◌⊎◌, inl, inr, zero, suc, List, [], ◌∷◌, ℤ, refl, arith}
+use Rattle.std.proofs.Common.{◌≡◌, ◌⊎◌, inl, inr, zero, suc, List, [], ◌∷◌, ℤ, arith}
 use Rattle.std.specs.List.{All, Contains}
 use Rattle.std.proofs.lemmas.List.Elements.{recursion_from_All}
 use mir.Val.{SFits}
@@ -11,12 +11,6 @@ use Rattle.dfa_text.proofs.PrintedHeaders.{IsPrintable}
 -- elements of a list
 pub contains_none : {X : Type 0} (x : X) → Contains [] x → ⊥
 contains_none x (k, lt, e) = absurd (omega arith)
-
-pub contains_here : {X : Type 0} (x : X) (xs : List X) → Contains (x ∷ xs) x
-contains_here x xs = (0, omega arith, refl)
-
-pub contains_there : {X : Type 0} (x y : X) (xs : List X) → Contains xs y → Contains (x ∷ xs) y
-contains_there x y xs (k, lt, e) = (suc k, omega arith, e)
 
 pub contains_cases : {X : Type 0} (x y : X) (xs : List X) → Contains (x ∷ xs) y → (x ≡ y) ⊎ Contains xs y
 contains_cases x y xs (zero, lt, e) = inl e

@@ -12,10 +12,11 @@ use Rattle.digit_tuple.specs.Letters.{code_of, AreDigits}
 use Rattle.digit_tuple.specs.declared.header.Header.{Header}
 use Rattle.digit_tuple.proofs.DfaLemmas.{row_at, target_by-in_range}
 use Rattle.digit_tuple.proofs.LetterLemmas.{code_of-below, code_of-injective}
+use Rattle.digit_tuple.proofs.MemberLemmas.{Contains-head}
 use Rattle.dfa_reading.specs.Branching.{IsLetterOfDigits}
 use Rattle.dfa_reading.specs.Listed.{ListedLine, Takes, Moves, MovesAlong, IsAccepting, ListedAccepts, output_of}
 use Rattle.dfa_text.specs.Lists.{digits_of_letter, output_listed, step_listed, steps_listed, word_listed, automaton_listed}
-use Rattle.dfa_text.proofs.ListedParts.{contains_none, contains_here, contains_only}
+use Rattle.dfa_text.proofs.ListedParts.{contains_none, contains_only}
 use Rattle.dfa_text.proofs.PrintedRelations.{letter_digits}
 
 -- what lists over numbers contain
@@ -89,10 +90,10 @@ module _ (header : Header) (d : Automaton) (table : IsTable (letters_of d) d.sta
       let coded = letter_digits d.sizes letter low in
       let same : digits ≡ tuple = code_of-injective d.sizes digits tuple coded.0 fit coded.1 in
       let line : ListedLine = line_of p digits q in
-      let here : Contains (step_listed p digits (step_of d p letter)) line = subst (λ (o : Option ℕ). Contains (step_listed p digits o) line) (sym is) (contains_here line []) in
+      let here : Contains (step_listed p digits (step_of d p letter)) line = subst (λ (o : Option ℕ). Contains (step_listed p digits o) line) (sym is) (Contains-head line []) in
       let row : Contains (steps_listed d p) line = contains_number (λ a. step_listed p (digits_of_letter d.sizes a) (step_of d p a)) 0 (letters_of d) letter line (omega arith) (omega arith) here in
       let among : Contains (flat_map (steps_listed d) (range_with_len 0 (states_of d))) line = contains_number (steps_listed d) 0 (states_of d) p line (omega arith) (omega arith) row in
-      (line, among, refl, subst (λ (t : List ℕ). Takes d.sizes (map Some digits) t) same (takes_itself d.sizes digits coded.0), contains_here q [])
+      (line, among, refl, subst (λ (t : List ℕ). Takes d.sizes (map Some digits) t) same (takes_itself d.sizes digits coded.0), Contains-head q [])
 
   output_is : (q : ℕ) → q < states_of d → output_of (automaton_listed header d) q ≡ output_listed (accepting_of d q)
   output_is q within = get_or-map-range_with_len (λ p. output_listed (accepting_of d p)) 0 (states_of d) q q (pos 0) within (omega arith)

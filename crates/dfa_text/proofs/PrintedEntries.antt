@@ -6,11 +6,12 @@ use Rattle.std.proofs.lemmas.List.{append-nil}
 use mir.Val.{SFits}
 use mir.Syntax.{w32}
 use Rattle.text_grammar.specs.Bytes.{is_line_end}
+use Rattle.digit_tuple.proofs.AllLemmas.{all_weaker}
 use Rattle.dfa_reading.specs.Lines.{parts_of, is_passed}
 use Rattle.dfa_reading.specs.Entries.{is_star}
+use Rattle.dfa_reading.proofs.Splits.{parts_of-append}
 use Rattle.dfa_text.specs.Parts.{state_text}
-use Rattle.dfa_text.proofs.PrintedParts.{Avoids, Avoids-append, Spares, spares_byte, avoids_decimal, avoids_signed, IsPart, part_decimal, part_signed, parts_of-append, parts_of-one, parts_of-joined, not_passed_part}
-use Rattle.dfa_text.proofs.PrintedHeaders.{all_map}
+use Rattle.dfa_text.proofs.PrintedParts.{Avoids, Avoids-append, Spares, spares_byte, avoids_decimal, avoids_signed, IsPart, part_decimal, part_signed, parts_of-one, parts_of-joined, not_passed_part}
 
 -- a target, behind a blank
 abbrev pub target_text : ℕ → List ℕ
@@ -40,10 +41,10 @@ abbrev pub AreNumbers : List ℕ → Type 0
 AreNumbers targets = AllByRecursion (λ n. n < 2 ^ 32) targets
 
 pub parts_of-targets : (t : ℕ) (ts : List ℕ) → AreNumbers (t ∷ ts) → parts_of (flat_map target_text (t ∷ ts)) ≡ map decimal (t ∷ ts)
-parts_of-targets t ts h = parts_of-append [] 32 (join_by decimal (codes " ") (t ∷ ts)) refl ∙ parts_of-joined decimal t ts (all_map (λ n. n < 2 ^ 32) (λ n. IsPart (decimal n)) (λ n k. part_decimal n (fits_wide n k)) (t ∷ ts) h)
+parts_of-targets t ts h = parts_of-append [] 32 (join_by decimal (codes " ") (t ∷ ts)) refl ∙ parts_of-joined decimal t ts (all_weaker (λ n. n < 2 ^ 32) (λ n. IsPart (decimal n)) (λ n k. part_decimal n (fits_wide n k)) (t ∷ ts) h)
 
 pub parts_of-tuple : (m : ℤ) (ms : List ℤ) → AllByRecursion (SFits w32) (m ∷ ms) → parts_of (join_by signed_decimal (codes " ") (m ∷ ms) ++ 32 ∷ []) ≡ map signed_decimal (m ∷ ms)
-parts_of-tuple m ms f = parts_of-append (join_by signed_decimal (codes " ") (m ∷ ms)) 32 [] refl ∙ append-nil (parts_of (join_by signed_decimal (codes " ") (m ∷ ms))) ∙ parts_of-joined signed_decimal m ms (all_map (SFits w32) (λ z. IsPart (signed_decimal z)) part_signed (m ∷ ms) f)
+parts_of-tuple m ms f = parts_of-append (join_by signed_decimal (codes " ") (m ∷ ms)) 32 [] refl ∙ append-nil (parts_of (join_by signed_decimal (codes " ") (m ∷ ms))) ∙ parts_of-joined signed_decimal m ms (all_weaker (SFits w32) (λ z. IsPart (signed_decimal z)) part_signed (m ∷ ms) f)
 
 pub tuple_avoids : (p : ℕ → Bool) → Spares p → p 32 ≡ false → (m : ℤ) (ms : List ℤ) → AllByRecursion (SFits w32) (m ∷ ms) → Avoids p (join_by signed_decimal (codes " ") (m ∷ ms))
 tuple_avoids p s blank m ms f = Avoids-append p (signed_decimal m) (flat_map (λ y. codes " " ++ signed_decimal y) ms) (avoids_signed p s m f.0) (more ms f.1)

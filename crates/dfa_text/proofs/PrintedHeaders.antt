@@ -19,10 +19,6 @@ pub each_of-map : {X A : Type 0} (f : X → A) (read : A → Option X) (xs : Lis
 each_of-map f read [] h = refl
 each_of-map f read (x ∷ xs) h = rw (h.0, each_of-map f read xs h.1) refl
 
-pub all_map : {X : Type 0} (P Q : X → Type 0) → ((x : X) → P x → Q x) → (xs : List X) → AllByRecursion P xs → AllByRecursion Q xs
-all_map P Q f [] h = tt
-all_map P Q f (x ∷ xs) h = (f x h.0, all_map P Q f xs h.1)
-
 -- the bytes between the braces
 pub avoids_joined : (p : ℕ → Bool) → Spares p → p 44 ≡ false → (set : List ℤ) → AllByRecursion (SFits w32) set → Avoids p (join_by signed_decimal (codes ",") set)
 avoids_joined p s comma [] f = tt

@@ -11,6 +11,7 @@ use mir.Val.{SFits}
 use mir.Syntax.{w32}
 use Rattle.digit_tuple.specs.Sets.{IsAscending}
 use Rattle.digit_tuple.specs.declared.systems.SystemTrack.{SystemTrack}
+use Rattle.digit_tuple.proofs.AllLemmas.{all_weaker}
 use Rattle.text_grammar.specs.Bytes.{is_blank, is_line_end}
 use Rattle.dfa_reading.specs.Lines.{◌>>=◌, each_of, parts_of, has_bytes, is_passed}
 use Rattle.text_grammar.specs.Systems.{is_system}
@@ -18,12 +19,13 @@ use Rattle.dfa_reading.specs.Systems.{system_of, of_one_direction, systems_of}
 use Rattle.dfa_reading.specs.Headers as file
 use Rattle.dfa_reading.specs.Headers.{has_member, with_member, with_members, only_integer, member_of, numbers_of, members_of, open_set_of, sets_between, sets_of, truth_by, truth_of, or_else, header_of}
 use Rattle.dfa_reading.proofs.SystemNames.{system_avoids, system_some, brace_no_system, system_no_truth}
+use Rattle.dfa_reading.proofs.Splits.{split-append, split_some}
 use Rattle.dfa_text.specs.Parts.{set_text, header_text}
 use Rattle.dfa_text.specs.RelationText.{names_text}
 use Rattle.dfa_text.specs.Lists.{names_of, IsSystemTrack}
 use Rattle.dfa_text.proofs.PrintedNumbers.{integer_of-signed}
-use Rattle.dfa_text.proofs.PrintedParts.{Avoids, Avoids-append, spares_byte, avoids_signed, split-append, split-one, split_some, split_joined, part_signed, parts_of-one, parts_of-joined, IsPart, not_passed_part}
-use Rattle.dfa_text.proofs.PrintedHeaders.{IsPrintable, each_of-map, all_map, avoids_joined, regroup}
+use Rattle.dfa_text.proofs.PrintedParts.{Avoids, Avoids-append, spares_byte, avoids_signed, split-one, split_joined, part_signed, parts_of-one, parts_of-joined, IsPart, not_passed_part}
+use Rattle.dfa_text.proofs.PrintedHeaders.{IsPrintable, each_of-map, avoids_joined, regroup}
 
 -- a first part that begins with a byte
 first_begins : (b : ℕ) (bytes : List ℕ) → is_blank b ≡ false → (part : List ℕ) × (parts : List (List ℕ)) × (parts_of (b ∷ bytes) ≡ (b ∷ part) ∷ parts)
@@ -85,8 +87,8 @@ members_of-printed : (set : List ℤ) → IsPrintable set → members_of (join_b
 unfolding members_of
 members_of-printed [] p = absurd (omega (arith, p.some))
 members_of-printed (m ∷ set) p =
-    ap (λ pieces. each_of member_of pieces >>= with_members []) (split_joined (λ b. eqb b 44) signed_decimal 44 m set refl (all_map (SFits w32) (λ z. Avoids (λ b. eqb b 44) (signed_decimal z)) (avoids_signed (λ b. eqb b 44) (spares_byte 44 refl refl)) (m ∷ set) p.fits))
-    ∙ ap (λ r. r >>= with_members []) (each_of-map signed_decimal member_of (m ∷ set) (all_map (SFits w32) (λ z. member_of (signed_decimal z) ≡ Some z) member_of-signed (m ∷ set) p.fits))
+    ap (λ pieces. each_of member_of pieces >>= with_members []) (split_joined (λ b. eqb b 44) signed_decimal 44 m set refl (all_weaker (SFits w32) (λ z. Avoids (λ b. eqb b 44) (signed_decimal z)) (avoids_signed (λ b. eqb b 44) (spares_byte 44 refl refl)) (m ∷ set) p.fits))
+    ∙ ap (λ r. r >>= with_members []) (each_of-map signed_decimal member_of (m ∷ set) (all_weaker (SFits w32) (λ z. member_of (signed_decimal z) ≡ Some z) member_of-signed (m ∷ set) p.fits))
     ∙ with_members-ascending [] (m ∷ set) p.ascending
 
 sets_between-more : (piece : List ℕ) (pieces : List (List ℕ)) (set : List ℤ) (sets : List (List ℤ)) → 0 < length pieces → open_set_of piece ≡ Some set → sets_between pieces ≡ Some sets → sets_between (piece ∷ pieces) ≡ Some (set ∷ sets)

@@ -1,15 +1,15 @@
 -- Parts of printed lines.
-use Rattle.std.proofs.Common.{◌≡◌, ℕ, suc, ◌^◌, ◌<◌, Bool, true, false, ◌&&◌, cond, eqb, List, [], ◌∷◌, ◌++◌, map, length, decimal, ℤ, pos, negsuc, None, Some, refl, ap, ◌∙◌, arith}
+use Rattle.std.proofs.Common.{◌≡◌, ℕ, suc, ◌^◌, ◌<◌, Bool, true, false, eqb, List, [], ◌∷◌, ◌++◌, map, length, decimal, ℤ, pos, negsuc, None, Some, refl, ap, ◌∙◌, arith}
 use Rattle.std.specs.Fmt.{signed_decimal}
 use Rattle.std.specs.List.{AllByRecursion, slice_split, onto_first, filter, join_by}
 use Rattle.std.proofs.lemmas.Bool.Decides.{nat_tests}
 use Rattle.std.proofs.lemmas.List.{append-nil}
-use Rattle.std.proofs.lemmas.List.Elements.{filter-append}
-use Rattle.std.proofs.lemmas.List.Splits.{length-slice_split}
+use Rattle.std.proofs.Math.Bool.{and-false}
 use mir.Val.{SFits}
 use mir.Syntax.{w32}
 use Rattle.text_grammar.specs.Bytes.{is_digit, is_blank}
 use Rattle.dfa_reading.specs.Lines.{has_bytes, parts_of, is_passed, is_passed_by, arrow_at}
+use Rattle.dfa_reading.proofs.Splits.{parts_of-append, split-append}
 use Rattle.dfa_text.proofs.PrintedNumbers.{printed}
 
 -- no byte passes the test
@@ -42,22 +42,6 @@ spares_byte c h k = record { digits = λ b d. grind (arith, nat_tests); minus = 
 pub spares_blank : Spares is_blank
 spares_blank = record { digits = λ b d. grind (arith, nat_tests); minus = refl }
 
--- how a list is split where an element passes
-pub split_some : (p : ℕ → Bool) (xs : List ℕ) → 0 < length (slice_split p xs)
-split_some p xs = omega (arith, length-slice_split p xs)
-
-onto_first-append : (x : ℕ) (parts more : List (List ℕ)) → 0 < length parts → onto_first x (parts ++ more) ≡ onto_first x parts ++ more
-onto_first-append x [] more h = absurd (omega arith)
-onto_first-append x (part ∷ parts) more h = refl
-
-pub split-append : (p : ℕ → Bool) (xs : List ℕ) (c : ℕ) (ys : List ℕ) → p c ≡ true → slice_split p (xs ++ c ∷ ys) ≡ slice_split p xs ++ slice_split p ys
-split-append p [] c ys h = rw h refl
-split-append p (x ∷ xs) c ys h =
-    elim (p x) as (λ b. cond b ([] ∷ slice_split p (xs ++ c ∷ ys)) (onto_first x (slice_split p (xs ++ c ∷ ys))) ≡ cond b ([] ∷ slice_split p xs) (onto_first x (slice_split p xs)) ++ slice_split p ys) [
-      | true ↦ ap (λ t. [] ∷ t) (split-append p xs c ys h)
-      | false ↦ ap (onto_first x) (split-append p xs c ys h) ∙ onto_first-append x (slice_split p xs) (slice_split p ys) (split_some p xs)
-    ]
-
 pub split-one : (p : ℕ → Bool) (xs : List ℕ) → Avoids p xs → slice_split p xs ≡ xs ∷ []
 split-one p [] h = refl
 split-one p (x ∷ xs) h = rw (h.0, split-one p xs h.1) refl
@@ -72,9 +56,6 @@ split_joined p f c x (y ∷ ys) h a =
 pub record IsPart (bytes : List ℕ) : Type 0 where
   pub some : 0 < length bytes
   pub whole : Avoids is_blank bytes
-
-pub parts_of-append : (xs : List ℕ) (c : ℕ) (ys : List ℕ) → is_blank c ≡ true → parts_of (xs ++ c ∷ ys) ≡ parts_of xs ++ parts_of ys
-parts_of-append xs c ys h = ap (filter has_bytes) (split-append is_blank xs c ys h) ∙ filter-append has_bytes (slice_split is_blank xs) (slice_split is_blank ys)
 
 parts_of-some : (bytes : List ℕ) → 0 < length bytes → filter has_bytes (bytes ∷ []) ≡ bytes ∷ []
 parts_of-some [] h = absurd (omega arith)
@@ -114,10 +95,6 @@ not_passed_part (b ∷ bytes) rest p a = not_passed b (bytes ++ rest) p.whole.0 
 pub passed_empty : is_passed [] ≡ true
 unfolding is_passed
 passed_empty = refl
-
-pub and-false : (a : Bool) → (a && false) ≡ false
-and-false true = refl
-and-false false = refl
 
 -- where `->` stands
 pub no_arrow : (bytes : List ℕ) → Avoids (λ b. eqb b 62) bytes → arrow_at bytes ≡ None

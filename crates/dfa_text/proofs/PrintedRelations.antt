@@ -10,6 +10,7 @@ use Rattle.std.proofs.lemmas.List.{take_more, take_all, length-take-le}
 use Rattle.std.proofs.lemmas.List.Elements.{recursion_from_All}
 use Rattle.std.proofs.lemmas.List.FromFn.{length-range_with_len, get_or-range_with_len, length-map-range_with_len, get_or-map-range_with_len}
 use Rattle.std.proofs.lemmas.List.Sums.{position_or_len_is}
+use Rattle.std.proofs.Math.Bool.{and-false}
 use mir.Val.{SFits}
 use mir.Syntax.{w32}
 use Rattle.text_grammar.specs.Bytes.{is_line_end}
@@ -23,6 +24,7 @@ use Rattle.digit_tuple.specs.declared.header.Header.TheVariants.{Sets, Systems}
 use Rattle.digit_tuple.specs.declared.systems.SystemTrack.{SystemTrack}
 use Rattle.digit_tuple.proofs.DfaLemmas.{row_at, target_by-in_range}
 use Rattle.digit_tuple.proofs.LetterLemmas.{positive_right}
+use Rattle.digit_tuple.proofs.AllLemmas.{all_weaker}
 use Rattle.dfa_reading.specs.Lines.{is_passed, line_after, each_of}
 use Rattle.dfa_reading.specs.Headers as file
 use Rattle.dfa_reading.specs.Headers.{Digits, Members, Below, digits_in, has_states, header_of}
@@ -38,14 +40,14 @@ use Rattle.dfa_text.specs.Lists.{names_of, header_listed, digits_of_letter, step
 use Rattle.dfa_text.proofs.Counting.{numbers_more}
 use Rattle.dfa_text.proofs.ListedParts.{printable}
 use Rattle.dfa_text.proofs.PrintedDrafts.{draft, lines_in, passed_line, header_line-added, entry_line, HasRead, read_more, read_none, read_entry, new_number}
-use Rattle.dfa_text.proofs.PrintedParts.{Avoids, spares_byte, passed_empty, and-false}
-use Rattle.dfa_text.proofs.PrintedHeaders.{IsPrintable, header_avoids, header_stands, all_map}
-use Rattle.dfa_text.proofs.PrintedNumbers.{all_append}
+use Rattle.dfa_text.proofs.PrintedParts.{Avoids, spares_byte, passed_empty}
+use Rattle.dfa_text.proofs.PrintedHeaders.{IsPrintable, header_avoids, header_stands}
 use Rattle.dfa_text.proofs.PrintedNames.{sets_read, systems_read, names_stand, names_avoid}
 use Rattle.dfa_text.proofs.PrintedEntries.{tuple_text, state_stands, state_avoids, tuple_stands, tuple_line_avoids}
 use Rattle.dfa_text.proofs.PrintedTracks.{IsReadable, readable_set, readable_system, members_fit, digits_read, state_read, IsReadAs, step_read}
 use Rattle.dfa_text.proofs.PrintedTuples.{lines_of-text}
 use Rattle.dfa_text.proofs.TupleSteps.{tuple_of_code, length-members}
+use Rattle.dfa_text.proofs.PrintedNumbers.{all_append}
 
 -- the line of a tuple
 pub step_text : (tuple : List ℤ) (t : ℕ) → tuple_text tuple (t ∷ []) ≡ step_line tuple t
@@ -277,7 +279,7 @@ record IsHeaderRead (header : Header) : Type 0 where
 header_read : (header : Header) → IsFileHeader header → IsHeaderRead header
 header_read (Sets []) h = absurd (omega (arith, h.some))
 header_read (Sets (set ∷ sets)) h =
-    let each : AllByRecursion IsPrintable (set ∷ sets) = all_map IsTrackSet IsPrintable printable (set ∷ sets) (recursion_from_All IsTrackSet (set ∷ sets) h.each) in
+    let each : AllByRecursion IsPrintable (set ∷ sets) = all_weaker IsTrackSet IsPrintable printable (set ∷ sets) (recursion_from_All IsTrackSet (set ∷ sets) h.each) in
     record {
       some = h.some;
       states = refl;

@@ -9,6 +9,7 @@ use mir.Syntax.{w32}
 use Rattle.digit_tuple.specs.Letters.{AreDigits}
 use Rattle.digit_tuple.specs.Sets.{sizes_of, members_at}
 use Rattle.digit_tuple.specs.Systems.{IsDigitCount, digit_set}
+use Rattle.digit_tuple.proofs.AllLemmas.{all_weaker}
 use Rattle.dfa_reading.specs.Numbers.{integer_of, number_below}
 use Rattle.dfa_reading.specs.Lines.{parts_of, arrow_at}
 use Rattle.dfa_reading.specs.Headers.{Digits, Members, Below}
@@ -18,7 +19,7 @@ use Rattle.dfa_text.specs.Parts.{state_text}
 use Rattle.dfa_text.proofs.PrintedNumbers.{number_below-decimal, integer_of-signed}
 use Rattle.dfa_text.proofs.PrintedParts.{Avoids, Avoids-append, spares_byte, avoids_signed, no_arrow, arrow_behind}
 use Rattle.dfa_text.proofs.PrintedEntries.{target_text, AreNumbers, tuple_text, fits_wide, parts_of-state, state_avoids, no_star, parts_of-targets, parts_of-tuple, tuple_avoids}
-use Rattle.dfa_text.proofs.PrintedHeaders.{IsPrintable, each_of-map, all_map}
+use Rattle.dfa_text.proofs.PrintedHeaders.{IsPrintable, each_of-map}
 
 -- a track whose printed digits are read as their places
 pub record IsReadable (track : Digits) (set : List ℤ) : Type 0 where
@@ -87,7 +88,7 @@ line_of-printed : (tracks : List Digits) (digits targets : List (List ℕ)) (ds 
 line_of-printed tracks digits targets ds ts h k = rw (h, k) refl
 
 targets_of-decimal : (t : ℕ) (ts : List ℕ) → AreNumbers (t ∷ ts) → targets_of (map decimal (t ∷ ts)) ≡ Some (t ∷ ts)
-targets_of-decimal t ts h = each_of-map decimal state_number (t ∷ ts) (all_map (λ n. n < 2 ^ 32) (λ n. state_number (decimal n) ≡ Some n) (λ n k. number_below-decimal (2 ^ 32) n k (fits_wide n k)) (t ∷ ts) h)
+targets_of-decimal t ts h = each_of-map decimal state_number (t ∷ ts) (all_weaker (λ n. n < 2 ^ 32) (λ n. state_number (decimal n) ≡ Some n) (λ n k. number_below-decimal (2 ^ 32) n k (fits_wide n k)) (t ∷ ts) h)
 
 tuple_read : (tracks : List Digits) (m : ℤ) (ms : List ℤ) (digits : List (Option ℕ)) (t : ℕ) (ts : List ℕ) → AllByRecursion (SFits w32) (m ∷ ms) → digits_of tracks (map signed_decimal (m ∷ ms)) ≡ Some digits → AreNumbers (t ∷ ts) → entry_of tracks (tuple_text (m ∷ ms) (t ∷ ts)) ≡ Some (Line digits (t ∷ ts))
 unfolding entry_of

@@ -2,8 +2,9 @@
 use Rattle.std.proofs.Common.{◌≡◌, ℕ, List, [], ◌∷◌, ◌++◌, refl, ap, ◌∙◌, append_assoc, codes}
 use Rattle.std.specs.List.{AllByRecursion, slice_split}
 use Rattle.text_grammar.specs.Bytes.{is_line_end}
+use Rattle.dfa_reading.proofs.Splits.{split-append}
 use Rattle.dfa_text.specs.Parts.{text_of_lines}
-use Rattle.dfa_text.proofs.PrintedParts.{Avoids, split-append, split-one}
+use Rattle.dfa_text.proofs.PrintedParts.{Avoids, split-one}
 
 -- the lines of a text of lines
 pub lines_of-text : (lines : List (List ℕ)) → AllByRecursion (Avoids is_line_end) lines → slice_split is_line_end (text_of_lines lines) ≡ lines ++ [] ∷ []

@@ -9,10 +9,6 @@ use Rattle.digit_tuple.specs.declared.edges.Edge.{Edge}
 use Rattle.digit_tuple.specs.Deterministic.{Automaton, State, IsPartTable, IsRow, IsByEarlier, IsEdgeSet, KeepsRow, IsSet, target_by, no_state, state_of, states_of, accepting_of, edges_of, step_of, letters_of}
 use Rattle.digit_tuple.proofs.DfaLemmas.{target_by-other, target_by-first, target_by-at}
 
--- the row as it was
-pub KeepsRow-refl : (es : List Edge) (letter target : ℕ) → AllPairs IsByEarlier es → KeepsRow es es letter target
-KeepsRow-refl es letter target ascending = record { ascending = ascending; in_range = λ letters states small low range. range }
-
 -- an edge of the letter that is replaced
 module _ (es : List Edge) (place : ℕ) (v : Edge) (ascending : AllPairs IsByEarlier es) (within : place < length es) (same : (d : Edge) → (get_or es place d).letter ≡ v.letter) where
   letter_kept : (k : ℕ) (d : Edge) → (get_or (set es place v) k d).letter ≡ (get_or es k d).letter
@@ -22,12 +18,6 @@ module _ (es : List Edge) (place : ℕ) (v : Edge) (ascending : AllPairs IsByEar
       by (inl is) = subst (λ n. (get_or (set es place v) n d).letter ≡ (get_or es n d).letter) (sym is) (ap (λ (e : Edge). e.letter) (get_or-set_same es place v d within) ∙ sym (same d))
       by (inr (inl less)) = ap (λ (e : Edge). e.letter) (get_or-set_other es place k v d (omega arith))
       by (inr (inr more)) = ap (λ (e : Edge). e.letter) (get_or-set_other es place k v d (omega arith))
-
-  pub KeepsRow-set : KeepsRow es (set es place v) v.letter v.target
-  KeepsRow-set = record {
-    ascending = λ i j d before inside. let less = ascending i j d before (omega (arith, length-set es place v)) in omega (arith, less, letter_kept i d, letter_kept j d);
-    in_range = λ letters states small low range. All-set (λ (e : Edge). (e.letter < letters) × (e.target < states)) es place v (small, low) range;
-  }
 
   pub IsEdgeSet-set : AllWithin (λ e. e.letter < v.letter) es 0 place → IsEdgeSet es (set es place v) v.letter v.target
   IsEdgeSet-set before = record {

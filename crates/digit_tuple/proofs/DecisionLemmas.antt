@@ -86,10 +86,6 @@ IsTrack-more track letters d rows row is less some edge above = record {
   filled = all_push HasEdge rows row is.filled edge;
 }
 
-pub on_any : {T E : Type 0} (r : Result T E) (P : Type 0) → P → OnOk r P
-on_any (Ok x) P p = p
-on_any (Err e) P p = tt
-
 -- what holds on Ok gives what follows from it
 pub on_ok : {T E : Type 0} (r : Result T E) (P Q R S : Type 0) → OnOk r P → OnOk r Q → OnOk r R → (P → Q → R → S) → OnOk r S
 on_ok (Ok x) P Q R S p q r next = next p q r

@@ -9,14 +9,6 @@ use Rattle.digit_tuple.specs.Deterministic.{IsByEarlier, target_by}
 use Rattle.digit_tuple.proofs.DfaLemmas.{target_by-none, target_by-other, target_by-first}
 use Rattle.digit_tuple.specs.EdgesBy.{AreEdgesBy}
 
--- no edge yet
-pub no_edges : (target : ℕ → Option ℕ) (states : ℕ) → AreEdgesBy target 0 states []
-no_edges target states = record {
-  in_range = λ i d within. absurd (omega arith);
-  ascending = λ i j d before within. absurd (omega arith);
-  leads = λ a within. absurd (omega arith);
-}
-
 -- the next letter leads nowhere
 pub edges_stay : (target : ℕ → Option ℕ) (letter states : ℕ) (edges : List Edge) → AreEdgesBy target letter states edges → target letter ≡ None → AreEdgesBy target (letter + 1) states edges
 edges_stay target letter states edges before nowhere = record {

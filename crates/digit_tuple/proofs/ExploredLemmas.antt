@@ -35,7 +35,7 @@ one_number keys p q apart here there same = by (cases_order p q)
     by (inr (inl less)) = absurd (apart p q [] less there same)
     by (inr (inr more)) = absurd (apart q p [] more here (sym same))
 
-some_value : (a b : List ℕ) → Some a ≡ Some b → a ≡ b
+pub some_value : (a b : List ℕ) → Some a ≡ Some b → a ≡ b
 some_value a b same = cc
 
 module _ (letters : ℕ) (start : List ℕ) (after : List ℕ → ℕ → Option (List ℕ)) (keys firsts : List (List ℕ)) (p a : ℕ) (f : IsFrontier letters start after keys firsts p a) where

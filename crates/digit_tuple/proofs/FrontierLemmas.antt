@@ -268,14 +268,6 @@ module _ (letters : ℕ) (start : List ℕ) (after : List ℕ → ℕ → Option
             leads = subst (λ n. LeadsTo (keys ++ key ∷ []) (firsts ++ (get_or firsts p [] ++ a ∷ []) ∷ []) p a n) (sym fresh.0) both.1;
           })
 
-  -- edges that lead go on leading
-  pub AreLed-grows : (keys new firsts more : List (List ℕ)) (p : ℕ) → Grows keys new → Grows firsts more → length firsts ≡ length keys → p < length keys → (ss : List KeyEdge) (es : List Edge) → AreLed keys firsts p ss es → AreLed new more p ss es
-  AreLed-grows keys new firsts more p g h count here [] [] led = tt
-  AreLed-grows keys new firsts more p g h count here [] (e ∷ es) led = led
-  AreLed-grows keys new firsts more p g h count here (s ∷ ss) [] led = led
-  AreLed-grows keys new firsts more p g h count here (s ∷ ss) (e ∷ es) led =
-      (led.0, LeadsTo-grows keys new firsts more p s.letter e.target g h count here led.1, AreLed-grows keys new firsts more p g h count here ss es led.2)
-
   -- the edges from a key were tried
   pub record AreTried (keys firsts new : List (List ℕ)) (p : ℕ) (ss : List KeyEdge) (es : List Edge) : Type 0 where
     pub more : List (List ℕ)

@@ -189,11 +189,6 @@ sum-joined_rows w (x ∷ xs) rows same =
     let rest = sum-joined_rows w xs (drop (length x) rows) (omega (arith, total, length-drop (length x) rows)) in
     omega (arith, here, rest, sum_by-cons length (joined w x (take (length x) rows)) (joined_rows w xs (drop (length x) rows)), sum_by-take-drop length rows (length x))
 
--- rows that have edges are no more than these
-pub rows-le-edges : (rows : List (List Edge)) → AllByRecursion HasEdge rows → length rows ≤ sum_by length rows
-rows-le-edges [] filled = omega arith
-rows-le-edges (r ∷ rows) filled = omega (arith, filled.0, rows-le-edges rows filled.1, sum_by-cons length r rows)
-
 -- no edges, no digits
 pub joined-empty : (w : ℕ) (ds : List ℕ) (rows : List (List Edge)) → length ds ≤ length rows → AllByRecursion HasEdge rows → joined w ds rows ≡ [] → ds ≡ []
 joined-empty w [] rows fits filled none = refl

@@ -1,5 +1,5 @@
 -- Names in byte order, with more of them.
-use Rattle.std.proofs.Common.{◌≡◌, ℕ, ◌+◌, ◌<◌, suc, zero, ◌⊎◌, inl, inr, List, [], ◌∷◌, ◌++◌, length, get_or, take, drop, refl, sym, ap, ◌∙◌, subst, arith}
+use Rattle.std.proofs.Common.{◌≡◌, ℕ, ◌<◌, suc, zero, ◌⊎◌, inl, inr, List, [], ◌∷◌, length, get_or, refl, ap, ◌∙◌, subst, arith}
 use Rattle.std.specs.List.{All, AllPairs, Contains}
 use Rattle.std.specs.Ordering.{nat_cmp, ordering_reverse}
 use Rattle.std.specs.Cmp.Lexicographic.{slice_cmp}
@@ -7,7 +7,6 @@ use Rattle.std.specs.declared.cmp.Ordering.{Ordering}
 use Rattle.std.specs.declared.cmp.Ordering.TheVariants.{Less, Equal, Greater}
 use Rattle.std.proofs.lemmas.Cmp.{nat_list_cmp_total}
 use Rattle.std.proofs.lemmas.Map.Lookups.{exact_bytes}
-use Rattle.std.proofs.lemmas.List.{drop_more, take_more, append_assoc}
 use Rattle.std.proofs.lemmas.List.Elements.{All-nil, All-cons, All-head, All-tail, All-contains_itself}
 use Rattle.std.proofs.lemmas.List.Kept.{AllPairs-cons}
 use Rattle.digit_tuple.specs.Names.{IsBytesBefore, placed, with_name, with_names, joint_names, AreJoint}
@@ -146,22 +145,3 @@ AreJoint-joint_names first second =
         | inr found ↦ inr found
       ];
     }
-
--- a name by where the next stands
-module _ (names : List (List ℕ)) (name : List ℕ) (i : ℕ) (within : i < length names) (so_far : with_name names name ≡ take i names ++ with_name (drop i names) name) where
-  next_is : (o : Ordering) → slice_cmp nat_cmp (get_or names i []) name ≡ o
-      → with_name names name ≡ take i names ++ placed o (get_or names i []) (drop (i + 1) names) name (with_name (drop (i + 1) names) name)
-  next_is o is =
-      so_far ∙ ap (λ ns. take i names ++ with_name ns name) (drop_more names i [] within)
-      ∙ ap (λ r. take i names ++ placed r (get_or names i []) (drop (i + 1) names) name (with_name (drop (i + 1) names) name)) is
-
-  pub new_place_later : slice_cmp nat_cmp (get_or names i []) name ≡ Less → with_name names name ≡ take (i + 1) names ++ with_name (drop (i + 1) names) name
-  new_place_later is =
-      next_is Less is ∙ sym (append_assoc (take i names) (get_or names i [] ∷ []) (with_name (drop (i + 1) names) name))
-      ∙ ap (λ ns. ns ++ with_name (drop (i + 1) names) name) (sym (take_more names i [] within))
-
-  pub new_place_none : slice_cmp nat_cmp (get_or names i []) name ≡ Equal → with_name names name ≡ take i names ++ drop i names
-  new_place_none is = next_is Equal is ∙ ap (λ ns. take i names ++ ns) (sym (drop_more names i [] within))
-
-  pub new_place_here : slice_cmp nat_cmp (get_or names i []) name ≡ Greater → with_name names name ≡ take i names ++ name ∷ drop i names
-  new_place_here is = next_is Greater is ∙ ap (λ ns. take i names ++ name ∷ ns) (sym (drop_more names i [] within))

@@ -55,14 +55,6 @@ length-numbered old new key number numbered = by numbered.old_or_new
     by (inl kept) = (omega (arith, ap length kept.0), omega (arith, ap length kept.0))
     by (inr pushed) = (omega (arith, ap length pushed.1, length_push old key), omega (arith, ap length pushed.1, length_push old key))
 
--- a number is below the count of keys
-pub number_within : (old new : List (List ℕ)) (key : List ℕ) (number : ℕ) → IsNumbered old new key number → number < length new
-number_within old new key number numbered = by numbered.old_or_new
-  where
-    by : ((new ≡ old) × (number < length old)) ⊎ ((number ≡ length old) × (new ≡ old ++ key ∷ [])) → number < length new
-    by (inl kept) = omega (arith, ap length kept.0, kept.1)
-    by (inr pushed) = omega (arith, ap length pushed.1, pushed.0, length_push old key)
-
 -- the keys of the first edges were numbered
 pub NumbersSome-at : (key_edges : List KeyEdge) (n : ℕ) (edges : List Edge) (old mid new : List (List ℕ)) (d : KeyEdge) (target count : ℕ) → n < length key_edges → AreNumbered (take n key_edges) edges old mid
     → IsNumbered mid new (get_or key_edges n d).key target → length new ≡ count → NumbersSome key_edges old new count

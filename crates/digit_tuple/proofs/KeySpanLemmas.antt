@@ -1,9 +1,8 @@
 -- Keys that stand in a list of numbers.
-use Rattle.std.proofs.Common.{◌≡◌, ◌==◌, ℕ, suc, ◌+◌, ◌*◌, ◌-◌, ◌≤◌, Bool, true, false, not, List, [], ◌∷◌, ◌++◌, take, drop, length, None, Some, refl, sym, ap, ◌∙◌, append-nil, length-append, length-drop, arith}
+use Rattle.std.proofs.Common.{◌≡◌, ◌==◌, ℕ, suc, ◌+◌, ◌*◌, ◌-◌, ◌≤◌, Bool, true, false, not, List, [], ◌∷◌, ◌++◌, take, drop, length, None, Some, refl, sym, ap, ◌∙◌, append-nil, length-drop, arith}
 use Rattle.std.specs.Prelude.{if◌then◌else◌}
 use Rattle.std.specs.List.{list_any, slice_range}
 use Rattle.std.proofs.lemmas.List.{map-append, take-append-le, drop-append-le, take_all}
-use Rattle.std.proofs.lemmas.List.Elements.{All-push}
 use Rattle.std.proofs.Math.Seq.{drop-append_seam}
 use Rattle.digit_tuple.specs.declared.key_edges.KeySpan.{KeySpan}
 use Rattle.digit_tuple.specs.Keys.{KeyEdge, edges_to, part_of, some_nonzero}
@@ -27,9 +26,6 @@ edges_in-append numbers more (s ∷ ss) are =
     let rest = edges_in-append numbers more ss (λ k d within. are (suc k) d (omega arith)) in
     ap (λ e. e ∷ edges_in (numbers ++ more) ss) same ∙ ap (λ es. edge_in numbers s ∷ es) rest
 
-pub AreSpans-more : (m n : ℕ) (spans : List KeySpan) → m ≤ n → AreSpans m spans → AreSpans n spans
-AreSpans-more m n spans more are k d within = let here = are k d within in (here.0, omega (arith, here.1))
-
 -- one more edge, whose key goes last
 pub edges_in-push : (numbers key : List ℕ) (spans : List KeySpan) (letter start end : ℕ) → AreSpans (length numbers) spans → start ≡ length numbers → end ≡ length numbers + length key
     → edges_in (numbers ++ key) (spans ++ (record { letter = letter; start = start; end = end }) ∷ []) ≡ edges_in numbers spans ++ (record { letter = letter; key = key }) ∷ []
@@ -40,13 +36,6 @@ edges_in-push numbers key spans letter start end are from to =
   where
     span : KeySpan
     span = record { letter = letter; start = start; end = end }
-
-pub AreSpans-push : (numbers key : List ℕ) (spans : List KeySpan) (letter start end : ℕ) → AreSpans (length numbers) spans → start ≡ length numbers → end ≡ length numbers + length key
-    → AreSpans (length (numbers ++ key)) (spans ++ (record { letter = letter; start = start; end = end }) ∷ [])
-AreSpans-push numbers key spans letter start end are from to =
-    All-push (λ (span : KeySpan). (span.start ≤ span.end) × (span.end ≤ length (numbers ++ key))) spans (record { letter = letter; start = start; end = end })
-    (AreSpans-more (length numbers) (length (numbers ++ key)) spans (omega (arith, length-append numbers key)) are)
-    (omega (arith, from, to), omega (arith, to, length-append numbers key))
 
 -- the edge to a letter's part of the numbers
 module _ (numbers : List ℕ) (spans : List KeySpan) (letter width : ℕ) (some : Bool) (is : some ≡ list_any (λ number. not (number == 0)) (part_of numbers width letter)) where

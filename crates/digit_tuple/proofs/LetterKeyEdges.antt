@@ -15,9 +15,6 @@ key_by-past letter (edge ∷ edges) below =
     ap (λ b. if b then Some edge.key else key_by edges letter) (ne_eqb edge.letter letter (λ same. omega (arith, same, below 0 edge (omega arith))))
     ∙ key_by-past letter edges (λ k d within. below (suc k) d (omega arith))
 
-pub AreKeyEdges-none : (after : ℕ → Option (List ℕ)) → AreKeyEdges 0 after []
-AreKeyEdges-none after = record { in_range = λ k d within. absurd (omega arith); ascending = λ i j d before within. absurd (omega arith); lead = λ letter small. absurd (omega arith) }
-
 -- the edge by one more letter
 pub AreKeyEdges-more : (letter : ℕ) (after : ℕ → Option (List ℕ)) (edges : List KeyEdge) → AreKeyEdges letter after edges → AreKeyEdges (letter + 1) after (edges ++ edges_to letter (after letter))
 AreKeyEdges-more letter after edges are = by (after letter) refl

@@ -4,7 +4,7 @@ use Rattle.std.proofs.lemmas.Bool.{cases_lt}
 use Rattle.std.proofs.lemmas.Nat.{mul-add-lt, div-mul-add, mod-mul-add, div_below, mod_below, div-add-mod', mul-le}
 use Rattle.std.proofs.lemmas.List.{take-append-drop, take_more, drop_more, take_more_set}
 use Rattle.std.proofs.lemmas.List.Elements.{AllZip-get_or, length_all_zip, AllZip-push}
-use Rattle.digit_tuple.specs.Letters.{product, code_of, AreDigits, IsWord, LettersTellDigits, DigitsHaveLetters, LettersHaveDigits}
+use Rattle.digit_tuple.specs.Letters.{product, code_of, AreDigits, IsWord, LettersTellDigits, DigitsHaveLetters, LettersHaveDigits, IsAlphabet, IsTooLarge}
 
 pub product-append : (ms ns : List ℕ) → product (ms ++ ns) ≡ product ms * product ns
 product-append [] ns = omega arith
@@ -187,3 +187,8 @@ min-mul p (suc s) =
 pub IsWord-append : (letters : ℕ) (u v : List ℕ) → IsWord letters u → IsWord letters v → IsWord letters (u ++ v)
 IsWord-append letters [] v over more = more
 IsWord-append letters (a ∷ u) v over more = (over.0, IsWord-append letters u v over.1 more)
+
+-- an alphabet is not too large
+pub not_too_large : (sizes : List ℕ) → IsAlphabet sizes → IsTooLarge sizes → ⊥
+not_too_large sizes are (inl many) = omega (arith, are.tracks, many)
+not_too_large sizes are (inr large) = omega (arith, are.letters, large)

@@ -11,7 +11,9 @@ pub mod JointNames
 pub mod RangeLemmas
 pub mod SystemLemmas
 pub mod MemberLemmas
+pub mod AllLemmas
 pub mod TableLemmas
+pub mod BranchTables
 pub mod PathLemmas
 pub mod DfaLemmas
 pub mod FlaggedLemmas

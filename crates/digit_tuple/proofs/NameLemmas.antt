@@ -1,10 +1,10 @@
 -- Places of names.
-use Rattle.std.proofs.Common.{◌≡◌, ◌≢◌, ℕ, ◌+◌, ◌<◌, suc, zero, inl, inr, Bool, true, false, List, [], ◌∷◌, length, get_or, take, arith, ap, sym, refl, ◌∙◌, if◌then◌else◌}
+use Rattle.std.proofs.Common.{◌≡◌, ◌≢◌, ℕ, ◌<◌, suc, zero, inl, inr, Bool, true, false, List, [], ◌∷◌, length, get_or, arith, ap, sym, refl, ◌∙◌, if◌then◌else◌}
 use Rattle.std.specs.List.{All, Contains}
 use Rattle.std.specs.Str.{bytes_eq}
-use Rattle.std.proofs.lemmas.Bool.{cases_order, cases_lt}
+use Rattle.std.proofs.lemmas.Bool.{cases_order}
 use Rattle.std.proofs.lemmas.Slice.Eq.{bytes_eq-Decides}
-use Rattle.std.proofs.lemmas.List.{get_or_default, get_or-take, length-take-le}
+use Rattle.std.proofs.lemmas.List.{get_or_default}
 use Rattle.std.proofs.lemmas.List.Elements.{All-map}
 use Rattle.digit_tuple.specs.Names.{AreDistinct, place_of, places_of}
 
@@ -61,34 +61,6 @@ place_of-first (n ∷ names) name zero within is none = ap (λ b. if b then 0 el
 place_of-first (n ∷ names) name (suc i) within is none =
     first_step n names name i (bytes_eq n name) refl (none 0 [] (omega arith)) (place_of-first names name i (omega (arith, within)) is (λ k d below. none (suc k) d (omega (arith, below))))
 
--- one more name that is not it
-pub IsNotAmong-more : (names : List (List ℕ)) (name : List ℕ) (count : ℕ) → count < length names → IsNotAmong names name count → get_or names count [] ≢ name → IsNotAmong names name (count + 1)
-IsNotAmong-more names name count within none other i d below =
-    elim (cases_lt i count) [
-      | inl before ↦ none i d before
-      | inr past ↦ (let same : i ≡ count = omega (arith, below, past) in
-          λ is. other (get_or_default names count [] d within ∙ (ap (λ k. get_or names k d) (sym same) ∙ is)))
-    ]
-
 -- no two of the first names are the same
 abbrev pub AreDistinctTo : List (List ℕ) → ℕ → Type 0
 AreDistinctTo names count = (i j : ℕ) (d : List ℕ) → i < j → j < count → get_or names i d ≢ get_or names j d
-
--- a name that is not among those before it
-pub AreDistinctTo-more : (names : List (List ℕ)) (count : ℕ) → count < length names → AreDistinctTo names count → ¬ Contains (take count names) (get_or names count []) → AreDistinctTo names (count + 1)
-AreDistinctTo-more names count within apart new i j d before below =
-    elim (cases_lt j count) [
-      | inl earlier ↦ apart i j d before earlier
-      | inr past ↦ (let same : j ≡ count = omega (arith, below, past) in
-          let inside : i < count = omega (arith, before, same) in
-          let room : i < length (take count names) = omega (arith, length-take-le count names (omega arith), inside) in
-          λ is. new (i, room, get_or_default (take count names) i (get_or names count []) d room ∙ get_or-take count names i d inside ∙ is ∙ ap (λ k. get_or names k d) same ∙ get_or_default names count d [] within))
-    ]
-
--- a name that is among those before it is there twice
-pub twice : (names : List (List ℕ)) (count : ℕ) → count < length names → Contains (take count names) (get_or names count []) → ¬ AreDistinct names
-twice names count within found apart =
-    let long : length (take count names) ≡ count = length-take-le count names (omega arith) in
-    let before : found.0 < count = omega (arith, found.1, long) in
-    let name : List ℕ = get_or names count [] in
-    apart found.0 count name before within (sym (get_or-take count names found.0 name before) ∙ found.2 ∙ get_or_default names count [] name within)

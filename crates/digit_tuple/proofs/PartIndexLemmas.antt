@@ -4,7 +4,7 @@ use Rattle.std.specs.List.{All, Contains, range_with_len}
 use Rattle.std.proofs.lemmas.Bool.{cases_eq}
 use Rattle.std.proofs.lemmas.Bool.Decides.{Decides-eqb}
 use Rattle.std.proofs.lemmas.List.{length-append, length-set, length_push, get_or-set_same, get_or-set_other, get_or_append_left, get_or_push, take-append-le, drop-append-le, length-drop, drop_at, take_all}
-use Rattle.digit_tuple.specs.PartIndex.{letters_from, letters_with, IsBlock, AreByPart}
+use Rattle.digit_tuple.specs.PartIndex.{letters_from, letters_with, IsBlock}
 use Rattle.digit_tuple.specs.PartChains.{IsChain, AreChains}
 use Rattle.digit_tuple.proofs.MemberLemmas.{Contains-filter, Contains-from_filter}
 use Rattle.digit_tuple.proofs.RangeLemmas.{Contains-range, Contains-from_range}
@@ -30,10 +30,6 @@ letters_from-other parts part from less other =
     no : (b : Bool) → (get_or parts from 0 == part) ≡ b → b ≡ false
     no true is = absurd (other ((Decides-eqb (get_or parts from 0) part).0 is))
     no false is = refl
-
-pub letters_from-none : (parts : List ℕ) (part from n : ℕ) → length parts ≤ from → length parts - from ≡ n → filter (λ a. get_or parts a 0 == part) (range_with_len from n) ≡ []
-letters_from-none parts part from zero past count = refl
-letters_from-none parts part from (suc n) past count = absurd (omega (arith, past, count))
 
 -- a letter before a chain is not in it
 pub IsChain-kept : (next : List ℕ) (a v at : ℕ) (list : List ℕ) → a < at → IsChain next at list → IsChain (set next a v) at list
@@ -66,15 +62,6 @@ IsChain-one next at (x ∷ xs) (y ∷ ys) first second =
     ap (λ z. z ∷ xs) same ∙ ap (λ zs. y ∷ zs) (IsChain-one next (get_or next at 0) xs ys first.3 second.3)
 
 module _ (parts : List ℕ) (count : ℕ) where
-  -- no letter yet
-  pub AreChains-none : (first next : List ℕ) → length first ≡ count → length next ≡ length parts → ((part : ℕ) → part < count → get_or first part 0 ≡ length parts) → AreChains parts count first next (length parts)
-  AreChains-none first next heads long ends = record {
-    count_is = heads;
-    long = long;
-    beyond = λ part less. omega (arith, ends part less);
-    chains = λ part less. subst (IsChain next (get_or first part 0)) (sym (letters_from-none parts part (length parts) (length parts - length parts) (omega arith) refl)) (omega (arith, ends part less, long));
-  }
-
   -- one letter more, before those that have chains
   pub AreChains-more : (first next : List ℕ) (a : ℕ) → a < length parts → get_or parts a 0 < count → AreChains parts count first next (a + 1)
       → AreChains parts count (set first (get_or parts a 0) a) (set next a (get_or first (get_or parts a 0) 0)) a
@@ -120,9 +107,6 @@ pub record AreBlocksTo (parts letters starts : List ℕ) (count : ℕ) : Type 0 
   pub blocks : (part : ℕ) → part < count → IsBlock parts letters starts part
 
 module _ (parts : List ℕ) where
-  pub AreBlocksTo-none : AreBlocksTo parts [] (0 ∷ []) 0
-  AreBlocksTo-none = record { long = refl; last = refl; blocks = λ part less. absurd (omega (arith, less)) }
-
   -- the letters of one part more
   pub AreBlocksTo-more : (letters starts : List ℕ) (count : ℕ) → AreBlocksTo parts letters starts count
       → AreBlocksTo parts (letters ++ letters_with parts count) (starts ++ length (letters ++ letters_with parts count) ∷ []) (count + 1)
@@ -169,13 +153,6 @@ module _ (parts : List ℕ) where
             letters_are = ap (λ s. take (get_or (starts ++ total ∷ []) (part + 1) 0 - s) (drop s all)) first ∙ ap (λ e. take (e - get_or starts part 0) (drop (get_or starts part 0) all)) end
                 ∙ between (get_or starts part 0) (get_or starts (part + 1) 0) old.begins old.ends ∙ old.letters_are;
           }
-
-  -- all parts
-  pub AreByPart-all : (letters starts : List ℕ) (count : ℕ) → All (λ part. part < count) parts → AreBlocksTo parts letters starts count → AreByPart parts letters starts
-  AreByPart-all letters starts count below are = record {
-    within = λ i d inside. omega (arith, below i d inside, are.long);
-    blocks = λ part inside. are.blocks part (omega (arith, inside, are.long));
-  }
 
 -- a part that no letter has
 pub letters_with-none : (parts : List ℕ) (part bound : ℕ) → All (λ p. p + 1 < bound) parts → bound ≤ part + 1 → letters_with parts part ≡ []

@@ -1,6 +1,5 @@
 -- Paths of a nondeterministic automaton.
 use Rattle.std.proofs.Common.{ℕ, ◌<◌, List, [], ◌∷◌, ◌++◌, subst, sym, refl}
-use Rattle.digit_tuple.specs.Letters.{IsWord}
 use Rattle.digit_tuple.specs.Automaton.{Branching, Path, Leads, states_of, letters_of, IsBranchTable}
 use Rattle.digit_tuple.proofs.TableLemmas.{Leads-in_range}
 
@@ -25,9 +24,3 @@ pub Path-in_range : (n : Branching) (w : List ℕ) (p q : ℕ) → IsBranchTable
 Path-in_range n [] p q table within path = subst (λ k. k < states_of n) path within
 Path-in_range n (a ∷ w) p q table within path =
     Path-in_range n w path.0 q table (Leads-in_range n p a path.0 table path.1).1 path.2
-
--- a word that spells a path is a word over the alphabet
-pub IsWord-path : (n : Branching) (w : List ℕ) (p q : ℕ) → IsBranchTable (letters_of n) n.states → Path n p w q → IsWord (letters_of n) w
-IsWord-path n [] p q table path = tt
-IsWord-path n (a ∷ w) p q table path =
-    ((Leads-in_range n p a path.0 table path.1).0, IsWord-path n w path.0 q table path.2)

@@ -1,9 +1,8 @@
 -- Rows that are kept in blocks: blocks with one more, blocks with the same rows, and the cells of all blocks.
-use Rattle.std.proofs.Common.{◌≡◌, ℕ, ◌+◌, ◌-◌, ◌≤◌, Some, List, [], ◌∷◌, ◌++◌, map, set, take, suc, zero, get_or, length, sym, ap, ◌∙◌, subst, append_assoc, arith}
-use Rattle.std.specs.List.{slice_get, AllByRecursion, flat_map}
-use Rattle.std.proofs.lemmas.Option.{get_or_from_slice_get}
+use Rattle.std.proofs.Common.{◌≡◌, ℕ, ◌-◌, ◌≤◌, List, [], ◌∷◌, ◌++◌, map, set, suc, zero, get_or, length, sym, ap, ◌∙◌, subst, append_assoc, arith}
+use Rattle.std.specs.List.{AllByRecursion, flat_map}
 use Rattle.std.proofs.Math.Seq.{get_or-append_seam, map-set_same, set-append_seam}
-use Rattle.std.proofs.lemmas.List.{length-append, map-append, flat_map_more, take_all, take_more}
+use Rattle.std.proofs.lemmas.List.{length-append, flat_map_more}
 use Rattle.digit_tuple.specs.Blocks.{AreBlocks}
 use Rattle.digit_tuple.specs.Decisions.{rows_in, sizes_in, IsSound}
 use Rattle.digit_tuple.specs.SparseRows.{DecideRows, block_rows, AreOver, IsFullOver, AreOpenBlocks, AreRowBlocks, HaveSameRows}
@@ -53,11 +52,6 @@ AreRowBlocks-push sizes xs last are = record {
   rows = AreBlocks-push rows_in xs block_rows last (full-rows sizes xs are.full) are.rows;
 }
 
--- blocks that are by the tracks are sound
-pub all_sound : (sizes : List ℕ) (xs : List Decisions) → AllByRecursion (AreOver sizes) xs → AllByRecursion IsSound xs
-all_sound sizes [] over = tt
-all_sound sizes (x ∷ xs) over = (over.0.sound, all_sound sizes xs over.1)
-
 over-tracks : (sizes : List ℕ) (xs : List Decisions) → AllByRecursion (AreOver sizes) xs → AllByRecursion (DecideRows sizes) (map sizes_in xs)
 over-tracks sizes [] over = tt
 over-tracks sizes (x ∷ xs) over = (over.0.tracks, over-tracks sizes xs over.1)
@@ -75,13 +69,6 @@ HaveSameRows-blocks sizes blocks others same are = record {
 
 pub HaveSameRows-rows : (blocks others : List Decisions) → HaveSameRows blocks others → flat_map rows_in others ≡ flat_map rows_in blocks
 HaveSameRows-rows blocks others same = flat_map-same rows_in others blocks same.rows
-
-pub HaveSameRows-push : (xs ys : List Decisions) (x y : Decisions) → HaveSameRows xs ys → IsSound y → sizes_in y ≡ sizes_in x → rows_in y ≡ rows_in x → HaveSameRows (xs ++ x ∷ []) (ys ++ y ∷ [])
-HaveSameRows-push xs ys x y same sound tracks rows = record {
-  sound = all_push IsSound ys y same.sound sound;
-  tracks = map-append sizes_in ys (y ∷ []) ∙ ap (λ ts. ts ++ sizes_in y ∷ []) same.tracks ∙ ap (λ t. map sizes_in xs ++ t ∷ []) tracks ∙ sym (map-append sizes_in xs (x ∷ []));
-  rows = map-append rows_in ys (y ∷ []) ∙ ap (λ rs. rs ++ rows_in y ∷ []) same.rows ∙ ap (λ r. map rows_in xs ++ r ∷ []) rows ∙ sym (map-append rows_in xs (x ∷ []));
-}
 
 all_set : {A : Type 0} (P : A → Type 0) (xs : List A) (i : ℕ) (y : A) → AllByRecursion P xs → P y → AllByRecursion P (set xs i y)
 all_set P [] i y all here = tt

@@ -63,10 +63,6 @@ leads-itself (e ∷ es) ascending = (
   leads-more e es es (λ k d within. ascending 0 (suc k) d (omega arith) (omega arith)) (leads-itself es (ascending-tail e es ascending)),
 )
 
-pub all-append : (P : Edge → Type 0) (es fs : List Edge) → AllByRecursion P es → AllByRecursion P fs → AllByRecursion P (es ++ fs)
-all-append P [] fs all more = more
-all-append P (e ∷ es) fs all more = (all.0, all-append P es fs all.1 more)
-
 all-front : (P : Edge → Type 0) (es fs : List Edge) → AllByRecursion P (es ++ fs) → AllByRecursion P es
 all-front P [] fs all = tt
 all-front P (e ∷ es) fs all = (all.0, all-front P es fs all.1)

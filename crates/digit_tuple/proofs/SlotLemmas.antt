@@ -180,22 +180,6 @@ pub record IsSought (keys : List (List ℕ)) (slots : List Slot) (key : List ℕ
   pub none_free : (p : ℕ) → home ≤ p → p < place → 0 < (slot_at slots p).link
   pub others : (p : ℕ) → home ≤ p → p < place → (slot_at slots p).hash ≡ hash → key_at keys ((slot_at slots p).link - 1) ≢ key
 
--- the search goes on past a slot
-pub IsSought-next : (keys : List (List ℕ)) (slots : List Slot) (key : List ℕ) (hash home place : ℕ) → IsSought keys slots key hash home place → 0 < (slot_at slots place).link
-    → ((slot_at slots place).hash ≡ hash → key_at keys ((slot_at slots place).link - 1) ≢ key) → IsSought keys slots key hash home (place + 1)
-IsSought-next keys slots key hash home place so_far taken other = record {
-  none_free = λ p after before. taken_at p after before (cases_eq p place);
-  others = λ p after before. other_at p after before (cases_eq p place);
-}
-  where
-    taken_at : (p : ℕ) → home ≤ p → p < place + 1 → (p ≡ place) ⊎ (p ≢ place) → 0 < (slot_at slots p).link
-    taken_at p after before (inl here) = rw here taken
-    taken_at p after before (inr there) = so_far.none_free p after (omega arith)
-
-    other_at : (p : ℕ) → home ≤ p → p < place + 1 → (p ≡ place) ⊎ (p ≢ place) → (slot_at slots p).hash ≡ hash → key_at keys ((slot_at slots p).link - 1) ≢ key
-    other_at p after before (inl here) = rw here other
-    other_at p after before (inr there) = so_far.others p after (omega arith)
-
 -- the search ends at a free slot or past the last, with no key
 pub Contains-sought : (keys : List (List ℕ)) (table : SlotTable) (key : List ℕ) (hash place : ℕ) → hash ≡ hash_of key → AreSlotted table (map hash_of keys) → IsSought keys table.slots.items key hash (home_of table.mask hash) place
     → (slot_at table.slots.items place).link ≡ 0 → home_of table.mask hash ≤ place → ¬ Contains keys key

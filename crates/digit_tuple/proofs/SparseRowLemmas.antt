@@ -12,10 +12,6 @@ pub decide-product : (sizes tracks : List ℕ) → DecideRows sizes tracks → p
 decide-product sizes tracks (inl same) = ap product same.0
 decide-product sizes tracks (inr one) = let letters : product tracks ≡ product sizes * 1 = ap product one in omega (arith, letters)
 
-pub decide-some : (sizes tracks : List ℕ) → DecideRows sizes tracks → 0 < length tracks
-decide-some sizes tracks (inl same) = omega (arith, same.1, ap length same.0)
-decide-some sizes tracks (inr one) = omega (arith, ap length one)
-
 pub get_or-taken : (es : List Edge) (i k : ℕ) (d : Edge) → k < i → i ≤ length es → get_or (take i es) k d ≡ get_or es k d
 get_or-taken [] i k d less within = absurd (omega arith)
 get_or-taken (e ∷ es) zero k d less within = absurd (omega arith)

@@ -1,5 +1,5 @@
 -- Tuples of members, and their letters.
-use Rattle.std.proofs.Common.{◌≡◌, ℕ, ◌<◌, ℤ, pos, List, [], ◌∷◌, length, get_or, arith, ap, subst, sym, refl, ◌∙◌}
+use Rattle.std.proofs.Common.{◌≡◌, ℕ, ◌<◌, ℤ, pos, List, [], ◌∷◌, get_or, ap, subst, sym, refl, ◌∙◌}
 use Rattle.std.specs.List.{All, AllZip, Contains}
 use Rattle.std.proofs.lemmas.List.{get_or_default}
 use Rattle.std.proofs.lemmas.List.Elements.{All-head, All-tail}
@@ -93,15 +93,3 @@ tuples_from_word sets (a ∷ w) over =
     let first = tuple_from_letter sets a over.0 in
     let rest = tuples_from_word sets w over.1 in
     (first.0 ∷ rest.0, (first.1, rest.1))
-
--- over one set the letters are the places of its members
-pub product-one : (set : List ℤ) → product (sizes_of (set ∷ [])) ≡ length set
-product-one set = omega arith
-
-pub letter_from_place : (set : List ℤ) (place : ℕ) → place < length set → IsLetterOf (set ∷ []) (get_or set place (pos 0) ∷ []) place
-letter_from_place set place below = record { digits = place ∷ []; fit = (below, tt); tuple_is = refl; letter_is = omega arith }
-
-pub place_from_letter : (set : List ℤ) (tuple : List ℤ) (letter : ℕ) → IsLetterOf (set ∷ []) tuple letter → (letter < length set) × (tuple ≡ get_or set letter (pos 0) ∷ [])
-place_from_letter set tuple letter p =
-    let below : letter < length set = omega (arith, letter_below (set ∷ []) tuple letter p) in
-    (below, one_tuple (set ∷ []) tuple (get_or set letter (pos 0) ∷ []) letter p (letter_from_place set letter below))

@@ -1,6 +1,5 @@
--- What a step does: it makes something within the limits, with its line after those before it, or it is refused.
-use Rattle.std.specs.Prelude.{◌≡◌, ℕ, ◌+◌, ◌≤◌, ◌⊎◌, List, length, ⊤, Result, Ok, Err}
-use Rattle.digit_tuple.specs.Deterministic.{Automaton, states_of}
+-- The line of a step within the limits, how a step is refused, and computations one after another.
+use Rattle.std.specs.Prelude.{◌≡◌, ℕ, ◌+◌, ◌≤◌, ◌⊎◌, length, ⊤, Result, Ok, Err}
 use Rattle.digit_tuple.specs.Letters.{product, IsAlphabet, IsTooLarge}
 use Rattle.digit_tuple.specs.Steps.{Step, StepLog, with_line}
 use Rattle.digit_tuple.specs.Width.{HasApart, HasWidth}
@@ -38,11 +37,6 @@ ExceedsLetters step = IsTooLarge step.sizes
 pub record ExceedsWidth (limit : ℕ) (step : Step) : Type 0 where
   pub alphabet : IsAlphabet step.sizes
   pub apart : HasApart step.alike (product step.sizes) (limit + 1)
-
--- The step makes something of an automaton, within the limits, and its line comes after the others; or it is refused, and they stay.
-abbrev pub DoesStep : {Made : Type 0} → Step → (Made → Automaton) → (Made → Type 0) → StepLog → Result Made StepFault → StepLog → Type 0
-DoesStep step automaton_of IsMade old (Ok made) new = IsMade made × IsDone old (IsLineOf old.limit step (states_of (automaton_of made))) new
-DoesStep step automaton_of IsMade old (Err fault) new = IsRefusedBy old (ExceedsLetters step) (ExceedsWidth old.limit step) fault × (new ≡ old)
 
 -- One computation after another: the next goes on with what the first made, or the fault of the first is that of both.
 abbrev pub Then : {A B E : Type 0} → (StepLog → Result A E → StepLog → Type 0) → (A → StepLog → Result B E → StepLog → Type 0) → StepLog → Result B E → StepLog → Type 0

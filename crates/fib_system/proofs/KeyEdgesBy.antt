@@ -6,14 +6,6 @@ use Rattle.std.proofs.lemmas.List.Elements.{All-push}
 use Rattle.std.proofs.lemmas.List.Quantifiers.{all_pairs_push}
 use Rattle.digit_tuple.specs.Keys.{KeyEdge, AreKeyEdges, IsByEarlier, key_by}
 
--- no edge yet
-pub no_key_edges : (after : ℕ → Option (List ℕ)) → AreKeyEdges 0 after []
-no_key_edges after = record {
-  in_range = λ i d within. absurd (omega arith);
-  ascending = λ i j d before within. absurd (omega arith);
-  lead = λ a within. absurd (omega arith);
-}
-
 by_this : (e : KeyEdge) (es : List KeyEdge) (a : ℕ) → e.letter ≡ a → key_by (e ∷ es) a ≡ Some e.key
 by_this e es a same = ap (λ (b : Bool). if b then Some e.key else key_by es a) (eq-eqb e.letter a same)
 

@@ -7,7 +7,7 @@ use Rattle.digit_tuple.specs.Paddings.{in_order}
 use Rattle.digit_tuple.specs.declared.direction.Direction.{Direction}
 use Rattle.digit_tuple.specs.declared.direction.Direction.TheVariants.{Msd, Lsd}
 use Rattle.digit_tuple.proofs.PaddingLemmas.{IsWord-reverse}
-use Rattle.numeration.proofs.RankLemmas.{same_tests}
+use Rattle.digit_tuple.proofs.TruthLemmas.{same_tests}
 use Rattle.fib_system.specs.Fibonacci.{is_sparse, begins_with_1, Has11, WordsAreWithout11}
 use Rattle.fib_system.specs.FibonacciLaws.{sparse_over}
 

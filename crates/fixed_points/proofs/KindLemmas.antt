@@ -13,7 +13,7 @@ use Rattle.fixed_points.proofs.LeastLemmas.{among_more, among_none, among_stay, 
 use Rattle.morph_words.proofs.RuleLemmas.{first_least, one_least}
 use Rattle.morph_words.proofs.UniformLemmas.{not_uniform, one_length, outside_not, uniform_or_odd}
 use Rattle.morph_words.specs.Images.{image}
-use Rattle.morph_words.specs.Uniform.{AreUniform, HasOtherLength, HasRule, IsLeast, IsLeastOf, IsLengthRefused, IsNotUniform, IsOdd}
+use Rattle.morph_words.specs.Uniform.{AreUniform, HasOtherLength, HasRule, IsLeast, IsLeastOf, IsNotUniform, IsOdd}
 
 module _ (rules : Rules) where
   not_closed : (letter : ℤ) → IsLacking rules letter → AreClosed rules → ⊥
@@ -45,13 +45,6 @@ module _ (rules : Rules) where
   one_kind (NotFixed a) (Length b) h g = absurd (outside_not rules IsBase b h.k g h.uniform h.base)
   one_kind (NotFixed a) (NotClosed b) h g = absurd (not_closed b g.lacking.holds h.closed)
   one_kind (NotFixed a) (NotFixed b) h g = ap NotFixed (h.zero_is ∙ sym g.zero_is)
-
--- a morphism that is refused for the length of its images is refused
-pub length_refused : (rules : Rules) (kind : MorphismKind) → IsLengthRefused IsBase rules kind → IsRefusedAs rules kind
-length_refused rules (NotUniform letter) h = h
-length_refused rules (Length letter) h = h
-length_refused rules (NotClosed letter) h = absurd h
-length_refused rules (NotFixed letter) h = absurd h
 
 pub one_kinds : MorphismsHaveOneKind
 one_kinds rules = record { one_base = one_base rules; one_kind = one_kind rules; apart = apart rules }

@@ -4,7 +4,5 @@ pub mod LeastLemmas
 pub mod ReachedLemmas
 pub mod OccurrenceLemmas
 pub mod KindLemmas
-pub mod BaseLemmas
-pub mod OneSystem
 pub mod WordLemmas
 pub mod OnePromotion

@@ -11,6 +11,7 @@ use Rattle.numeration.specs.Systems.{System}
 use Rattle.base_k.specs.Positional.{RankIsPositional, base, value}
 use Rattle.num_system.specs.Sealed.{IsSealed, SystemValue, system_of}
 use Rattle.num_system.specs.Tracks.{systems_of, way_of}
+use Rattle.num_system.proofs.OneSystem.{one_sealed}
 use Rattle.word_output.specs.LetterFunctions.{letter_after}
 use Rattle.word_output.specs.Words.{HasLetter, WordValue}
 use Rattle.word_output.proofs.LetterEquality.{letter_functions}
@@ -23,7 +24,6 @@ use Rattle.fixed_points.specs.declared.promote_fault.PromoteFault.{PromoteFault}
 use Rattle.fixed_points.specs.declared.promote_fault.PromoteFault.TheVariants.{Morphism, Step}
 use Rattle.fixed_points.proofs.KindLemmas.{apart, one_base, one_kind}
 use Rattle.fixed_points.proofs.OccurrenceLemmas.{one_number, within_all}
-use Rattle.fixed_points.proofs.OneSystem.{one_sealed}
 use Rattle.fixed_points.proofs.PowerLemmas.{one_letter}
 use Rattle.fixed_points.proofs.WordLemmas.{value_spelled}
 

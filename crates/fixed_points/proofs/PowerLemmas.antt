@@ -17,7 +17,8 @@ use Rattle.morph_words.specs.FixedPoint.{IsLetterAt, power}
 use Rattle.fixed_points.specs.LetterGraph.{letter_by, reached}
 use Rattle.fixed_points.specs.LetterGraphLaws.{digit_ruled, zero_ruled}
 use Rattle.morph_words.specs.MorphismKinds.{BeginsItself, HasFixedPoint}
-use Rattle.fixed_points.proofs.ListLemmas.{AllByRecursion-each, slice_get-append_left, slice_get-append_right, slice_get-stays}
+use Rattle.morph_words.proofs.AppliedLemmas.{slice_get-applied}
+use Rattle.fixed_points.proofs.ListLemmas.{AllByRecursion-each, slice_get-stays}
 
 -- a place is in one word alone
 pub one_letter : (rules : Rules) (place : ℕ) (letter other : ℤ) → IsLetterAt rules place letter → IsLetterAt rules place other → letter ≡ other
@@ -99,18 +100,6 @@ module _ (rules : Rules) (k : ℕ) (has : HasFixedPoint rules k) where
   reached_ruled [] letter over ruled = ruled
   reached_ruled (digit ∷ w) letter over ruled = reached_ruled w (letter_by rules letter digit) over.1 (digit_ruled rules k letter digit has ruled over.0)
 
-  -- the images of letters that have rules, at their places
-  slice_get-applied : (word : List ℤ) (q r : ℕ) (letter : ℤ) → AllByRecursion (HasRule rules) word → slice_get word q ≡ Some letter → r < k → slice_get (applied rules word) (q * k + r) ≡ slice_get (image rules letter) r
-  slice_get-applied [] q r letter ruled is small = absurd cc
-  slice_get-applied (a ∷ word) zero r letter ruled is small =
-      let same : a ≡ letter = cc in
-      ap (slice_get (image rules a ++ applied rules word)) (let at : 0 * k + r ≡ r = omega arith in at)
-      ∙ slice_get-append_left (image rules a) (applied rules word) r (omega (arith, has.uniform a ruled.0, small))
-      ∙ ap (λ b. slice_get (image rules b) r) same
-  slice_get-applied (a ∷ word) (suc q) r letter ruled is small =
-      slice_get-append_right (image rules a) (applied rules word) (suc q * k + r) (q * k + r) (omega (arith, has.uniform a ruled.0))
-      ∙ slice_get-applied word q r letter ruled.1 is small
-
   applied_ruled : (word : List ℤ) → AllByRecursion (HasRule rules) word → AllByRecursion (HasRule rules) (applied rules word)
   applied_ruled [] ruled = tt
   applied_ruled (a ∷ word) ruled =
@@ -137,7 +126,7 @@ module _ (rules : Rules) (k : ℕ) (has : HasFixedPoint rules k) where
       let power_is : q * k ^ suc m ≡ q * (k ^ m * k) = ap (λ n. q * n) (pow-suc k m) in
       let split : (q * k + digit) * k ^ m ≡ q * k * k ^ m + digit * k ^ m = add-mul (q * k) digit (k ^ m) in
       let place : q * k ^ suc m + (digit * k ^ m + value k w) ≡ (q * k + digit) * k ^ m + value k w = omega (arith, power_is, split) in
-      let step : slice_get (power rules (suc t)) (q * k + digit) ≡ Some (letter_by rules letter digit) = slice_get-applied (power rules t) q digit letter (power_ruled t) is over.0 ∙ by_digit letter digit ruled over.0 in
+      let step : slice_get (power rules (suc t)) (q * k + digit) ≡ Some (letter_by rules letter digit) = slice_get-applied rules k has.uniform (power rules t) q digit letter (power_ruled t) is over.0 ∙ by_digit letter digit ruled over.0 in
       ap (λ n. slice_get (power rules n) (q * k ^ suc m + (digit * k ^ m + value k w))) time
       ∙ ap (slice_get (power rules (suc t + m))) place
       ∙ reached_from w (suc t) (q * k + digit) (letter_by rules letter digit) over.1 (digit_ruled rules k letter digit has ruled over.0) step
@@ -151,4 +140,4 @@ module _ (rules : Rules) (k : ℕ) (has : HasFixedPoint rules k) where
   -- the image of a letter of the fixed point stands in it, k times as far
   pub image_stands : (place digit : ℕ) (letter other : ℤ) → IsLetterAt rules place letter → digit < k → slice_get (image rules letter) digit ≡ Some other → IsLetterAt rules (place * k + digit) other
   image_stands place digit letter other at small is =
-      letter_at rules has.begins (suc at.times) (place * k + digit) other (slice_get-applied (power rules at.times) place digit letter (power_ruled at.times) at.letter_is small ∙ is)
+      letter_at rules has.begins (suc at.times) (place * k + digit) other (slice_get-applied rules k has.uniform (power rules at.times) place digit letter (power_ruled at.times) at.letter_is small ∙ is)

@@ -32,17 +32,6 @@ pub record IsUnderWay (old : StepLog) (l : LibraryValue) (plans : List Plan) (ma
   pub done : AreSteps old.limit l (filter is_step (take (length rs) plans)) lines
   pub now_is : now ≡ with_lines old lines
 
-with_none : (log : StepLog) → log ≡ with_lines log []
-with_none log = λ i. record { limit = log.limit; lines = sym (append-nil log.lines) i }
-
-pub begins : (old : StepLog) (l : LibraryValue) (plans : List Plan) (marks : List Bool) → IsUnderWay old l plans marks [] old
-begins old l plans marks = record {
-  made = λ i within. absurd (omega (arith, within));
-  lines = [];
-  done = tt;
-  now_is = with_none old;
-}
-
 one_step_more : (limit : ℕ) (l : LibraryValue) (ps : List Plan) (lines : List StepLine) (p : Plan) (c : RelationValue) (line : StepLine) → AreSteps limit l ps lines → IsStep limit l p c line
     → AreSteps limit l (ps ++ p ∷ []) (lines ++ line ∷ [])
 one_step_more limit l [] [] p c line done step = ((c, step), tt)

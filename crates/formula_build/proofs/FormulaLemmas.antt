@@ -9,9 +9,8 @@ use Rattle.formula_plan.specs.Plans.{Plan, compared, added, number, called, lett
 use Rattle.formula_plan.specs.FormulaPlans.{plan_of}
 use Rattle.formula_plan.specs.Means.{IsDecided, AreDecided}
 use Rattle.formula_plan.proofs.AgreementLemmas.{Agree, agrees, agree_back}
-use Rattle.formula_build.proofs.HasLemmas.{first_is, later_is}
 use Rattle.formula_plan.proofs.FormulaLemmas.{formula_says}
-use Rattle.formula_plan.proofs.TrackLemmas.{same_is}
+use Rattle.formula_plan.proofs.TrackLemmas.{same_is, first_is, later_is}
 use Rattle.number_relations.specs.Relations.{RelationValue}
 use Rattle.number_relations.proofs.RelationLemmas.{relations_decided}
 use Rattle.formula_build.specs.TrackNames.{track_name, numbers_by, AreNamed}

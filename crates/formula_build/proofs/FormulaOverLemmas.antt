@@ -44,10 +44,6 @@ abbrev in_names : Names → Track → Bool
 in_names ns (own n) = is_listed n ns
 in_names ns (fresh i) = false
 
-either_or : (p q : Bool) → (p || q) ≡ false → (p ≡ false) × (q ≡ false)
-either_or true q none = absurd (false≢true (sym none))
-either_or false q none = (refl, none)
-
 not_both : (p q : Bool) → p ≡ false → q ≡ false → (p || q) ≡ false
 not_both p q first second = ap (λ b. b || q) first ∙ second
 
@@ -62,10 +58,6 @@ other_name m n apart = by (bytes_eq n m) refl
 listed_more : (ns : Names) (n : Name) (u : Track) → in_names ns u ≡ false → same_track (own n) u ≡ false → in_names (names ns n) u ≡ false
 listed_more ns n (own m) none apart = not_both (is_listed m ns) (bytes_eq m n) none (other_name n m apart)
 listed_more ns n (fresh i) none apart = refl
-
-listed_less : (ns : Names) (n : Name) (u : Track) → in_names (names ns n) u ≡ false → in_names ns u ≡ false
-listed_less ns n (own m) none = (either_or (is_listed m ns) (bytes_eq m n) none).0
-listed_less ns n (fresh i) none = refl
 
 -- a track that is not there is not this one
 not_there : (p : Plan) (n : Name) (u : Track) → has_track (tracks p) (own n) ≡ false → has_track (tracks p) u ≡ true → same_track (own n) u ≡ false

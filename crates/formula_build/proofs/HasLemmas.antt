@@ -4,22 +4,8 @@ use Rattle.std.specs.List.{Contains}
 use Rattle.std.proofs.lemmas.Bool.{false≢true}
 use Rattle.digit_tuple.proofs.MemberLemmas.{Contains-cases, Contains-head, Contains-none, Contains-tail}
 use Rattle.formula_plan.specs.Tracks.{Track, same_track, has_track, without}
-use Rattle.formula_plan.proofs.TrackLemmas.{same_self, same_is}
+use Rattle.formula_plan.proofs.TrackLemmas.{same_is, first_is, later_is}
 use Rattle.formula_build.specs.TrackNames.{track_name}
-
-pub or_left : (p q : Bool) → p ≡ true → (p || q) ≡ true
-or_left true q is = refl
-or_left false q is = absurd (false≢true is)
-
-pub or_right : (p q : Bool) → q ≡ true → (p || q) ≡ true
-or_right true q is = refl
-or_right false q is = is
-
-pub first_is : (t : Track) (ts : List Track) → has_track (t ∷ ts) t ≡ true
-first_is t ts = or_left (same_track t t) (has_track ts t) (same_self t)
-
-pub later_is : (u : Track) (ts : List Track) (t : Track) → has_track ts t ≡ true → has_track (u ∷ ts) t ≡ true
-later_is u ts t is = or_right (same_track u t) (has_track ts t) is
 
 -- a track among some is the first of them, or a later one
 pub has_cases : (u : Track) (ts : List Track) (t : Track) → has_track (u ∷ ts) t ≡ true → (u ≡ t) ⊎ (has_track ts t ≡ true)
@@ -58,17 +44,6 @@ has_either (u ∷ ts) us t is = elim (has_cases u (ts ++ us) t is) [
   | inl same ↦ inl (subst (λ (v : Track). has_track (u ∷ ts) v ≡ true) same (first_is u ts))
   | inr later ↦ elim (has_either ts us t later) [ inl first ↦ inl (later_is u ts t first) | inr second ↦ inr second ]
 ]
-
-pub has_first : (ts us : List Track) (t : Track) → has_track ts t ≡ true → has_track (ts ++ us) t ≡ true
-has_first [] us t is = absurd (false≢true is)
-has_first (u ∷ ts) us t is = elim (has_cases u ts t is) [
-  | inl same ↦ subst (λ (v : Track). has_track (u ∷ (ts ++ us)) v ≡ true) same (first_is u (ts ++ us))
-  | inr later ↦ later_is u (ts ++ us) t (has_first ts us t later)
-]
-
-pub has_second : (ts us : List Track) (t : Track) → has_track us t ≡ true → has_track (ts ++ us) t ≡ true
-has_second [] us t is = is
-has_second (u ∷ ts) us t is = later_is u (ts ++ us) t (has_second ts us t is)
 
 pub exchanged : (s t u : Track) → has_track (s ∷ t ∷ []) u ≡ true → has_track (t ∷ s ∷ []) u ≡ true
 exchanged s t u is = by (same_track s u) (same_track t u) is

@@ -4,10 +4,10 @@ use Rattle.digit_tuple.specs.Deterministic.{Automaton}
 use Rattle.digit_tuple.specs.Paddings.{in_order}
 use Rattle.numeration.specs.Relations.{HoldsOf}
 use Rattle.num_system.specs.Tracks.{systems_of, way_of}
-use Rattle.num_system.proofs.HoldLemmas.{closed_from, holds_spelling, spelled_count, spelling_holds}
+use Rattle.num_system.proofs.HoldLemmas.{holds_spelling, spelled_count, spelling_holds}
 use Rattle.num_system.proofs.SealedLemmas.{are_systems}
 use Rattle.num_system.specs.declared.comparison.Comparison.{Comparison}
-use Rattle.number_relations.specs.Relations.{HoldsOver, IsClosedOver}
+use Rattle.number_relations.specs.Relations.{HoldsOver}
 use Rattle.word_output.specs.LetterSets.{ComparesLetters, IsLetterSet}
 use Rattle.word_output.specs.Words.{WordValue, IsWordValue, HasLetter}
 use Rattle.word_output.proofs.PlaceLaws.{letter_sets}
@@ -19,9 +19,6 @@ module _ (w : WordValue) (comparison : Comparison) (letter : ℤ) (d : Automaton
 
   set_holds : HoldsOf (way_of w.systems) (systems_of w.systems) HasSuchLetter d
   set_holds = letter_sets w comparison letter d is set
-
-  pub set_closed : IsClosedOver w.systems d
-  set_closed = closed_from (way_of w.systems) (systems_of w.systems) HasSuchLetter d set_holds
 
   pub set_says : (ns : List ℕ) → HoldsOver w.systems d ns ↔ HasSuchLetter ns
   set_says ns = (spelling_holds (way_of w.systems) (systems_of w.systems) HasSuchLetter d set_holds ns, back)

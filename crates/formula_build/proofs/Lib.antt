@@ -24,7 +24,6 @@ pub mod FactOverLemmas
 pub mod ResolvedLemmas
 pub mod FormulaOverLemmas
 pub mod KnownLemmas
-pub mod ResolvedReady
 pub mod ParsedNames
 pub mod ReadFormulas
 pub mod NameOrderLemmas

@@ -36,9 +36,6 @@ closed_named t (Some r) base value named = (value.0, (value.1, named))
 no_times_named : (s : Name) (x y : Track) (k : ℕ) → IsNamed x → IsNamed y → AreNamed (no_times s x y k).last
 no_times_named s x y k first second = (second, first)
 
-linked_named : (m : Made) (t : Track) (base : Plan) → IsMadeNamed m → (m.next ≤ 2 ^ 64 → IsNamed t × AreNamed base) → IsMadeNamed (linked m t base)
-linked_named m t base former also room = ((also room).0, (former room, (also room).1))
-
 if_named : (b : Bool) (m n : Made) → IsMadeNamed m → IsMadeNamed n → IsMadeNamed (if b then m else n)
 if_named true m n first second = first
 if_named false m n first second = second

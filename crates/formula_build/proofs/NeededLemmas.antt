@@ -240,22 +240,6 @@ module _ (list : List Plan) (makings : List Making) (last k : ℕ) (marks : List
       rooted_here (inr step) plans are =
           inr (k, omega (arith, inside, are.as_many), ap is_step (sym (at_here plans are).makes) ∙ sym (step_is plans m) ∙ step, whole_part (plan_at plans k))
 
-  -- or is not
-  pub passed_here : is_marked marks k ≡ false → is_step_making m ≡ false → IsMarkedFrom makings last k marks
-  passed_here unmarked bare = record {
-    count = from.count;
-    last_is = from.last_is;
-    steps = λ i n past within at step. elim (cases_lt k i) [
-      | inl later ↦ from.steps i n (omega (arith, later)) within at step
-      | inr not_later ↦ absurd (false≢true (sym bare ∙ ap is_step_making (sym (same_making i n (omega (arith, past, not_later)) at)) ∙ step))
-    ];
-    parts = λ i n past within at told. elim (cases_lt k i) [
-      | inl later ↦ from.parts i n (omega (arith, later)) within at told
-      | inr not_later ↦ absurd (let same : i ≡ k = omega (arith, past, not_later) in false≢true (sym unmarked ∙ ap (is_marked marks) (sym same) ∙ told))
-    ];
-    rooted = from.rooted;
-  }
-
 -- only the last is marked
 pub only_last : (makings : List Making) (last : ℕ) (marks : List Bool) → last < length makings → length marks ≡ length makings → ((i : ℕ) → i < length marks → is_marked marks i ≡ false)
     → IsMarkedFrom makings last (length makings) (set marks last true)

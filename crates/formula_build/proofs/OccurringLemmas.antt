@@ -11,13 +11,13 @@ use Rattle.formula_parse.specs.Trees.{Names, no_names, names, Term, variable, nu
 use Rattle.formula_plan.specs.Linear.{others, IsLinear, AreLinearFactors, AreLinearAddends, AreLinear, IsLinearFact, IsLinearFormula, AreLinearOperands}
 use Rattle.formula_plan.specs.OwnNames.{own_names, own_multiplied, own_before, own_among, own_there, without_name, without_all, has_name, own_of, own_operands}
 use Rattle.formula_plan.proofs.OwnTracks.{named_both, without_named, first_no, second_no}
+use Rattle.formula_plan.proofs.TrackLemmas.{or_left, or_right}
 use Rattle.formula_resolve.specs.Headers.{Headers, automaton_tracks, word_tracks}
 use Rattle.formula_resolve.specs.Mentions.{count}
 use Rattle.formula_resolve.specs.Occurrences.{Binders, unbound, is_listed, term_occurrences, factor_occurrences, addend_occurrences, track_occurrences, place_occurrences, fact_occurrences}
 use Rattle.formula_resolve.specs.FreeOccurrences.{named, free_in, free_among}
 use Rattle.formula_resolve.specs.declared.occurrence.Occurrence.{Occurrence}
 use Rattle.formula_build.proofs.AllLemmas.{all_both, all_more, all_map, all_filter}
-use Rattle.formula_build.proofs.HasLemmas.{or_left, or_right}
 
 abbrev HasName : List Name → Name → Type 0
 HasName ms n = has_name ms n ≡ true

@@ -7,7 +7,7 @@ use Rattle.digit_tuple.specs.Deterministic.{Automaton}
 use Rattle.automaton_steps.proofs.OneResults.{one_complement, one_join, one_projection}
 use Rattle.num_system.specs.Sealed.{SystemValue, IsSealed}
 use Rattle.num_system.specs.Tracks.{way_of, languages_of}
-use Rattle.number_relations.specs.Relations.{RelationValue, IsRelation, RelationHolds, named_of}
+use Rattle.number_relations.specs.Relations.{RelationValue, RelationHolds, named_of}
 use Rattle.number_relations.specs.Placed.{IsPlaced, changed_names}
 use Rattle.number_relations.specs.Comparisons.{IsComparison, IsSumRelation, IsAnyNumber}
 use Rattle.number_relations.specs.Constants.{IsRelationConstant}
@@ -22,7 +22,7 @@ use Rattle.word_output.specs.LetterSets.{IsLetterSet}
 use Rattle.word_output.specs.Words.{WordValue, IsWordValue}
 use Rattle.formula_plan.specs.Plans.{Plan, compared, added, number, called, lettered, renamed, constant, joined, paired, complement, projected}
 use Rattle.formula_build.specs.TrackNames.{track_name}
-use Rattle.formula_build.specs.Libraries.{LibraryValue, NamedSystem, NamedRelation, NamedWord, IsLibrary, IsSystemIn, IsRelationIn, IsWordIn, system_named, relation_named, word_named}
+use Rattle.formula_build.specs.Libraries.{LibraryValue, NamedSystem, NamedWord, IsLibrary, IsSystemIn, IsWordIn, system_named, word_named}
 use Rattle.formula_build.specs.Makings.{Makes, comparison_of, op_of, placed_on}
 use Rattle.formula_build.specs.PairRelations.{IsRelationPair}
 use Rattle.formula_build.specs.Laws.{OneMade}
@@ -40,18 +40,6 @@ sealed_in (n ∷ ss) name s all is = by (bytes_eq n.name name) refl (sealed_in s
 -- each system of a library is sealed
 pub system_sealed : (l : LibraryValue) (name : List ℕ) (s : SystemValue) → IsLibrary l → IsSystemIn l name s → IsSealed s
 system_sealed l name s library is = sealed_in l.systems name s library.systems is
-
-relation_there : (rs : List NamedRelation) (name : List ℕ) (r : RelationValue) → AllByRecursion (λ (n : NamedRelation). IsRelation n.relation) rs → relation_named rs name ≡ Some r → IsRelation r
-relation_there [] name r all is = absurd (none-some r is)
-relation_there (n ∷ rs) name r all is = by (bytes_eq n.name name) refl (relation_there rs name r all.1)
-  where
-    by : (b : Bool) → bytes_eq n.name name ≡ b → (relation_named rs name ≡ Some r → IsRelation r) → IsRelation r
-    by true same rest = subst IsRelation (same_Some n.relation r (sym (ap (λ c. if c then Some n.relation else relation_named rs name) same) ∙ is)) all.0
-    by false apart rest = rest (sym (ap (λ c. if c then Some n.relation else relation_named rs name) apart) ∙ is)
-
--- and each relation a relation
-pub relation_is : (l : LibraryValue) (name : List ℕ) (r : RelationValue) → IsLibrary l → IsRelationIn l name r → IsRelation r
-relation_is l name r library is = relation_there l.relations name r library.relations is
 
 word_there : (ws : List NamedWord) (name : List ℕ) (w : WordValue) → AllByRecursion (λ (n : NamedWord). IsWordValue n.word) ws → word_named ws name ≡ Some w → IsWordValue w
 word_there [] name w all is = absurd (none-some w is)

@@ -10,9 +10,10 @@ use Rattle.formula_plan.specs.Tracks.{Track, same_track, has_track, without}
 use Rattle.formula_plan.specs.Plans.{Plan, compared, added, number, called, lettered, renamed, constant, joined, paired, complement, projected, tracks, Made}
 use Rattle.formula_plan.specs.TermPlans.{closed_by, linked}
 use Rattle.formula_plan.specs.FactPlans.{Headers}
-use Rattle.formula_plan.proofs.TrackLemmas.{same_self, same_is}
+use Rattle.formula_plan.proofs.TrackLemmas.{same_self, same_is, first_is, later_is}
+use Rattle.formula_plan.proofs.AgreementLemmas.{has_first, has_second}
 use Rattle.formula_build.specs.TrackSystems.{TrackSystems, with_system, HaveOneDirection, IsOver}
-use Rattle.formula_build.proofs.HasLemmas.{first_is, later_is, has_cases, has_either, has_first, has_second, stays_apart, other_track_stays}
+use Rattle.formula_build.proofs.HasLemmas.{has_cases, has_either, stays_apart, other_track_stays}
 
 -- each track among some
 pub each_among : (E : Track → Type 0) (ts : List Track) → AllByRecursion E ts → (u : Track) → has_track ts u ≡ true → E u

@@ -17,6 +17,7 @@ use Rattle.formula_parse.specs.Building.{multiplied, summed, chained, under_mark
 use Rattle.formula_parse.specs.Formulas.{Factor, variable, numeral, in_parens, Prod, factor, times, Term, prod, signed, Index, word, further, Terms, term, comma, Atom, compare, words, word_letter, letter_word, call_none, call, Variables, variable_one, variable_more, Formula, imp, iff, Imp, chain, implies, Chain, operand, joined, Operand, marked, Core, negated, quantified, grouped, atom, factor_then, prod_then, term_then, index_then, terms_then, minus_then, letter_then, atom_then, variables_then, marks_then, formula_then, imp_then, chain_then, operand_then, core_then, spelled}
 use Rattle.formula_parse.specs.FormulaTrees.{factor_tree, before_factor, last_factor, before_prod, last_prod, term_tree, index_places, terms_tree, fact, marks_system, formula_system, imp_system, chain_system, before_imp, last_imp, before_chain, last_chain, before_operand, last_operand, operand_tree, core_tree, default_system}
 use Rattle.formula_parse.specs.Grammar.{Reads}
+use Rattle.formula_plan.proofs.TrackLemmas.{or_left}
 use Rattle.formula_build.specs.TrackNames.{begins_with_letter}
 use Rattle.formula_build.specs.VariableNames.{IsNamedTerm, AreNamedFactors, AreNamedAddends, AreNamedTerms, IsNamedFact, AreNamedIn, AreNamedAmong}
 
@@ -47,13 +48,9 @@ signs_named at b c d =
     (if_lexeme (b == 62) _ _ (if_lexeme (c == 61) _ _ tt tt)
     (if_lexeme (b == 61) _ _ (if_lexeme (c == 62) _ _ tt tt) (if_lexeme (b == 33) _ _ (if_lexeme (c == 61) _ _ tt tt) (sign_named at b))))
 
-either_first : (p q : Bool) → p ≡ true → (p || q) ≡ true
-either_first true q is = refl
-either_first false q is = absurd (false≢true is)
-
 -- a name at a letter begins with it
 front_named : (b : ℕ) (bs : List ℕ) → is_letter b ≡ true → begins_with_letter (front_of NameByte (b ∷ bs)) ≡ true
-front_named b bs letter = by (is_name_byte b) (either_first (is_letter b || is_digit b) (b == 95) (either_first (is_letter b) (is_digit b) letter))
+front_named b bs letter = by (is_name_byte b) (or_left (is_letter b || is_digit b) (b == 95) (or_left (is_letter b) (is_digit b) letter))
   where
     by : (c : Bool) → c ≡ true → begins_with_letter (take (if c then suc (front_len NameByte bs) else 0) (b ∷ bs)) ≡ true
     by true is = letter

@@ -52,7 +52,7 @@ module _ {X : Type 0} (same : X → X → Bool) (same_is : (x y : X) → same x 
   once_all : (xs : List X) → AllByRecursion P (each_once same xs) → AllByRecursion P xs
   once_all xs all = (all_then [] xs all).1
 
-same_file : (a b : File) → is_same_file a b ≡ true → a ≡ b
+pub same_file : (a b : File) → is_same_file a b ≡ true → a ≡ b
 same_file (Automaton m) (Automaton n) is = ap Automaton ((bytes_eq-Decides m n).0 is)
 same_file (Automaton m) (Word n) is = absurd (false≢true is)
 same_file (Word m) (Automaton n) is = absurd (false≢true is)

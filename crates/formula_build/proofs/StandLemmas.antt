@@ -11,10 +11,11 @@ use Rattle.num_system.specs.Sealed.{SystemValue}
 use Rattle.num_system.specs.Tracks.{absent_system, system_under, AgreeUnder}
 use Rattle.formula_parse.specs.Tokens.{Name}
 use Rattle.formula_plan.specs.Tracks.{Track, fresh, has_track}
+use Rattle.formula_plan.proofs.TrackLemmas.{first_is, later_is}
 use Rattle.formula_build.specs.TrackNames.{track_name, IsNamed}
 use Rattle.formula_build.specs.Libraries.{LibraryValue, IsSystemIn}
 use Rattle.formula_build.specs.TrackSystems.{TrackSystems}
-use Rattle.formula_build.proofs.HasLemmas.{first_is, has_contains, later_is}
+use Rattle.formula_build.proofs.HasLemmas.{has_contains}
 use Rattle.formula_build.proofs.TrackNameLemmas.{names_tell, named_among}
 
 -- each name stands for the system at its place

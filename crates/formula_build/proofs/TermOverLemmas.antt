@@ -10,12 +10,13 @@ use Rattle.formula_plan.specs.Plans.{Plan, compared, added, number, constant, jo
 use Rattle.formula_plan.specs.TermPlans.{TermPlan, closed, no_times, linked, multiple, times_numeral, times_numerals, sum_relation, with_addend, numeral_plan, begun, term_plan, factor_plans, sum_plan}
 use Rattle.formula_plan.specs.FactPlans.{Headers}
 use Rattle.formula_plan.proofs.MultipleLemmas.{IsBelow}
-use Rattle.formula_plan.proofs.TrackLemmas.{fresh_apart}
+use Rattle.formula_plan.proofs.TrackLemmas.{fresh_apart, first_is, later_is}
+use Rattle.formula_plan.proofs.AgreementLemmas.{has_second}
 use Rattle.formula_resolve.specs.Occurrences.{Binders, term_occurrences, factor_occurrences, addend_occurrences}
 use Rattle.formula_resolve.specs.declared.occurrence.Occurrence.{Occurrence}
 use Rattle.formula_build.specs.TrackSystems.{TrackSystems, IsOver}
 use Rattle.formula_build.proofs.AllLemmas.{all_first, all_second}
-use Rattle.formula_build.proofs.HasLemmas.{first_is, later_is, has_second, other_track_stays}
+use Rattle.formula_build.proofs.HasLemmas.{other_track_stays}
 use Rattle.formula_build.proofs.GrowthLemmas.{times_up}
 use Rattle.formula_build.proofs.OverLemmas.{each_among, over_projected, Only, OrIs, only_more, only_linked, OnlyOf, only_closed, has_closed, Faces, one_direction, OverOf, over_joined, over_closed, faces_closed}
 
@@ -150,9 +151,6 @@ module _ (h : Headers) (way : Name → Direction) (on : TrackSystems) (s : Name)
   value_over (fresh j) (Some r) k next stood = (stood.over, stood.there, λ u is. ap way (value_on j u (stood.only u is)))
   value_over (own n) (Some r) k next stood = absurd stood
   value_over (fresh j) None k next stood = absurd stood
-
-  faces : (t : Track) → on t ≡ s → Faces way on (way s) t
-  faces t is = ap way is
 
   linked_over : (m : Made) (k : ℕ) (base : Plan) → IsOver h way on m.last → Only (Faces way on (way s)) m.last → IsOver h way on base → Only (Faces way on (way s)) base
       → has_track (tracks base) (fresh k) ≡ true → IsOver h way on (linked m (fresh k) base).last

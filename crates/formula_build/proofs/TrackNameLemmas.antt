@@ -11,6 +11,7 @@ use Rattle.formula_plan.specs.Tracks.{Track, own, fresh, same_track, with_number
 use Rattle.formula_plan.specs.Plans.{Plan, compared, added, number, called, lettered, renamed, constant, joined, paired, complement, projected, tracks}
 use Rattle.formula_plan.proofs.TrackLemmas.{same_self, same_is}
 use Rattle.formula_build.specs.TrackNames.{track_name, numbers_by, begins_with_letter, IsNamed, AreNamed}
+use Rattle.formula_build.proofs.AllLemmas.{all_both}
 
 abbrev begins_with_digit : List ℕ → Bool
 begins_with_digit [] = false
@@ -40,10 +41,6 @@ names_tell (own m) (fresh k) first second same = absurd (letters_are_no_digits m
 names_tell (fresh j) (own n) first second same = absurd (letters_are_no_digits n second (ap begins_with_digit (sym same) ∙ decimal_begins j first))
 names_tell (fresh j) (fresh k) first second same = ap fresh (decimal_injective j k first second same)
 
-all_after : (ts us : List Track) → AllByRecursion IsNamed ts → AllByRecursion IsNamed us → AllByRecursion IsNamed (ts ++ us)
-all_after [] us first second = second
-all_after (t ∷ ts) us first second = (first.0, all_after ts us first.1 second)
-
 all_without : (s : Track) (ts : List Track) → AllByRecursion IsNamed ts → AllByRecursion IsNamed (without s ts)
 all_without s [] all = tt
 all_without s (t ∷ ts) all = by (not (same_track s t)) (all_without s ts all.1)
@@ -61,8 +58,8 @@ all_tracks (called n ts) named = named
 all_tracks (lettered n ts r l) named = named
 all_tracks (renamed s t p) named = (named.1, all_without s (tracks p) (all_tracks p named.2))
 all_tracks (constant y c t) named = (named, tt)
-all_tracks (joined j p q) named = all_after (tracks p) (tracks q) (all_tracks p named.0) (all_tracks q named.1)
-all_tracks (paired n ts r w us) named = all_after ts us named.0 named.1
+all_tracks (joined j p q) named = all_both IsNamed (tracks p) (tracks q) (all_tracks p named.0) (all_tracks q named.1)
+all_tracks (paired n ts r w us) named = all_both IsNamed ts us named.0 named.1
 all_tracks (complement p) named = all_tracks p named
 all_tracks (projected t p) named = all_without t (tracks p) (all_tracks p named.1)
 

@@ -30,12 +30,13 @@ use Rattle.formula_parse.specs.Tokens.{Name, Relation, equal, unequal, less, gre
 use Rattle.formula_plan.specs.Tracks.{Track, same_track, has_track, without}
 use Rattle.formula_plan.specs.Plans.{Plan, compared, added, number, called, lettered, renamed, constant, joined, paired, complement, projected, tracks}
 use Rattle.formula_plan.specs.FactPlans.{Headers}
-use Rattle.formula_plan.proofs.TrackLemmas.{same_self, same_is}
+use Rattle.formula_plan.proofs.TrackLemmas.{same_self, same_is, first_is}
+use Rattle.formula_plan.proofs.AgreementLemmas.{has_first, has_second}
 use Rattle.formula_build.specs.TrackNames.{track_name, IsNamed, AreNamed}
 use Rattle.formula_build.specs.Libraries.{LibraryValue, IsLibrary, IsSystemIn}
 use Rattle.formula_build.specs.Makings.{Makes, IsReady, MayJoin, comparison_of, op_of}
 use Rattle.formula_build.specs.TrackSystems.{TrackSystems, with_system, HaveOneDirection, IsOver, IsKnown, Fits}
-use Rattle.formula_build.proofs.HasLemmas.{Stands, first_is, has_cases, has_contains, contains_has, stands_later, has_either, has_first, has_second, exchanged, stays_apart, other_track_stays}
+use Rattle.formula_build.proofs.HasLemmas.{Stands, has_cases, has_contains, contains_has, stands_later, has_either, exchanged, stays_apart, other_track_stays}
 use Rattle.formula_build.proofs.HoldLemmas.{plan_says}
 use Rattle.formula_build.proofs.StandLemmas.{stand_agree, stand_count, stand_over}
 use Rattle.formula_build.proofs.TrackNameLemmas.{names_tell, named_track}

@@ -1,16 +1,14 @@
 -- The grammar over derivations: which tokens have which tree, and where tokens first break it.
-use Rattle.std.specs.Prelude.{◌≡◌, List, [], ◌∷◌, ◌++◌, map, None, Some}
+use Rattle.std.specs.Prelude.{◌≡◌, List, [], ◌∷◌, ◌++◌, map}
 use Rattle.formula_parse.specs.Tokens.{Token, Placed, token_of}
 use Rattle.formula_parse.specs.Trees.{Formula}
 use Rattle.std.specs.List.{AllByRecursion}
-use Rattle.formula_parse.specs.Flaws.{Flaw}
 use Rattle.formula_parse.specs.Limits.{IsAllowed}
 use Rattle.formula_parse.specs.Made.{trees}
 use Rattle.formula_parse.specs.FormulaTrees.{default_system}
 use Rattle.formula_parse.proofs.Derivations as derivations
 use Rattle.formula_parse.proofs.Derivations.{spelled}
 use Rattle.formula_parse.proofs.Systems.{formula_of}
-use Rattle.formula_parse.proofs.DerivedFlaws.{formula_flaw}
 
 abbrev pub tree_of : derivations.Formula → Formula
 tree_of f = formula_of trees default_system f
@@ -19,19 +17,6 @@ tree_of f = formula_of trees default_system f
 pub record Derives (ts : List Token) (text : derivations.Formula) : Type 0 where
   pub spells : map token_of (spelled text) ≡ ts
   pub allowed : AllByRecursion IsAllowed (spelled text)
-
--- the grammar: tokens and their tree
-pub record Reads (ts : List Token) (tree : Formula) : Type 0 where
-  pub text : derivations.Formula
-  pub derives : Derives ts text
-  pub flawless : formula_flaw None text ≡ None
-  pub tree_is : tree_of text ≡ tree
-
--- the second pass: tokens that a derivation spells, and its least flaw
-pub record IsFlawed (ts : List Token) (flaw : Flaw) : Type 0 where
-  pub text : derivations.Formula
-  pub derives : Derives ts text
-  pub flaw_is : formula_flaw None text ≡ Some flaw
 
 -- a derivation goes on after what was read of it
 pub record GoesOn (text : derivations.Formula) (read more : List Placed) : Type 0 where

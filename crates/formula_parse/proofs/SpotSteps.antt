@@ -171,6 +171,3 @@ spots_next m text at h e =
 pub unless_end_token : (t : Token) (ss : List (Spot Token)) → NotEnd t → unless_end t ss ≡ ss
 unless_end_token end ss h = absurd h
 unless_end_token t ss h = refl
-
-pub not_end_ne : (t : Token) → t ≡ end → NotEnd t → ⊥
-not_end_ne t e h = let P : Token → Type 0 = NotEnd in subst P e h

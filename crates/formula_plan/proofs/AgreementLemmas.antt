@@ -6,7 +6,7 @@ use Rattle.formula_truth.proofs.MeaningLemmas.{joined_same}
 use Rattle.formula_plan.specs.Tracks.{Track, same_track, Numbers, with_number, has_track, without}
 use Rattle.formula_plan.specs.Plans.{Plan, compared, added, number, called, lettered, renamed, constant, joined, paired, complement, projected, tracks}
 use Rattle.formula_plan.specs.Means.{Means}
-use Rattle.formula_plan.proofs.TrackLemmas.{same_self, same_is}
+use Rattle.formula_plan.proofs.TrackLemmas.{same_is, or_left, or_right, later_is, first_is}
 
 -- the same numbers on these tracks
 abbrev pub Agree : List Track → Numbers → Numbers → Type 0
@@ -15,32 +15,18 @@ Agree ts a b = (t : Track) → has_track ts t ≡ true → a t ≡ b t
 pub agree_back : (ts : List Track) (a b : Numbers) → Agree ts a b → Agree ts b a
 agree_back ts a b agree t is = sym (agree t is)
 
-or_left : (p q : Bool) → p ≡ true → (p || q) ≡ true
-or_left true q is = refl
-or_left false q is = absurd (false≢true is)
-
-or_right : (p q : Bool) → q ≡ true → (p || q) ≡ true
-or_right true q is = refl
-or_right false q is = is
-
-first_is : (t : Track) (ts : List Track) → has_track (t ∷ ts) t ≡ true
-first_is t ts = or_left (same_track t t) (has_track ts t) (same_self t)
-
-later_is : (u : Track) (ts : List Track) (t : Track) → has_track ts t ≡ true → has_track (u ∷ ts) t ≡ true
-later_is u ts t is = or_right (same_track u t) (has_track ts t) is
-
-in_first_by : (u : Track) (ts us : List Track) (t : Track) (b : Bool) → same_track u t ≡ b → (has_track ts t ≡ true → has_track (ts ++ us) t ≡ true)
+has_first_by : (u : Track) (ts us : List Track) (t : Track) (b : Bool) → same_track u t ≡ b → (has_track ts t ≡ true → has_track (ts ++ us) t ≡ true)
     → has_track (u ∷ ts) t ≡ true → has_track (u ∷ (ts ++ us)) t ≡ true
-in_first_by u ts us t true same rest is = or_left (same_track u t) (has_track (ts ++ us) t) same
-in_first_by u ts us t false apart rest is = or_right (same_track u t) (has_track (ts ++ us) t) (rest (sym (ap (λ c. c || has_track ts t) apart) ∙ is))
+has_first_by u ts us t true same rest is = or_left (same_track u t) (has_track (ts ++ us) t) same
+has_first_by u ts us t false apart rest is = or_right (same_track u t) (has_track (ts ++ us) t) (rest (sym (ap (λ c. c || has_track ts t) apart) ∙ is))
 
-in_first : (ts us : List Track) (t : Track) → has_track ts t ≡ true → has_track (ts ++ us) t ≡ true
-in_first [] us t is = absurd (false≢true is)
-in_first (u ∷ ts) us t is = in_first_by u ts us t (same_track u t) refl (in_first ts us t) is
+pub has_first : (ts us : List Track) (t : Track) → has_track ts t ≡ true → has_track (ts ++ us) t ≡ true
+has_first [] us t is = absurd (false≢true is)
+has_first (u ∷ ts) us t is = has_first_by u ts us t (same_track u t) refl (has_first ts us t) is
 
-in_second : (ts us : List Track) (t : Track) → has_track us t ≡ true → has_track (ts ++ us) t ≡ true
-in_second [] us t is = is
-in_second (u ∷ ts) us t is = later_is u (ts ++ us) t (in_second ts us t is)
+pub has_second : (ts us : List Track) (t : Track) → has_track us t ≡ true → has_track (ts ++ us) t ≡ true
+has_second [] us t is = is
+has_second (u ∷ ts) us t is = later_is u (ts ++ us) t (has_second ts us t is)
 
 stays_by : (s u t : Track) (ts : List Track) (b c : Bool) → same_track s u ≡ b → same_track u t ≡ c → same_track s t ≡ false
     → (has_track ts t ≡ true → has_track (without s ts) t ≡ true) → has_track (u ∷ ts) t ≡ true
@@ -86,16 +72,16 @@ agrees (renamed s t p) m a b agree h =
 agrees (constant y c t) m a b agree h = sym (agree t (first_is t [])) ∙ h
 agrees (joined j p q) m a b agree h =
     joined_same j (Means m p a) (Means m q a) (Means m p b) (Means m q b)
-    (agrees p m a b (λ t is. agree t (in_first (tracks p) (tracks q) t is)))
-    (agrees p m b a (λ t is. sym (agree t (in_first (tracks p) (tracks q) t is))))
-    (agrees q m a b (λ t is. agree t (in_second (tracks p) (tracks q) t is)))
-    (agrees q m b a (λ t is. sym (agree t (in_second (tracks p) (tracks q) t is))))
+    (agrees p m a b (λ t is. agree t (has_first (tracks p) (tracks q) t is)))
+    (agrees p m b a (λ t is. sym (agree t (has_first (tracks p) (tracks q) t is))))
+    (agrees q m a b (λ t is. agree t (has_second (tracks p) (tracks q) t is)))
+    (agrees q m b a (λ t is. sym (agree t (has_second (tracks p) (tracks q) t is))))
     h
 agrees (paired n ts r w us) m a b agree h = (
   h.0,
   h.1,
-  subst (λ ns. m.has_letter n ns h.0) (map_agrees ts a b (λ t is. agree t (in_first ts us t is))) h.2,
-  subst (λ ns. m.has_letter w ns h.1) (map_agrees us a b (λ t is. agree t (in_second ts us t is))) h.3,
+  subst (λ ns. m.has_letter n ns h.0) (map_agrees ts a b (λ t is. agree t (has_first ts us t is))) h.2,
+  subst (λ ns. m.has_letter w ns h.1) (map_agrees us a b (λ t is. agree t (has_second ts us t is))) h.3,
   h.4,
 )
 agrees (complement p) m a b agree h = λ held. h (agrees p m b a (agree_back (tracks p) a b agree) held)

@@ -1,6 +1,6 @@
 -- Plans of atoms, made part by part.
 use Rattle.std.specs.List.{fold}
-use Rattle.std.proofs.Common.{◌≡◌, inl, inr, ℕ, suc, ◌+◌, ◌<◌, ◌≤◌, List, [], ◌∷◌, ◌++◌, map, length, get_or, take, Some, Result, Ok, Err, IfOk, refl, sym, ◌∙◌, ap, subst, arith, append-nil, append_assoc, length-append, below_more}
+use Rattle.std.proofs.Common.{◌≡◌, ℕ, suc, ◌+◌, ◌<◌, ◌≤◌, List, [], ◌∷◌, ◌++◌, map, length, get_or, take, refl, sym, ◌∙◌, ap, subst, arith, append-nil, append_assoc, length-append, below_more}
 use Rattle.std.proofs.lemmas.List.{take_more, take_all, map-append, get_or_append_left}
 use Rattle.std.proofs.Math.Seq.{get_or-append_seam}
 use Rattle.std.proofs.lemmas.List.Sums.{fold-append}
@@ -11,13 +11,11 @@ use Rattle.formula_parse.specs.declared.tree.Term as parsed
 use Rattle.formula_plan.specs.Tracks.{Track}
 use Rattle.formula_plan.specs.Plans.{Plan, compared}
 use Rattle.formula_plan.specs.TermPlans.{Placed, TermPlan, closed, closing, term_plan}
-use Rattle.formula_plan.specs.FactPlans.{Places, no_places, places, tracks_of, all_places, closed_all, closing_all, TermPlans, and_term, over_terms, count, argument_plans, Form, long, named, named_by, compare_by}
+use Rattle.formula_plan.specs.FactPlans.{Places, no_places, places, tracks_of, all_places, closed_all, closing_all, TermPlans, and_term, over_terms, count, argument_plans, long, compare_by}
 use Rattle.formula_plan.specs.Makings.{track_view, plan_at}
 use Rattle.formula_plan.specs.Planning.{Adds, IsAt, Does, DoesTerm, DoesTerms, base_made, step_made, closed_made, closed_all_made, placed_at, places_at, IsWithin, AreWithin, tracks_in}
-use Rattle.formula_plan.specs.FactPlanning.{IsForm}
 use Rattle.formula_plan.specs.declared.planner.Planner.{Planner}
 use Rattle.formula_plan.specs.declared.planner.Placed as found
-use Rattle.formula_plan.specs.declared.comparisons.Short.{Short}
 use Rattle.formula_plan.proofs.PlanningLemmas.{adds_none, adds_then, within_later, placed_later}
 
 -- terms, one more at a time
@@ -129,33 +127,6 @@ compared_does old left right base half new v w i j k s r t u first second third 
       last = last.last;
       next = last.next ∙ closes.next ∙ made.next ∙ other.next;
     }
-
--- a short equation
-pub named_does : (old mid new : Planner) (v : found.Placed) (i : ℕ) (s n : Name) (p : TermPlan) → DoesTerm old mid v p
-    → Does mid new i (base_made (named_by s n (placed_at mid.plans v).track (placed_at mid.plans v).relation) mid.next) → Does old new i (named s n p)
-named_does old mid new v i s n p first second =
-    let here : Does mid new i (base_made (named_by s n p.placed.track p.placed.relation) mid.next) =
-    subst (λ (z : Placed). Does mid new i (base_made (named_by s n z.track z.relation) mid.next)) first.placed_is second in
-    record {
-      adds = subst (λ l. Adds old.plans new.plans l) (append-nil p.steps) (adds_then old.plans mid.plans new.plans p.steps [] first.adds here.adds);
-      last = here.last;
-      next = here.next ∙ first.next;
-    }
-
-pub short_answers : {E : Type 0} (r : Result ℕ E) (old new : Planner) (f : Form) (s : Name) (t u : parsed.Term) (e : Relation) (x : Short) → IsForm f t u (Some x)
-    → IfOk r (λ i. Does old new i (named s x.name.now (term_plan s (term_view x.term.now) old.next))) → IfOk r (λ i. Does old new i (compare_by f s (term_view t) e (term_view u) old.next))
-short_answers (Ok i) old new f s t u e x (inl is) does =
-    subst (λ g. Does old new i (compare_by g s (term_view t) e (term_view u) old.next)) (sym is.0)
-    (subst (λ y. Does old new i (named s x.name.now (term_plan s (term_view y) old.next))) is.1 does)
-short_answers (Ok i) old new f s t u e x (inr is) does =
-    subst (λ g. Does old new i (compare_by g s (term_view t) e (term_view u) old.next)) (sym is.0)
-    (subst (λ y. Does old new i (named s x.name.now (term_plan s (term_view y) old.next))) is.1 does)
-short_answers (Err b) old new f s t u e x is does = does
-
-pub long_answers : {E : Type 0} (r : Result ℕ E) (old new : Planner) (f : Form) (s : Name) (t u : Term) (e : Relation) → f ≡ long
-    → IfOk r (λ i. Does old new i (compare_by long s t e u old.next)) → IfOk r (λ i. Does old new i (compare_by f s t e u old.next))
-long_answers (Ok i) old new f s t u e is does = subst (λ g. Does old new i (compare_by g s t e u old.next)) (sym is) does
-long_answers (Err b) old new f s t u e is does = does
 
 -- a base over several values, whose tracks are closed then
 over_does : (old mid base new : Planner) (ps : List found.Placed) (i j : ℕ) (qs : TermPlans) (ground : Plan) → DoesTerms old mid ps qs → Does mid base i (base_made ground mid.next)

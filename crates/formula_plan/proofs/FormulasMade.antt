@@ -5,7 +5,7 @@ use Rattle.std.proofs.lemmas.List.{take_more, take_all, map-append, get_or_appen
 use Rattle.std.proofs.Math.Seq.{get_or-append_seam}
 use Rattle.std.proofs.lemmas.List.Sums.{fold-append}
 use Rattle.formula_parse.specs.Tokens.{Name, Quantifier, some, every}
-use Rattle.formula_parse.specs.Trees.{Names, no_names, names, Joint, Formula, negated, chain, quantified, no_operands}
+use Rattle.formula_parse.specs.Trees.{Names, no_names, names, Joint, Formula, negated, chain, quantified}
 use Rattle.formula_parse.specs.Views.{formula_view, operand_view, operands_view, with_operand, names_view, connective_view}
 use Rattle.formula_parse.specs.declared.tree.Operand.{Operand}
 use Rattle.formula_truth.proofs.ViewLemmas.{operands_more}
@@ -103,14 +103,6 @@ operands_within_more plans fs f are here i d below =
 
 operands_end : (plans : List Plan) (fs : List Front) (f : Front) → operands_at plans (fs ++ f ∷ []) ≡ made (operands_at plans fs) (plan_at plans f.place) (connective_view f.connective)
 operands_end plans fs f = ap (fold with_made none_made) (map-append (operand_at plans) fs (f ∷ [])) ∙ fold-append with_made none_made (map (operand_at plans) fs) (operand_at plans f ∷ [])
-
-pub operands_none : (h : Headers) (old : Planner) (fs : List Front) → fs ≡ [] → DoesOperands old old fs (operand_plans h no_operands old.next)
-operands_none h old fs none = subst (λ l. DoesOperands old old l (operand_plans h no_operands old.next)) (sym none) (record {
-  adds = adds_none old.plans;
-  within = λ i d below. absurd (omega (arith, below));
-  operands_are = refl;
-  next = refl;
-})
 
 pub operands_then : (h : Headers) (os : List Operand) (i : ℕ) (o : Operand) (old mid new : Planner) (fs gs : List Front) (j : ℕ) → i < length os → o ≡ get_or os i o
     → DoesOperands old mid fs (operand_plans h (operands_view (take i os)) old.next) → Does mid new j (plan_of h (formula_view o.formula) mid.next)
@@ -217,17 +209,6 @@ projected_more old mid new to up p all rest front n ms ns ls same so_far second 
           names_left,
         )
 
-pub projected_end : (old new : Planner) (to : ℕ) (p : Plan) (all : Names) (rest : List Name) (ms ns : List Name) → rest ≡ [] → IsProjectedSoFar old new to p all (names_view rest) ms ns
-    → Does old new to (for_some (kept all (tracks p)) (base_made p old.next))
-projected_end old new to p all rest ms ns none so_far =
-    let m : Made = so_far.0 in
-    let does : Does old new to m = so_far.1 in
-    let bare : Does old new to (for_some [] m) = record { adds = subst (λ l. Adds old.plans new.plans l) (sym (append-nil m.steps)) does.adds; last = does.last; next = does.next } in
-    subst (λ x. Does old new to x) (so_far.2) (subst (λ l. Does old new to (for_some (kept (names_view l) (tracks m.last)) m)) (sym none) bare)
-
-pub projected_names : (old new : Planner) (to : ℕ) (p : Plan) (all : Names) (rest : List Name) (ms ns : List Name) → rest ≡ [] → IsProjectedSoFar old new to p all (names_view rest) ms ns → HaveSame ns (without_all all ms)
-projected_names old new to p all rest ms ns none so_far k = sym (ap (λ l. has_name (without_all (names_view l) ns) k) none) ∙ so_far.4 k
-
 -- `A` where no variable is free, and where one is
 pub bare_answers : {E : Type 0} (r : Result ℕ E) (old new : Planner) (p : Plan) (vs : Names) (ms : List Name) → AgreeOn p ms → has_any vs ms ≡ false
     → IfOk r (λ i. Does old new i (for_some (kept vs (tracks p)) (base_made p old.next))) → IfOk r (λ i. Does old new i (for_every (kept vs (tracks p)) (base_made p old.next)))
@@ -235,9 +216,6 @@ bare_answers (Ok i) old new p vs ms on none does =
     subst (λ l. Does old new i (for_every l (base_made p old.next))) (sym (kept_none vs p ms on none))
     (subst (λ l. Does old new i (for_some l (base_made p old.next))) (kept_none vs p ms on none) does)
 bare_answers (Err e) old new p vs ms on none does = does
-
-pub inside_agrees : (p q : Plan) (ms : List Name) → q ≡ complement p → AgreeOn p ms → AgreeOn q ms
-inside_agrees p q ms is on = subst (λ x. AgreeOn x ms) (sym is) (record { agree = on.agree })
 
 pub every_does : (old one two new : Planner) (i j k : ℕ) (p : Plan) (vs : Names) (ms : List Name) → AgreeOn p ms → has_any vs ms ≡ true → Does old one i (step_made (complement p) old.next)
     → Does one two j (for_some (kept vs (tracks (plan_at one.plans i))) (base_made (plan_at one.plans i) one.next)) → Does two new k (step_made (complement (plan_at two.plans j)) two.next)

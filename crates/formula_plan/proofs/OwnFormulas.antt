@@ -34,13 +34,6 @@ compared_own s r p q ms ns n first second =
     ∙ compared_bool (in_relation q.relation n) (in_relation p.relation n) (same_track p.track (own n)) (same_track q.track (own n))
     ∙ ap (λ b. b || in_placed q n) (first.has n) ∙ ap (λ b. has_name ms n || b) (second.has n) ∙ sym (named_both ms ns n)
 
--- a short equation
-named_bool : (a b : Bool) → (a || (b || false)) ≡ ((b || false) || (a || false))
-named_bool true true = refl
-named_bool true false = refl
-named_bool false true = refl
-named_bool false false = refl
-
 named_own : (s m : Name) (t : Track) (o : Option Plan) (n : Name) → IsClosable t o → has_track (tracks (named_by s m t o)) (own n) ≡ (bytes_eq m n || (same_track t (own n) || in_relation o n))
 named_own s m (own l) None n is = ap (λ b. bytes_eq l n || b) (or_false (bytes_eq m n)) ∙ or_comm (bytes_eq l n) (bytes_eq m n) ∙ ap (λ b. bytes_eq m n || b) (sym (or_false (bytes_eq l n)))
 named_own s m (own l) (Some r) n is = absurd is

@@ -12,7 +12,7 @@ use Rattle.formula_plan.specs.Planning.{Adds, IsAt, Does, relation_at, placed_at
 use Rattle.formula_plan.specs.PlanLists.{IsPlanOf}
 use Rattle.formula_plan.specs.declared.planner.Planner.{Planner}
 use Rattle.formula_plan.specs.declared.planner.Placed as found
-use Rattle.formula_plan.proofs.MakingLemmas.{at_grown, at_end, length_more}
+use Rattle.formula_plan.proofs.MakingLemmas.{at_grown}
 
 pub adds_none : (xs : List Plan) → Adds xs xs []
 adds_none xs = record { more = []; grown = sym (append-nil xs); are_steps = refl }
@@ -23,9 +23,6 @@ adds_then xs ys zs ss ts one two = record {
   grown = two.grown ∙ ap (λ l. l ++ two.more) one.grown ∙ append_assoc xs one.more two.more;
   are_steps = filter-append is_step one.more two.more ∙ ap (λ l. l ++ filter is_step two.more) one.are_steps ∙ ap (λ l. ss ++ l) two.are_steps;
 }
-
-pub adds_one : (xs ys : List Plan) (p : Plan) → ys ≡ xs ++ p ∷ [] → Adds xs ys (filter is_step (p ∷ []))
-adds_one xs ys p is = record { more = p ∷ []; grown = is; are_steps = refl }
 
 pub adds_more : (xs ys ss : List Plan) → Adds xs ys ss → length xs ≤ length ys
 adds_more xs ys ss adds = let long = ap length adds.grown ∙ length-append xs adds.more in omega (arith, long)
@@ -50,18 +47,6 @@ relation_later xs ys ss (Some i) adds within = ap Some (at_later xs ys ss i adds
 
 pub placed_later : (xs ys ss : List Plan) (p : found.Placed) → Adds xs ys ss → IsWithin xs p.relation → placed_at ys p ≡ placed_at xs p
 placed_later xs ys ss p adds within = ap (λ (r : Option Plan). let q : Placed = record { track = track_view p.track; relation = r } in q) (relation_later xs ys ss p.relation adds within)
-
--- one plan more
-pub does_one : (old new : Planner) (place : ℕ) (p : Plan) → place ≡ length old.plans → new.plans ≡ old.plans ++ p ∷ [] → new.next ≡ old.next
-    → Does old new place (record { steps = filter is_step (p ∷ []); last = p; next = old.next })
-does_one old new place p at is same = record {
-  adds = adds_one old.plans new.plans p is;
-  last = record {
-    within = let more = ap length is ∙ length_more old.plans p in omega (arith, at, more);
-    is = ap (λ l. plan_at l place) is ∙ ap (plan_at (old.plans ++ p ∷ [])) at ∙ at_end old.plans p;
-  };
-  next = same;
-}
 
 -- nothing more
 pub does_none : (old : Planner) (place : ℕ) → place < length old.plans → Does old old place (record { steps = []; last = plan_at old.plans place; next = old.next })
@@ -104,16 +89,6 @@ pub close_within : (old mid : Planner) (ps : List found.Placed) (i : ℕ) (p : f
     → Adds old.plans mid.plans ss → IsWithin mid.plans p.relation
 close_within old mid ps i p ss within at are adds =
     within_later old.plans mid.plans ss p.relation adds (subst (λ (q : found.Placed). IsWithin old.plans q.relation) (sym at) (are i p within))
-
--- a step, and one that takes it
-pub linked_then : (old mid new : Planner) (i j : ℕ) (p q : Plan) (k : ℕ)
-    → Does old mid i (record { steps = p ∷ []; last = p; next = k }) → Does mid new j (record { steps = q ∷ []; last = q; next = mid.next })
-    → Does old new j (record { steps = p ∷ q ∷ []; last = q; next = k })
-linked_then old mid new i j p q k one two = record {
-  adds = adds_then old.plans mid.plans new.plans (p ∷ []) (q ∷ []) one.adds two.adds;
-  last = two.last;
-  next = two.next ∙ one.next;
-}
 
 -- what is made in a list that was empty
 pub plan_there : (old new : Planner) (place : ℕ) (m : Made) → old.plans ≡ [] → Does old new place m → IsPlanOf new.plans place m

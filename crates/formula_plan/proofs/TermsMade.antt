@@ -1,6 +1,6 @@
 -- Plans of terms, made part by part.
 use Rattle.std.proofs.Common.{◌≡◌, ℕ, ◌+◌, ◌<◌, ◌≤◌, List, [], ◌∷◌, ◌++◌, length, get_or, take, Option, None, Some, Result, Ok, Err, IfOk, refl, sym, ◌∙◌, ap, subst, append-nil}
-use Rattle.std.proofs.lemmas.List.{take_all, get_or_default}
+use Rattle.std.proofs.lemmas.List.{take_all}
 use Rattle.std.proofs.lemmas.Option.{none-some, same_Some}
 use Rattle.formula_parse.specs.Tokens.{Name}
 use Rattle.formula_parse.specs.Trees.{Term, variable, numeral, product, sum, Factors, no_factors, factors, Factor, times, Addends}
@@ -13,25 +13,12 @@ use Rattle.formula_plan.specs.Plans.{Plan}
 use Rattle.formula_plan.specs.TermPlans.{Placed, TermPlan, closed, closing, begun, factor_plans, with_addend, sum_plan, sum_relation, term_plan, numeral_plan, times_numerals}
 use Rattle.formula_plan.specs.Makings.{plan_at}
 use Rattle.formula_plan.specs.Planning.{Adds, Does, DoesTerm, base_made, closed_made, standing, placed_at, IsWithin}
-use Rattle.formula_plan.specs.TermPlanning.{term_of, numeral_in, other_of, IsOther, IsSumWithin, sum_of, IsSumSoFar}
+use Rattle.formula_plan.specs.TermPlanning.{term_of, numeral_in, other_of, sum_of, IsSumSoFar}
 use Rattle.formula_plan.specs.declared.planner.Planner.{Planner}
 use Rattle.formula_plan.specs.declared.planner.Placed as found
 use Rattle.formula_plan.specs.declared.terms.Before.{Before}
-use Rattle.formula_plan.proofs.PlanningLemmas.{adds_none, adds_then, within_later, placed_later}
+use Rattle.formula_plan.proofs.PlanningLemmas.{adds_none, adds_then, placed_later}
 use Rattle.formula_plan.proofs.MultiplesMade.{times_after}
-
--- one factor more
-other_kept : (fs : Factors) (f : Factor) (c : ℕ) → numeral_in f ≡ Some c → other_of (factors fs f) ≡ other_of fs
-other_kept fs (times (numeral d)) c is = refl
-other_kept fs (times (variable n)) c is = absurd (none-some c is)
-other_kept fs (times (product gs)) c is = absurd (none-some c is)
-other_kept fs (times (sum ss t)) c is = absurd (none-some c is)
-
-other_new : (fs : Factors) (f : Factor) → numeral_in f ≡ None → other_of (factors fs f) ≡ Some (term_of f)
-other_new fs (times (numeral d)) is = absurd (none-some d (sym is))
-other_new fs (times (variable n)) is = refl
-other_new fs (times (product gs)) is = refl
-other_new fs (times (sum ss t)) is = refl
 
 numerals_new : (s : Name) (fs : Factors) (f : Factor) (c : ℕ) → numeral_in f ≡ Some c → (factor_plans s (factors fs f)).numerals ≡ (factor_plans s fs).numerals ++ c ∷ []
 numerals_new s fs (times (numeral d)) c is = ap (λ x. (factor_plans s fs).numerals ++ x ∷ []) (same_Some d c is)
@@ -61,25 +48,6 @@ numerals_same s fs i f ns within at is so_far =
 abbrev pub IsOtherSoFar : List parsed.Factor → ℕ → Option ℕ → Type 0
 IsOtherSoFar fs i None = other_of (factors_view (take i fs)) ≡ None
 IsOtherSoFar fs i (Some j) = (j < length fs) × ((d : parsed.Factor) → other_of (factors_view (take i fs)) ≡ Some (term_of (factor_view (get_or fs j d))))
-
-pub other_same : (fs : List parsed.Factor) (i c : ℕ) (f : parsed.Factor) (other : Option ℕ) → i < length fs → f ≡ get_or fs i f → numeral_in (factor_view f) ≡ Some c
-    → IsOtherSoFar fs i other → IsOtherSoFar fs (i + 1) other
-other_same fs i c f None within at is so_far =
-    ap other_of (factors_more fs i f within ∙ ap (λ g. factors (factors_view (take i fs)) (factor_view g)) (sym at))
-    ∙ other_kept (factors_view (take i fs)) (factor_view f) c is ∙ so_far
-other_same fs i c f (Some j) within at is so_far = (
-  so_far.0,
-  λ d. ap other_of (factors_more fs i f within ∙ ap (λ g. factors (factors_view (take i fs)) (factor_view g)) (sym at))
-      ∙ other_kept (factors_view (take i fs)) (factor_view f) c is ∙ so_far.1 d,
-)
-
-pub other_here : (fs : List parsed.Factor) (i : ℕ) (f : parsed.Factor) → i < length fs → f ≡ get_or fs i f → numeral_in (factor_view f) ≡ None → IsOtherSoFar fs (i + 1) (Some i)
-other_here fs i f within at is =
-    (within, λ d. ap other_of (factors_more fs i d within) ∙ other_new (factors_view (take i fs)) (factor_view (get_or fs i d)) (ap (λ g. numeral_in (factor_view g)) (get_or_default fs i d f within ∙ sym at) ∙ is))
-
-pub other_all : (fs : List parsed.Factor) (i : ℕ) (other : Option ℕ) → length fs ≤ i → IsOtherSoFar fs i other → IsOther fs other
-other_all fs i None long so_far = ap (λ gs. other_of (factors_view gs)) (sym (take_all i fs long)) ∙ so_far
-other_all fs i (Some j) long so_far = (so_far.0, λ d. ap (λ gs. other_of (factors_view gs)) (sym (take_all i fs long)) ∙ so_far.1 d)
 
 -- a product of numerals
 pub begun_answers : {E : Type 0} (r : Result found.Placed E) (old mid new : Planner) (v : found.Placed) (s : Name) (ns cs : List ℕ) (c : ℕ) → ns ≡ c ∷ cs
@@ -150,11 +118,6 @@ sum_then s ss old mid one new (Some b) v w q so_far value after =
       placed_is = last.placed_is;
       next = last.next;
     })
-
--- what stands before a later value is there
-pub sum_within : (s : Name) (ss : Addends) (old mid one : Planner) (before : Option Before) (steps : List Plan) → IsSumSoFar s ss old mid before → Adds mid.plans one.plans steps → IsSumWithin one.plans before
-sum_within s ss old mid one None steps so_far adds = tt
-sum_within s ss old mid one (Some b) steps so_far adds = within_later mid.plans one.plans steps b.sum.relation adds so_far.1.within
 
 -- one addend more
 pub sum_more : (s : Name) (ss : List parsed_addend.Addend) (i : ℕ) (a : parsed_addend.Addend) (old mid one new : Planner) (before : Option Before) (v w : found.Placed) → i < length ss → a ≡ get_or ss i a

@@ -1,8 +1,8 @@
 -- Tracks, and numbers on them.
-use Rattle.std.proofs.Common.{◌≡◌, ◌≢◌, ℕ, true, false, ◌==◌, if◌then◌else◌, refl, ap, arith, tests}
+use Rattle.std.proofs.Common.{◌≡◌, ◌≢◌, ℕ, Bool, true, false, ◌||◌, ◌==◌, if◌then◌else◌, List, ◌∷◌, refl, ap, arith, tests}
 use Rattle.std.proofs.lemmas.Slice.Eq.{bytes_eq-Decides}
 use Rattle.std.proofs.lemmas.Bool.{false≢true, eqb-true, false_from_ne_true}
-use Rattle.formula_plan.specs.Tracks.{Track, own, fresh, same_track, Numbers, with_number}
+use Rattle.formula_plan.specs.Tracks.{Track, own, fresh, same_track, has_track, Numbers, with_number}
 
 eqb_same : (n : ℕ) → (n == n) ≡ true
 eqb_same n = grind (arith, tests)
@@ -25,3 +25,18 @@ with_number_apart t u k a apart = ap (λ b. if b then k else a u) apart
 
 pub fresh_apart : (i j : ℕ) → i ≢ j → same_track (fresh i) (fresh j) ≡ false
 fresh_apart i j apart = false_from_ne_true (i == j) (λ same. apart (eqb-true i j same))
+
+-- a track among others, the first or a later one
+pub or_left : (p q : Bool) → p ≡ true → (p || q) ≡ true
+or_left true q is = refl
+or_left false q is = absurd (false≢true is)
+
+pub or_right : (p q : Bool) → q ≡ true → (p || q) ≡ true
+or_right true q is = refl
+or_right false q is = is
+
+pub first_is : (t : Track) (ts : List Track) → has_track (t ∷ ts) t ≡ true
+first_is t ts = or_left (same_track t t) (has_track ts t) (same_self t)
+
+pub later_is : (u : Track) (ts : List Track) (t : Track) → has_track ts t ≡ true → has_track (u ∷ ts) t ≡ true
+later_is u ts t is = or_right (same_track u t) (has_track ts t) is

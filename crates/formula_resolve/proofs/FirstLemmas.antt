@@ -2,11 +2,9 @@
 use Rattle.std.proofs.Common.{◌≡◌, ◌≢◌, refl, sym, ap, subst, ◌∙◌, ℕ, zero, suc, ◌+◌, ◌<◌, ◌≤◌, Bool, true, false, ◌||◌, cond, List, [], ◌∷◌, ◌++◌, map, length, take, get_or, fold, bytes_eq, inl, inr, arith, rules}
 use Rattle.std.specs.List.{flat_map}
 use Rattle.std.proofs.lemmas.Bool.{cases_lt, false_from_ne_true}
-use Rattle.std.proofs.lemmas.List.{take_more, append-nil, length-map, length-append, take-append-le, get_or_append_left}
+use Rattle.std.proofs.lemmas.List.{length-map, length-append, take-append-le, get_or_append_left}
 use Rattle.std.proofs.Math.Seq.{get_or-append_seam, take-append_seam}
-use Rattle.std.proofs.lemmas.Grind.{flat_map-append}
 use Rattle.std.proofs.lemmas.List.Elements.{Contains-append_right}
-use Rattle.std.proofs.lemmas.List.Sums.{fold-append}
 use Rattle.std.proofs.lemmas.Slice.Eq.{bytes_eq-Decides}
 use Rattle.digit_tuple.specs.Explored.{AreApart, IsNumbered}
 use Rattle.digit_tuple.proofs.MemberLemmas.{AllPairs-tail, AllPairs-head}
@@ -46,13 +44,6 @@ numbered_old old new key number numbered other =
       | inl before ↦ (before.0, has_at old number key before.1 (ap (λ ks. get_or ks number []) (sym before.0) ∙ numbered.key_is))
       | inr fresh ↦ absurd (other fresh.0)
     ]
-
-pub flat_fold : {X Y : Type 0} (f : List Y → Y → List Y) (g : X → List Y) (xs : List X) (i : ℕ) (x : X) → i < length xs → x ≡ get_or xs i x → fold f [] (flat_map g (take (i + 1) xs)) ≡ fold f (fold f [] (flat_map g (take i xs))) (g x)
-flat_fold f g xs i x within at =
-    ap (λ ys. fold f [] (flat_map g ys)) (take_more xs i x within ∙ ap (λ y. take i xs ++ y ∷ []) (sym at))
-    ∙ ap (fold f []) (flat_map-append g (take i xs) (x ∷ []))
-    ∙ fold-append f [] (flat_map g (take i xs)) (flat_map g (x ∷ []))
-    ∙ ap (fold f (fold f [] (flat_map g (take i xs)))) (append-nil (g x))
 
 -- a name whose key has the next number goes last
 pub added_new : (names : List (List ℕ)) (seen new : List (List ℕ)) (key name : List ℕ) (number : ℕ) → seen ≡ names → key ≡ name → IsNumbered seen new key number → number ≡ length names → names ++ name ∷ [] ≡ with_new bytes_eq names name

@@ -1,33 +1,15 @@
 -- Occurrences, one part after another.
-use Rattle.std.proofs.Common.{◌≡◌, sym, ap, ◌∙◌, ℕ, ◌+◌, ◌<◌, ◌≤◌, cond, List, [], ◌∷◌, ◌++◌, map, length, take, get_or, fold, arith}
-use Rattle.std.proofs.lemmas.List.{take_more, map-append, get_or_default, length-take-le, append-nil}
-use Rattle.std.proofs.lemmas.List.Sums.{fold-append}
+use Rattle.std.proofs.Common.{◌≡◌, sym, ap, ◌∙◌, ℕ, ◌+◌, ◌<◌, ◌≤◌, cond, List, [], ◌++◌, length, take, get_or, arith}
+use Rattle.std.proofs.lemmas.List.{get_or_default, length-take-le, append-nil}
 use Rattle.std.proofs.lemmas.Bool.{lt-ltb, le-ltb}
 use Rattle.formula_parse.specs.Tokens.{Name}
 use Rattle.formula_parse.specs.Trees as trees
-use Rattle.formula_parse.specs.Views.{term_view, terms_view, factor_view, factors_view}
+use Rattle.formula_parse.specs.Views.{term_view, terms_view}
 use Rattle.formula_parse.specs.declared.tree.Term.{Term}
-use Rattle.formula_parse.specs.declared.tree.Factor.{Factor}
-use Rattle.formula_parse.specs.declared.tree.Factor.TheVariants as factor
-use Rattle.formula_parse.proofs.ViewSteps.{view_times}
 use Rattle.formula_resolve.specs.Mentions.{count}
-use Rattle.formula_resolve.specs.Occurrences.{Binders, term_occurrences, track_occurrences, place_occurrences, factor_occurrences}
+use Rattle.formula_resolve.specs.Occurrences.{Binders, term_occurrences, track_occurrences, place_occurrences}
 use Rattle.formula_resolve.specs.declared.occurrence.Occurrence.{Occurrence}
 use Rattle.formula_resolve.proofs.ListLemmas.{added_then, count_view, terms_more}
-
-factors_more : (fs : List Factor) (i : ℕ) (f : Factor) (t : Term) → i < length fs → f ≡ get_or fs i f → f ≡ factor.Times t → factors_view (take (i + 1) fs) ≡ trees.factors (factors_view (take i fs)) (trees.times (term_view t))
-factors_more fs i f t within at is =
-    ap factors_view (take_more fs i f within)
-    ∙ ap (fold trees.factors trees.no_factors) (map-append factor_view (take i fs) (get_or fs i f ∷ []))
-    ∙ fold-append trees.factors trees.no_factors (map factor_view (take i fs)) (factor_view (get_or fs i f) ∷ [])
-    ∙ ap (λ g. trees.factors (factors_view (take i fs)) g) (ap factor_view (sym at ∙ is) ∙ view_times t)
-
--- one factor more
-pub factor_added : (s : Name) (b : Binders) (fs : List Factor) (i : ℕ) (f : Factor) (t : Term) (old mid new : List Occurrence) → i < length fs → f ≡ get_or fs i f → f ≡ factor.Times t
-    → mid ≡ old ++ factor_occurrences s b (factors_view (take i fs)) → new ≡ mid ++ term_occurrences s b (term_view t) → new ≡ old ++ factor_occurrences s b (factors_view (take (i + 1) fs))
-factor_added s b fs i f t old mid new within at is before after =
-    added_then old mid new (factor_occurrences s b (factors_view (take i fs))) (term_occurrences s b (term_view t)) before after
-    ∙ ap (λ gs. old ++ factor_occurrences s b gs) (sym (factors_more fs i f t within at is))
 
 track_there : (tracks : List Name) (b : Binders) (k j : ℕ) (t : trees.Term) (s : Name) → k ≡ j → j < length tracks → s ≡ get_or tracks j s → track_occurrences tracks b k t ≡ term_occurrences s b t
 track_there tracks b k j t s same within at =

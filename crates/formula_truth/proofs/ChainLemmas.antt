@@ -1,18 +1,13 @@
 -- The truth of chains, read from the left.
-use Rattle.std.proofs.Common.{◌↔◌, ◌⊎◌, Bool, true, false, not, ◌&&◌, ◌||◌, IsTrue, Option, refl, inl, inr}
+use Rattle.std.proofs.Common.{◌↔◌, Bool, true, false, not, IsTrue, Option, refl}
 use Rattle.std.proofs.lemmas.Bool.{false≢true}
+use Rattle.digit_tuple.proofs.TruthLemmas.{iff_trans, iff_sym}
 use Rattle.formula_parse.specs.Trees.{Joint, Formula, Operands, no_operands, operands}
 use Rattle.formula_truth.specs.Assignments.{Assignment}
 use Rattle.formula_truth.specs.Truth.{Meanings, Joins, Holds, ChainHolds}
 use Rattle.formula_truth.specs.Bounded.{AfterChain}
 use Rattle.formula_truth.specs.declared.deciding.Front.{Front}
 use Rattle.formula_truth.proofs.MeaningLemmas.{joined_same}
-
-pub after_one : (P Q R : Type 0) → P ↔ Q → Q ↔ R → P ↔ R
-after_one P Q R first second = (λ p. second.0 (first.0 p), λ r. first.1 (second.1 r))
-
-pub other_side : (P Q : Type 0) → P ↔ Q → Q ↔ P
-other_side P Q both = (both.1, both.0)
 
 -- equivalent last statements give equivalent chains
 pub chain_last : (m : Meanings) (os : Operands) (a : Assignment) (P Q : Type 0) → P ↔ Q → ChainHolds m os a P ↔ ChainHolds m os a Q
@@ -32,28 +27,19 @@ chain_more m os f j a front is holds so_far here now p = (
 )
   where
     told : ChainHolds m os a (Holds m f a) ↔ IsTrue holds
-    told = after_one (ChainHolds m os a (Holds m f a)) (ChainHolds m os a (IsTrue is)) (IsTrue holds)
-        (chain_last m os a (Holds m f a) (IsTrue is) (other_side (IsTrue is) (Holds m f a) here))
-        (after_one (ChainHolds m os a (IsTrue is)) (AfterChain front (IsTrue is)) (IsTrue holds) (so_far is) (other_side (IsTrue holds) (AfterChain front (IsTrue is)) now))
+    told = iff_trans (ChainHolds m os a (Holds m f a)) (ChainHolds m os a (IsTrue is)) (IsTrue holds)
+        (chain_last m os a (Holds m f a) (IsTrue is) (iff_sym (IsTrue is) (Holds m f a) here))
+        (iff_trans (ChainHolds m os a (IsTrue is)) (AfterChain front (IsTrue is)) (IsTrue holds) (so_far is) (iff_sym (IsTrue holds) (AfterChain front (IsTrue is)) now))
 
 -- the last operand
 pub chain_end : (m : Meanings) (os : Operands) (f : Formula) (a : Assignment) (front : Option Front) (is holds : Bool)
     → ((p : Bool) → ChainHolds m os a (IsTrue p) ↔ AfterChain front (IsTrue p)) → IsTrue is ↔ Holds m f a → IsTrue holds ↔ AfterChain front (IsTrue is)
     → IsTrue holds ↔ ChainHolds m os a (Holds m f a)
 chain_end m os f a front is holds so_far here now =
-    after_one (IsTrue holds) (AfterChain front (IsTrue is)) (ChainHolds m os a (Holds m f a)) now
-    (after_one (AfterChain front (IsTrue is)) (ChainHolds m os a (IsTrue is)) (ChainHolds m os a (Holds m f a))
-    (other_side (ChainHolds m os a (IsTrue is)) (AfterChain front (IsTrue is)) (so_far is))
+    iff_trans (IsTrue holds) (AfterChain front (IsTrue is)) (ChainHolds m os a (Holds m f a)) now
+    (iff_trans (AfterChain front (IsTrue is)) (ChainHolds m os a (IsTrue is)) (ChainHolds m os a (Holds m f a))
+    (iff_sym (ChainHolds m os a (IsTrue is)) (AfterChain front (IsTrue is)) (so_far is))
     (chain_last m os a (IsTrue is) (Holds m f a) here))
-
--- connectives of two truths
-pub both_true : (p q : Bool) → IsTrue (p && q) ↔ (IsTrue p × IsTrue q)
-both_true true q = (λ h. (refl, h), λ h. h.1)
-both_true false q = (λ h. absurd (false≢true h), λ h. h.0)
-
-pub one_true : (p q : Bool) → IsTrue (p || q) ↔ (IsTrue p ⊎ IsTrue q)
-one_true true q = (λ h. inl refl, λ h. refl)
-one_true false q = (λ h. inr h, λ h. elim h [ inl x ↦ absurd (false≢true x) | inr y ↦ y ])
 
 pub none_true : (p : Bool) → IsTrue (not p) ↔ (¬ IsTrue p)
 none_true true = (λ h. absurd (false≢true h), λ h. absurd (h refl))

@@ -1,7 +1,6 @@
 -- Numbers that are tried for a variable.
-use Rattle.std.proofs.Common.{◌≡◌, ◌↔◌, ℕ, ◌<◌, Bool, true, false, not, IsTrue, if◌then◌else◌, Some, refl, sym, ◌∙◌, ap, subst}
+use Rattle.std.proofs.Common.{◌≡◌, ◌↔◌, ℕ, ◌<◌, Bool, true, false, IsTrue, if◌then◌else◌, Some, refl, sym, ◌∙◌, ap}
 use Rattle.std.proofs.lemmas.Bool.{false≢true}
-use Rattle.std.proofs.lemmas.Option.{same_Some}
 use Rattle.std.proofs.lemmas.Slice.Eq.{bytes_eq-Decides}
 use Rattle.formula_parse.specs.Tokens.{Name, Quantifier, some, every, less}
 use Rattle.formula_parse.specs.Trees.{variable, numeral, compare, Formula}
@@ -19,15 +18,8 @@ abbrev pub Misses : Bool → Type 0 → Type 0
 Misses true P = ¬ P
 Misses false P = P
 
-value_here : (n : Name) (k : ℕ) (a : Assignment) → with_value n k a n ≡ k
+pub value_here : (n : Name) (k : ℕ) (a : Assignment) → with_value n k a n ≡ k
 value_here n k a = ap (λ b. if b then k else a n) ((bytes_eq-Decides n n).1 refl)
-
--- the guard says that the number is below the bound
-guard_there : (n : Name) (k bound : ℕ) (a : Assignment) → FactHolds nothing (compare (variable n) less (numeral bound)) (with_value n k a) → k < bound
-guard_there n k bound a h =
-    let left : k ≡ h.0 = sym (value_here n k a) ∙ same_Some (with_value n k a n) h.0 h.2 in
-    let right : bound ≡ h.1 = same_Some bound h.1 h.3 in
-    subst (λ x. x < bound) (sym left) (subst (λ y. h.0 < y) (sym right) h.4)
 
 guard_back : (n : Name) (k bound : ℕ) (a : Assignment) → k < bound → FactHolds nothing (compare (variable n) less (numeral bound)) (with_value n k a)
 guard_back n k bound a within = (k, bound, ap Some (value_here n k a), refl, within)
@@ -38,16 +30,3 @@ pub found_says : (q : Quantifier) (n : Name) (bound : ℕ) (f : Formula) (a : As
 found_says some n bound f a k is within says same = (λ h. (k, (guard_back n k bound a within, says.0 same)), λ h. refl)
 found_says every n bound f a k is within says same =
     (λ h. absurd (false≢true h), λ all. absurd (false≢true (sym same ∙ says.1 (all k (guard_back n k bound a within)))))
-
--- none below the bound does
-pub none_says : (q : Quantifier) (n : Name) (bound : ℕ) (f : Formula) (a : Assignment) → ((j : ℕ) → j < bound → Misses (wants q) (Holds nothing f (with_value n j a)))
-    → IsTrue (not (wants q)) ↔ Holds nothing (one_below q n bound f) a
-none_says some n bound f a misses = (λ h. absurd (false≢true h), λ h. absurd (misses h.0 (guard_there n h.0 bound a h.1.0) h.1.1))
-none_says every n bound f a misses = (λ h k within. misses k (guard_there n k bound a within), λ h. refl)
-
--- a truth that is not wanted does not decide
-pub misses_here : (w is : Bool) (P : Type 0) → IsTrue is ↔ P → (is ≡ w → ⊥) → Misses w P
-misses_here true true P says apart = absurd (apart refl)
-misses_here true false P says apart = λ h. false≢true (says.1 h)
-misses_here false true P says apart = says.0 refl
-misses_here false false P says apart = absurd (apart refl)

@@ -8,10 +8,7 @@ use Rattle.formula_parse.specs.Views.{factor_view, factors_view, addend_view, ad
 use Rattle.formula_parse.specs.declared.tree.Factor.{Factor}
 use Rattle.formula_parse.specs.declared.tree.Addend.{Addend}
 use Rattle.formula_parse.specs.declared.tree.Operand.{Operand}
-use Rattle.formula_truth.specs.Assignments.{Assignment, with_value}
-use Rattle.formula_truth.specs.Given.{assigned}
 use Rattle.formula_truth.specs.Bounded.{list_of}
-use Rattle.formula_truth.specs.declared.given.Given.{Given}
 
 pub factors_more : (ps : List Factor) (i : ℕ) (d : Factor) → i < length ps → factors_view (take (i + 1) ps) ≡ trees.factors (factors_view (take i ps)) (factor_view (get_or ps i d))
 factors_more ps i d within =
@@ -30,12 +27,6 @@ operands_more os i d within =
     ap operands_view (take_more os i d within)
     ∙ ap (fold with_operand trees.no_operands) (map-append operand_view (take i os) (get_or os i d ∷ []))
     ∙ fold-append with_operand trees.no_operands (map operand_view (take i os)) (operand_view (get_or os i d) ∷ [])
-
-pub given_end : (given : List Given) (g : Given) → assigned (given ++ g ∷ []) ≡ with_value g.name g.number (assigned given)
-given_end given g = fold-append (λ (a : Assignment) (h : Given). with_value h.name h.number a) (λ m. 0) given (g ∷ [])
-
-pub given_more : (given : List Given) (i : ℕ) (d : Given) → i < length given → assigned (take (i + 1) given) ≡ with_value (get_or given i d).name (get_or given i d).number (assigned (take i given))
-given_more given i d within = ap assigned (take_more given i d within) ∙ given_end (take i given) (get_or given i d)
 
 -- names as a list, back from the names of a tree
 names_after : (ms : trees.Names) (ns : List Name) → list_of (fold trees.names ms ns) ≡ list_of ms ++ ns

@@ -46,21 +46,10 @@ came_known becomes lacks old new view defined (Err faults.MacroLong) came known 
 pub all_left : {S W : Type 0} (found : S → TextOf) (becomes : S → S → Type 0) (left whole : TextOf → Result W MacroFault) (s : S) → becomes s s → ((texts : TextOf) → left texts ≡ whole texts) → IsLeft found becomes left whole s s
 all_left found becomes left whole s stays same = record { same = λ texts among. same texts; kept = λ name text e. e; came = stays }
 
--- the answer to a part is that of the whole
-pub answers_so : {S X Y Z W : Type 0} (found : S → TextOf) (becomes : S → S → Type 0) (lacks : S → List ℕ → S → Type 0) (part_view : X → Y) (view : Z → W) (part : TextOf → Result Y MacroFault) (whole : TextOf → Result W MacroFault) (old new : S) (x : X) (z : Z)
-    → ((texts : TextOf) → part texts ≡ Ok (part_view x) → whole texts ≡ Ok (view z)) → AnswersFrom found becomes lacks part_view part old (Ok x) new → AnswersFrom found becomes lacks view whole old (Ok z) new
-answers_so found becomes lacks part_view view part whole old new x z goes first = record { gives = λ texts among lack. goes texts (first.gives texts among tt); kept = first.kept; came = first.came }
-
 module _ {S : Type 0} (found : S → TextOf) (becomes : S → S → Type 0) (lacks : S → List ℕ → S → Type 0) where
   -- what is left has a value
   pub left_value : {X W : Type 0} (view : X → W) (left whole : TextOf → Result W MacroFault) (old new : S) (x : X) → IsLeft found becomes left whole old new → ((texts : TextOf) → left texts ≡ Ok (view x)) → AnswersFrom found becomes lacks view whole old (Ok x) new
   left_value view left whole old new x first is = record { gives = λ texts among lack. sym (first.same texts among) ∙ is texts; kept = first.kept; came = first.came }
-
-  -- memory runs out
-  pub left_memory : {X W : Type 0} (view : X → W) (left whole : TextOf → Result W MacroFault) (old new : S) (result : Result X MacroFault) → IsLeft found becomes left whole old new → IsErrAnd result (λ e. e ≡ faults.Memory)
-      → AnswersFrom found becomes lacks view whole old result new
-  left_memory view left whole old new (Ok x) first is = absurd is
-  left_memory view left whole old new (Err e) first is = rw is (record { gives = λ texts among lack. tt; kept = first.kept; came = first.came })
 
   -- what is left is the same by all texts
   pub left_plain : {X W : Type 0} (view : X → W) (left whole : TextOf → Result W MacroFault) (defined : Result W MacroFault) (old new : S) (result : Result X MacroFault) → ((texts : TextOf) → left texts ≡ defined)

@@ -1,7 +1,6 @@
 -- The edges of an automaton in one flat table.
-use Rattle.std.proofs.Common.{◌≡◌, ℕ, ◌+◌, ◌-◌, ◌<◌, ◌≤◌, ◌^◌, List, [], ◌∷◌, ◌++◌, map, length, get_or, take, zero, suc, Option, None, Some, ◌⊎◌, inl, inr, refl, sym, ap, ◌∙◌, subst, arith}
+use Rattle.std.proofs.Common.{◌≡◌, ℕ, ◌+◌, ◌-◌, ◌<◌, ◌≤◌, ◌^◌, List, [], ◌∷◌, ◌++◌, map, length, get_or, take, zero, suc, Option, None, ◌⊎◌, inl, inr, refl, sym, ap, ◌∙◌, subst, arith}
 use Rattle.std.specs.List.{sum_by}
-use Rattle.std.specs.Option.{IfSome}
 use Rattle.std.proofs.lemmas.Bool.{cases_lt}
 use Rattle.std.proofs.lemmas.List.{length-map, length-append, length_push, get_or_push, get_or-map, get_or_default, get_or_append_left, get_or-append_right, take_all}
 use Rattle.std.proofs.lemmas.List.Sums.{sum_by_more, sum_by_more_le}
@@ -15,24 +14,6 @@ use Rattle.minimise.specs.FlatEdges.{AreLaidOut, flat_edge}
 use Rattle.minimise.specs.Alike.{AreAlike}
 use Rattle.minimise.proofs.EdgeLetterLemmas.{IsInPlace, letter_before, letter_behind, same_with}
 use Rattle.minimise.proofs.ClassEdgeLemmas.{alike_from_rows, class_edges-same}
-
--- no letters yet, and no targets
-same-none : (letters : Option (List ℕ)) (targets : List ℕ) → IfSome letters (λ list. list ≡ []) → targets ≡ [] → IfSome letters (λ list. length list ≡ length targets)
-same-none None targets none empty = tt
-same-none (Some list) targets none empty = ap length none ∙ sym (ap length empty)
-
--- no edges yet
-pub AreLaidOut-none : (d : Automaton) (starts : List ℕ) (letters : Option (List ℕ)) (targets : List ℕ) → starts ≡ 0 ∷ [] → IfSome letters (λ list. list ≡ []) → targets ≡ [] → AreLaidOut d starts letters targets 0
-AreLaidOut-none d starts letters targets first none empty = record {
-  width = ap length first;
-  begin = ap (λ (xs : List ℕ). class_of xs 0) first;
-  end = ap (λ (xs : List ℕ). class_of xs 0) first ∙ sym (ap length empty);
-  same = same-none letters targets none empty;
-  few = omega (arith, ap length empty);
-  ends = λ q less. absurd (omega arith);
-  within = λ q low. let is : q ≡ 0 = omega arith in omega (arith, ap (λ (n : ℕ). class_of starts n) is, ap (λ (xs : List ℕ). class_of xs 0) first);
-  edges = λ q k z less inside. absurd (omega arith);
-}
 
 module _ (d : Automaton) (starts : List ℕ) (letters : Option (List ℕ)) (targets : List ℕ) (count : ℕ) (flat : AreLaidOut d starts letters targets count) where
   -- the edges of a state stand behind those of the states before it

@@ -1,5 +1,5 @@
 -- Where words lead in an automaton when missing edges lead to its sink.
-use Rattle.std.proofs.Common.{◌≡◌, ◌==◌, ℕ, ◌<◌, Bool, true, false, not, ◌&&◌, List, [], ◌∷◌, ◌++◌, length, inl, inr, refl, sym, ap, ◌∙◌, if◌then◌else◌}
+use Rattle.std.proofs.Common.{◌≡◌, ◌==◌, ℕ, Bool, true, false, not, ◌&&◌, List, [], ◌∷◌, ◌++◌, length, inl, inr, refl, sym, ap, ◌∙◌, if◌then◌else◌}
 use Rattle.std.specs.Option.{option_map_or}
 use Rattle.std.proofs.lemmas.Bool.Decides.{Decides-eqb}
 use Rattle.std.proofs.lemmas.List.{nil_from_length}
@@ -11,7 +11,7 @@ use Rattle.minimise.specs.Canonical.{IsCanonical}
 use Rattle.minimise.specs.Classes.{next_of, first_of}
 use Rattle.minimise.proofs.SinkLemmas.{sink_refuses, accepts_from-next}
 use Rattle.minimise.proofs.CanonicalLemmas.{one_state}
-use Rattle.minimise.proofs.PlaceLemmas.{first_is_place, next_is_place, lead_is_place}
+use Rattle.minimise.proofs.PlaceLemmas.{first_is_place, lead_is_place}
 pub use Rattle.minimise.proofs.PlaceLemmas.{lead, IsPlace}
 
 module _ (d : Automaton) where
@@ -47,9 +47,6 @@ module _ (d : Automaton) where
 module _ (d : Automaton) (canonical : IsCanonical d) where
   pub first_place : IsPlace d (first_of d)
   first_place = first_is_place d canonical.table canonical.live
-
-  pub next_place : (q a : ℕ) → IsPlace d q → a < letters_of d → IsPlace d (next_of d q a)
-  next_place = next_is_place d canonical.table canonical.live
 
   pub lead_place : (w : List ℕ) (q : ℕ) → IsPlace d q → IsWord (letters_of d) w → IsPlace d (lead d q w)
   lead_place = lead_is_place d canonical.table canonical.live

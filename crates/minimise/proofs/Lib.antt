@@ -8,7 +8,6 @@ pub mod RunLemmas
 pub mod ClassFormLemmas
 pub mod CanonicalLemmas
 pub mod ClassEdgeLemmas
-pub mod InsertedLemmas
 pub mod StabilityLemmas
 pub mod EdgeLetterLemmas
 pub mod FlatEdgeLemmas
@@ -19,7 +18,6 @@ pub mod FirstPlaceLemmas
 pub mod PlaceSlotLemmas
 pub mod HashLemmas
 pub mod OutputPartLemmas
-pub mod LeaderLemmas
 pub mod QuotientLemmas
 pub mod LeastLemmas
 pub mod SameLemmas

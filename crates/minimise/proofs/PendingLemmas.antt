@@ -1,22 +1,11 @@
 -- Classes that are pending, with flags.
-use Rattle.std.proofs.Common.{◌≡◌, ◌≢◌, ◌↔◌, ℕ, ◌<◌, ◌≤◌, ◌⊎◌, inl, inr, Bool, true, false, List, [], ◌∷◌, ◌++◌, set, length, get_or, replicate, refl, sym, ap, ◌∙◌, subst, true≢false, arith, get_or-set_same, get_or-set_other}
+use Rattle.std.proofs.Common.{◌≡◌, ◌≢◌, ℕ, ◌<◌, ◌≤◌, ◌⊎◌, inl, inr, Bool, true, false, List, [], ◌∷◌, ◌++◌, set, length, get_or, refl, sym, ap, ◌∙◌, subst, true≢false, arith, get_or-set_same, get_or-set_other}
 use Rattle.std.specs.List.{AllPairs, Contains}
 use Rattle.std.proofs.lemmas.Bool.{cases_eq, cases_lt}
-use Rattle.std.proofs.lemmas.List.{get_or_append_left, get_or_past, get_or_push, get_or-replicate, length_push, length-replicate}
+use Rattle.std.proofs.lemmas.List.{get_or_append_left, get_or_past, get_or_push, length_push}
 use Rattle.std.proofs.lemmas.List.Elements.{Contains-append_left, Contains-push, Contains-push_cases}
 use Rattle.digit_tuple.proofs.MemberLemmas.{AllPairs-append, Contains-cases, Contains-none}
 use Rattle.minimise.specs.Pending.{AreMarked}
-
--- no class
-pub AreMarked-none : (count : ℕ) → AreMarked [] (replicate count false)
-AreMarked-none count = record {
-  apart = λ i j z before within. absurd (omega arith);
-  marked = λ class. ((λ is. absurd (true≢false (sym is ∙ unset class (cases_lt class count)))), (λ there. absurd (Contains-none class there)));
-}
-  where
-    unset : (class : ℕ) → (class < count) ⊎ (count ≤ class) → get_or (replicate count false) class false ≡ false
-    unset class (inl less) = get_or-replicate count class false false less
-    unset class (inr past) = get_or_past (replicate count false) class false (omega (arith, length-replicate {A = Bool} count false))
 
 -- with equal flags
 pub AreMarked-same : (classes : List ℕ) (flags new : List Bool) → AreMarked classes flags → ((class : ℕ) → get_or new class false ≡ get_or flags class false) → AreMarked classes new

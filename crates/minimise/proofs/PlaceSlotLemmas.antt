@@ -38,23 +38,6 @@ IsTaken-push slots slot link end = record {
     others s other (inl below) = get_or_append_left slots (link ∷ []) 0 s (omega (arith, below, end))
     others s other (inr past) = get_or_past (slots ++ link ∷ []) s 0 (omega (arith, size, past, other, end)) ∙ sym (get_or_past slots s 0 (omega (arith, past, end)))
 
--- slots that are all free hold no places
-pub HoldPlaces-none : (table : PlaceSlots) (numbers : List ℕ) → table.homes ≤ length table.slots.items → ((slot : ℕ) → link_at table.slots.items slot ≡ 0) → HoldPlaces table numbers 0
-HoldPlaces-none table numbers homes free = record {
-  homes = homes;
-  below = λ slot. omega (arith, free slot);
-  firsts = λ slot taken. absurd (omega (arith, free slot, taken));
-  slotted = λ q less. absurd (omega (arith, less));
-}
-
--- the search goes on past a slot
-pub ArePassed-next : (table : PlaceSlots) (numbers : List ℕ) (number slot : ℕ) → ArePassed table numbers number slot → 0 < link_at table.slots.items slot → number_at numbers (link_at table.slots.items slot - 1) ≢ number → ArePassed table numbers number (slot + 1)
-ArePassed-next table numbers number slot passed taken other = λ s after before. by s after before (cases_eq s slot)
-  where
-    by : (s : ℕ) → home_of table.homes number ≤ s → s < slot + 1 → (s ≡ slot) ⊎ (s ≢ slot) → (0 < link_at table.slots.items s) × (number_at numbers (link_at table.slots.items s - 1) ≢ number)
-    by s after before (inl here) = rw here (taken, other)
-    by s after before (inr there) = passed s after (omega arith)
-
 module _ (table : PlaceSlots) (numbers : List ℕ) (count slot : ℕ) (holds : HoldPlaces table numbers count) where
   -- the place in a slot is the first with its number
   pub IsFirstPlace-held : 0 < link_at table.slots.items slot → number_at numbers (link_at table.slots.items slot - 1) ≡ number_at numbers count → IsFirstPlace numbers count (link_at table.slots.items slot - 1)
@@ -63,20 +46,6 @@ module _ (table : PlaceSlots) (numbers : List ℕ) (count slot : ℕ) (holds : H
     same = same;
     none_before = λ k before one. (holds.firsts slot taken).none_before k before (one ∙ sym same);
   }
-
-  -- a place whose number has a slot is held too
-  pub HoldPlaces-known : home_of table.homes (number_at numbers count) ≤ slot → ArePassed table numbers (number_at numbers count) slot → 0 < link_at table.slots.items slot
-      → number_at numbers (link_at table.slots.items slot - 1) ≡ number_at numbers count → HoldPlaces table numbers (count + 1)
-  HoldPlaces-known from passed taken same = record {
-    homes = holds.homes;
-    below = λ s. omega (arith, holds.below s);
-    firsts = holds.firsts;
-    slotted = λ q less. by q less (cases_eq q count);
-  }
-    where
-      by : (q : ℕ) → q < count + 1 → (q ≡ count) ⊎ (q ≢ count) → IsSlotted table.homes table.slots.items numbers (number_at numbers q)
-      by q less (inl here) = rw here (record { slot = slot; from = from; taken = taken; same = same; none_free = λ s after before. (passed s after before).0 })
-      by q less (inr there) = holds.slotted q (omega arith)
 
   -- where the search ends at a free slot, no place before has the number
   pub IsFirstPlace-new : ArePassed table numbers (number_at numbers count) slot → home_of table.homes (number_at numbers count) ≤ slot → link_at table.slots.items slot ≡ 0 → IsFirstPlace numbers count count

@@ -1,5 +1,5 @@
 -- Classes that are the residuals.
-use Rattle.std.proofs.Common.{◌≡◌, ℕ, ◌+◌, ◌<◌, ◌≤◌, List, [], ◌∷◌, length, refl, sym, ap, ◌∙◌, arith}
+use Rattle.std.proofs.Common.{◌≡◌, ℕ, ◌≤◌, List, [], ◌∷◌, length, sym, ◌∙◌}
 use Rattle.digit_tuple.specs.Deterministic.{Automaton, IsTable, letters_of, states_of}
 use Rattle.digit_tuple.specs.Letters.{IsWord}
 use Rattle.minimise.specs.Outputs.{SameOutputs}

@@ -1,21 +1,20 @@
 -- Classes that are parted until each letter leads from one into one.
-use Rattle.std.proofs.Common.{◌≡◌, ◌≢◌, ◌↔◌, ◌==◌, ℕ, suc, ◌+◌, ◌-◌, ◌<◌, ◌≤◌, List, [], ◌∷◌, ◌++◌, length, get_or, ◌⊎◌, inl, inr, refl, sym, ap, ◌∙◌, subst, arith}
-use Rattle.std.specs.List.{All, Contains, slice_range}
+use Rattle.std.proofs.Common.{◌≡◌, ◌≢◌, ◌↔◌, ℕ, ◌+◌, ◌-◌, ◌<◌, ◌≤◌, List, [], ◌∷◌, ◌++◌, length, get_or, ◌⊎◌, inl, inr, sym, ap, ◌∙◌, subst, arith}
+use Rattle.std.specs.List.{Contains, slice_range}
 use Rattle.std.proofs.lemmas.Bool.{cases_lt, cases_eq}
 use Rattle.std.proofs.lemmas.List.{get_or_past}
-use Rattle.std.proofs.lemmas.List.Elements.{All-contains, Contains-append_left, Contains-push, Contains-push_cases}
-use Rattle.digit_tuple.specs.Deterministic.{Automaton, IsTable, letters_of, states_of}
+use Rattle.std.proofs.lemmas.List.Elements.{All-contains, Contains-append_left, Contains-push}
+use Rattle.digit_tuple.specs.Deterministic.{Automaton, states_of}
 use Rattle.digit_tuple.proofs.MemberLemmas.{Contains-none}
 use Rattle.digit_tuple.proofs.PigeonLemmas.{StandsIn, onto_one}
 use Rattle.minimise.specs.declared.partition.ClassSpan.{ClassSpan}
 use Rattle.minimise.specs.Classes.{class_of, next_of}
 use Rattle.minimise.specs.CoarseClasses.{AreResidualClasses, TellOutputs}
-use Rattle.minimise.specs.Partition.{AreParted, IsCut, IsGiven, IsUnion, span_of}
+use Rattle.minimise.specs.Partition.{AreParted, IsGiven, IsUnion, span_of}
 use Rattle.minimise.specs.Settled.{AreAllPending, AreSettled, IsSettled}
 use Rattle.minimise.specs.StateOrder.{AreAtEnd}
 use Rattle.minimise.proofs.PartitionLemmas.{AreCoarseClasses-parted, cases_contains, place_of, state_within}
 use Rattle.minimise.proofs.ResidualLemmas.{AreResidualClasses-stable}
-use Rattle.minimise.proofs.SinkLemmas.{next_within}
 use Rattle.minimise.proofs.SpanLemmas.{Contains-slice, Contains-from_slice}
 
 module _ (d : Automaton) (outputs classes states places : List ℕ) (spans : List ClassSpan) (pending : List ℕ) (parted : AreParted d outputs classes states places spans pending) where

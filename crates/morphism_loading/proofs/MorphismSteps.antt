@@ -16,18 +16,9 @@ use Rattle.dfa_loading.specs.declared.fault.FileFlaw.TheVariants.{TooLong}
 use Rattle.dfa_loading.specs.declared.fault.LoadFault.{LoadFault}
 use Rattle.dfa_loading.specs.declared.fault.LoadFault.TheVariants as faults
 use Rattle.dfa_loading.specs.Places.{HasRead}
-use Rattle.dfa_loading.proofs.PlaceSteps.{some_files, text_past}
+use Rattle.dfa_loading.proofs.PlaceSteps.{some_files, text_past, files_by, told_by}
 use Rattle.dfa_loading.proofs.ReadSteps.{nothing_refused, quiet_read}
 use Rattle.morphism_loading.specs.MorphismFiles.{IsMorphismIn, IsNoMorphism, FailsMorphism, IsLoadedMorphism}
-
--- the files that are told, or else some that have this everywhere
-abbrev files_by : Option Files → Option (List ℕ) → Files
-files_by None there = λ folder name. there
-files_by (Some files) there = files
-
-told_by : (told : Option Files) (there : Option (List ℕ)) → IfSome told (λ files. files_by told there ≡ files)
-told_by None there = tt
-told_by (Some files) there = refl
 
 module _ (name : List ℕ) where
   there_by : (told : Option Files) (there : Option (List ℕ)) → IfSome told (λ files. files Morphisms name ≡ there) → files_by told there Morphisms name ≡ there

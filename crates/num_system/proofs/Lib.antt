@@ -1,6 +1,7 @@
 pub mod SealLemmas
 pub mod HoldLemmas
 pub mod SealedLemmas
+pub mod OneSystem
 pub mod LineLemmas
 pub mod UnderNames
 pub mod ReadTracks

@@ -1,7 +1,7 @@
 -- What operations on automata of relations hold of, for relations by tests.
 use Rattle.std.proofs.Common.{[]}
 use Rattle.digit_tuple.specs.Deterministic.{accepts_of}
-use Rattle.numeration.proofs.RankLemmas.{same_tests}
+use Rattle.digit_tuple.proofs.TruthLemmas.{same_tests}
 use Rattle.num_system.specs.Links.{Passes, ProductsHold, ComplementsHold, ValidPartsHold, ValidPartsSpell, ProjectionsHold, SentencesHold}
 use Rattle.num_system.proofs.NamedLinks.{in_product_holds}
 use Rattle.num_system.proofs.NamedProjections.{named_projection_holds}

@@ -1,13 +1,11 @@
 -- What automata without tracks tell: whether a sentence is true.
-use Rattle.std.proofs.Common.{◌≡◌, ℕ, List, [], ◌∷◌, length, refl, subst, ◌↔◌, IsTrue}
+use Rattle.std.proofs.Common.{◌≡◌, ℕ, List, [], ◌∷◌, refl, subst, ◌↔◌, IsTrue}
 use Rattle.digit_tuple.specs.Deterministic.{Automaton, accepts_of}
 use Rattle.digit_tuple.specs.Letters.{IsWord}
 use Rattle.digit_tuple.specs.Paddings.{in_order}
 use Rattle.digit_tuple.specs.declared.direction.Direction.{Direction}
-use Rattle.numeration.specs.Systems.{System}
 use Rattle.numeration.specs.Spelling.{Spells}
 use Rattle.numeration.specs.Relations.{HoldsOf}
-use Rattle.numeration.specs.SomeTracks.{completed}
 
 -- no tracks spell no numbers
 no_numbers : (w ns : List ℕ) → Spells [] w ns → ns ≡ []
@@ -22,7 +20,3 @@ sentence_holds way P d holds w over = (there, λ p. (holds.accepts w over).1 ([]
     there accepted =
         let found = (holds.accepts w over).0 accepted in
         subst P (no_numbers (in_order way w) found.0 found.1) found.2
-
--- what some numbers complete where no track stays: that the relation holds of some tuple
-pub completed_sentence : (ss : List System) (P : List ℕ → Type 0) → completed ss [] P [] ↔ ((ns : List ℕ) × (length ns ≡ length ss) × P ns)
-completed_sentence ss P = (λ found. (found.0, found.1, found.3), λ found. (found.0, found.1, refl, found.2))

@@ -1,28 +1,21 @@
 -- What the three steps from the order to the successor ask for.
-use Rattle.std.proofs.Common.{◌≡◌, ℕ, zero, suc, ◌*◌, ◌<◌, ◌≤◌, List, [], ◌∷◌, get_or, length, inl, inr, Result, Ok, Err, refl, ap, sym, ◌∙◌, arith, IsTrue, ◌↔◌}
-use Rattle.std.specs.List.{Contains}
+use Rattle.std.proofs.Common.{◌≡◌, ℕ, zero, suc, ◌*◌, ◌≤◌, List, [], ◌∷◌, inl, inr, Result, Ok, Err, ap, ◌∙◌, arith, IsTrue, ◌↔◌}
 use Rattle.std.specs.Result.{IfOk}
 use Rattle.digit_tuple.specs.Deterministic.{Automaton, accepts_of}
 use Rattle.digit_tuple.specs.Letters.{product, IsAlphabet, IsTooLarge, IsWord}
-use Rattle.digit_tuple.specs.Names.{joint_names, names_without, place_of}
+use Rattle.digit_tuple.specs.Names.{joint_names, names_without}
 use Rattle.digit_tuple.specs.Parts.{picked}
 use Rattle.digit_tuple.specs.declared.direction.Direction.{Direction}
-use Rattle.digit_tuple.proofs.NameLemmas.{place_of-contained}
 use Rattle.minimise.specs.Canonical.{IsCanonical}
-use Rattle.minimise.specs.Tracked.{NamedAutomaton, size_of}
+use Rattle.minimise.specs.Tracked.{NamedAutomaton}
 use Rattle.product_op.specs.declared.op.Op.{Op}
 use Rattle.product_op.specs.Products.{in_product}
-use Rattle.product_op.specs.Tracks.{AgreeOnShared, joint_sizes}
+use Rattle.product_op.specs.Tracks.{joint_sizes}
 use Rattle.project_close.specs.Projection.{InProjection}
 use Rattle.project_close.specs.StayingTracks.{staying_places, staying_sizes}
 use Rattle.num_system.specs.Operations.{IsProduct, IsProjection}
 use Rattle.num_system.specs.SuccessorSteps.{name_u, name_x, name_y}
 use Rattle.num_system.proofs.SuccessorLemmas.{under_names}
-
--- what holds by three facts of what a call gave
-pub IfOk-three : {X E : Type 0} (r : Result X E) (P Q R S : X → Type 0) → ((x : X) → P x → Q x → R x → S x) → IfOk r P → IfOk r Q → IfOk r R → IfOk r S
-IfOk-three (Ok x) P Q R S f p q r = f x p q r
-IfOk-three (Err e) P Q R S f p q r = tt
 
 -- what a call gave is a product
 pub product_made : {X E : Type 0} (op : Op) (a b : NamedAutomaton) (languages : List Automaton) (given : X → NamedAutomaton) (r : Result X E)
@@ -37,20 +30,6 @@ pub projection_made : {X E : Type 0} (way : Direction) (a : NamedAutomaton) (tra
     → IfOk r (λ x. (w : List ℕ) → IsWord (product (staying_sizes a track)) w → IsTrue (accepts_of (given x).automaton w) ↔ InProjection a.automaton (staying_places a track) way w) → IfOk r (λ x. IsProjection way a track (given x))
 projection_made way a track given (Ok x) names sizes canonical language = record { names = names; sizes = sizes; canonical = canonical; language = language }
 projection_made way a track given (Err e) names sizes canonical language = tt
-
--- on two tracks of one size each name has that size
-size_is : (t : NamedAutomaton) (d : ℕ) (name : List ℕ) → t.automaton.sizes ≡ d ∷ d ∷ [] → length t.names ≡ 2 → Contains t.names name → size_of t name ≡ d
-size_is t d name same long found =
-    let at = place_of-contained t.names name found in
-    ap (λ (ns : List ℕ). get_or ns (place_of t.names name) 0) same ∙ by (place_of t.names name) (omega (arith, at.0, long))
-  where
-    by : (p : ℕ) → p < 2 → get_or (d ∷ d ∷ []) p 0 ≡ d
-    by zero within = refl
-    by (suc zero) within = refl
-    by (suc (suc p)) within = absurd (omega (arith, within))
-
-pub agree_two : (a b : NamedAutomaton) (d : ℕ) → a.automaton.sizes ≡ d ∷ d ∷ [] → length a.names ≡ 2 → b.automaton.sizes ≡ d ∷ d ∷ [] → length b.names ≡ 2 → AgreeOnShared a b
-agree_two a b d same_a long_a same_b long_b name first second = size_is a d name same_a long_a first ∙ sym (size_is b d name same_b long_b second)
 
 -- fewer tracks of one size have no more letters
 cube_fits : (d : ℕ) → d * (d * (d * 1)) ≤ 65536 → d * (d * 1) ≤ 65536

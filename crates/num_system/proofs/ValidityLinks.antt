@@ -13,15 +13,10 @@ use Rattle.numeration.specs.Systems.{System, AreSystems}
 use Rattle.numeration.specs.Spelling.{sizes_of, letters_in, Spells}
 use Rattle.numeration.specs.Relations.{HoldsOf}
 use Rattle.numeration.proofs.SpellLemmas.{spellings}
-use Rattle.numeration.proofs.TrackLemmas.{numerals_from_spelling}
-use Rattle.numeration.proofs.PartSpelling.{numerals_only}
 use Rattle.num_system.specs.Joined.{AreLanguagesOf}
 use Rattle.num_system.specs.Spellings.{HasSpelling, IgnoresZeros}
 use Rattle.num_system.proofs.ValidWords.{spelled_from, spelled_to}
-
--- a word spells one tuple alone
-one_tuple : (ss : List System) (w ns ms : List ℕ) → Spells ss w ns → Spells ss w ms → ns ≡ ms
-one_tuple ss w ns ms first second = numerals_only ss w ns ms (numerals_from_spelling ss w ns first) (numerals_from_spelling ss w ms second)
+use Rattle.num_system.proofs.HoldLemmas.{one_tuple}
 
 module _ (way : Direction) (ss : List System) (languages : List Automaton) (are : AreLanguagesOf way ss languages)
     (a : NamedAutomaton) (c : Automaton) (same : c.sizes ≡ a.automaton.sizes) where

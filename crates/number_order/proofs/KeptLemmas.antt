@@ -6,12 +6,12 @@ use Rattle.digit_tuple.specs.Deterministic.{Automaton, letters_of, accepts_of}
 use Rattle.digit_tuple.specs.declared.direction.Direction.{Direction}
 use Rattle.digit_tuple.proofs.PaddingLemmas.{in_order-twice, IsWord-in_order}
 use Rattle.digit_tuple.proofs.AcceptedLemmas.{accepted_over}
+use Rattle.digit_tuple.proofs.TruthLemmas.{same_tests}
 use Rattle.minimise.specs.Residuals.{SameLanguage}
 use Rattle.minimise.specs.Canonical.{IsCanonical}
 use Rattle.numeration.specs.Systems.{System, IsSystem}
 use Rattle.numeration.specs.Spelling.{Spells, letters_in}
 use Rattle.numeration.specs.Relations.{IsLanguageOf, HoldsOf}
-use Rattle.numeration.proofs.RankLemmas.{same_tests}
 
 -- the canonical automaton of the language
 pub language_kept : (way : Direction) (s : System) (d e : Automaton) → IsSystem s → IsLanguageOf way s d → e.sizes ≡ d.sizes → SameLanguage d e → IsCanonical e → IsLanguageOf way s e

@@ -24,6 +24,7 @@ use Rattle.numeration.specs.Relations.{IsLanguageOf, HoldsOf, IsPairOf, IsCompar
 use Rattle.number_order.specs.Orders.{pair_letters, pair_track, comparison, OrderAlike}
 use Rattle.number_order.specs.PairKeys.{ordering_at, compared_more, at, first_pair, next_states_of, next_pair, is_compared_pair}
 use Rattle.digit_tuple.proofs.PaddingLemmas.{length-in_order, in_order-map}
+use Rattle.digit_tuple.proofs.ExploredLemmas.{some_value}
 use Rattle.numeration.proofs.ConstantLemmas.{one_track}
 use Rattle.number_order.proofs.OrderLemmas.{ordering_at-index, comparison-ranks, wanted_is, joined, joined-nil, joined-step, joined-all}
 
@@ -39,9 +40,6 @@ pub letter_digits : (n a : ℕ) → a < n * n → (a / n < n) × (a % n < n)
 letter_digits n a small =
     let some : 0 < n = positive_right n n (omega (arith, small)) in
     (div_below a n n some small, mod_below a n some)
-
-some_value : (a b : List ℕ) → Some a ≡ Some b → a ≡ b
-some_value a b same = cc
 
 -- the digits on the first and on the second of two tracks
 abbrev pub firsts : ℕ → List ℕ → List ℕ

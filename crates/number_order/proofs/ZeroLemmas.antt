@@ -2,7 +2,7 @@
 use Rattle.std.proofs.Common.{◌≡◌, ℕ, zero, suc, ◌+◌, Bool, true, false, cond, append-nil, List, [], ◌∷◌, ◌++◌, reverse, length, Option, None, Some, refl, ap, sym, ◌∙◌, subst, arith, ◌↔◌, IsTrue}
 use Rattle.std.specs.Option.{option_map_or}
 use Rattle.std.proofs.lemmas.Bool.{false≢true, and_right}
-use Rattle.std.proofs.lemmas.List.{reverse-append, reverse-reverse}
+use Rattle.std.proofs.lemmas.List.{reverse-reverse}
 use Rattle.digit_tuple.specs.Paddings.{zeros, without_zeros, in_order}
 use Rattle.digit_tuple.specs.Deterministic.{Automaton, IsSet, with_state, states_of, accepting_of, step_of, accepts_from, accepts_of}
 use Rattle.digit_tuple.specs.declared.direction.Direction.{Direction}
@@ -10,7 +10,7 @@ use Rattle.digit_tuple.specs.declared.direction.Direction.TheVariants.{Msd, Lsd}
 use Rattle.numeration.specs.Words.{rank}
 use Rattle.numeration.specs.Systems.{System, IsSystem, IsRep}
 use Rattle.numeration.specs.Relations.{IsZeroOf}
-use Rattle.digit_tuple.proofs.PaddingLemmas.{zeros_in_front}
+use Rattle.digit_tuple.proofs.PaddingLemmas.{zeros_in_front, reverse-zeros}
 use Rattle.numeration.proofs.ConstantLemmas.{constant_holds}
 
 -- the empty word is that of 0
@@ -19,15 +19,6 @@ zero_rep s is = record { valid = is.empty; plain = refl; ranked = none }
   where
     none : rank s.digits s.test [] ≡ 0
     none = ap (λ (b : Bool). 0 + cond {A = ℕ} b 1 0) (and_right (s.test []) false refl)
-
--- a letter 0 behind zeros
-zeros-push : (k : ℕ) → zeros k ++ 0 ∷ [] ≡ 0 ∷ zeros k
-zeros-push zero = refl
-zeros-push (suc k) = ap (λ w. 0 ∷ w) (zeros-push k)
-
-reverse-zeros : (k : ℕ) → reverse (zeros k) ≡ zeros k
-reverse-zeros zero = refl
-reverse-zeros (suc k) = reverse-append (0 ∷ []) (zeros k) ∙ ap (λ w. w ++ 0 ∷ []) (reverse-zeros k) ∙ zeros-push k
 
 only_zeros : (k : ℕ) → without_zeros (zeros k) ≡ []
 only_zeros zero = refl

@@ -35,11 +35,6 @@ module _ (old mid new : StepLog) (system : SystemValue) (z y w : List ℕ) (less
     new_is = second.new_is ∙ ap (λ (log : StepLog). with_line log second.line) first.new_is ∙ with_more old (first.line ∷ []) (second.line ∷ []);
   }
 
-  -- the first passes a limit
-  pub product_passes : (fault : StepFault) → IsRefused old (RelationJoinExceedsLetters lesser sum) (RelationJoinExceeds old.limit And lesser sum) mid fault
-      → (fault ≡ faults.Memory) ⊎ PassesGrowth old system z y w lesser fault
-  product_passes fault refused = inr (record { sum = sum; sum_is = sum_is; refused = inl refused.by_limit })
-
   -- or the second does
   pub project_passes : (joined : RelationValue) (fault : StepFault) → IsDone old (IsRelationJoinStep old.limit And lesser sum joined) mid
       → IsRefused mid (RelationProjectExceedsLetters w joined) (RelationProjectExceeds mid.limit w joined) new fault → (fault ≡ faults.Memory) ⊎ PassesGrowth old system z y w lesser fault

@@ -18,7 +18,7 @@ use Rattle.product_op.specs.Validity.{AreLanguages, no_language}
 use Rattle.numeration.specs.SomeTracks.{no_system}
 use Rattle.num_system.specs.Joined.{AreLanguagesOf}
 use Rattle.num_system.specs.Sealed.{SystemValue, system_of, IsSealed}
-use Rattle.num_system.specs.Tracks.{HaveOneWay, absent_system, AgreeUnder, systems_under}
+use Rattle.num_system.specs.Tracks.{HaveOneWay, absent_system, systems_under}
 use Rattle.number_relations.specs.Relations.{RelationValue, HoldsOver}
 use Rattle.number_relations.specs.Placed.{IsPlaced, each_once}
 use Rattle.number_relations.specs.Comparisons.{IsOverOne}
@@ -32,9 +32,6 @@ repeated s names = map (λ name. s) names
 module _ (s : SystemValue) (under : List (List ℕ)) where
   repeated_at : (i : ℕ) → i < length under → get_or (repeated s under) i absent_system ≡ s
   repeated_at i within = get_or-map (λ name. s) under i [] absent_system within
-
-  pub repeated_agree : AgreeUnder under (repeated s under)
-  repeated_agree i j within inside same = repeated_at i within ∙ sym (repeated_at j inside)
 
   -- each name's system is that one
   pub repeated_under : (names : List (List ℕ)) → All (Contains under) names → systems_under under (repeated s under) names ≡ repeated s names

@@ -11,11 +11,11 @@ use Rattle.digit_tuple.specs.Paddings.{in_order, without_zeros}
 use Rattle.digit_tuple.specs.declared.direction.Direction.{Direction}
 use Rattle.digit_tuple.specs.declared.steps.StepLine.{StepLine}
 use Rattle.digit_tuple.proofs.PaddingLemmas.{IsWord-in_order}
+use Rattle.digit_tuple.proofs.TruthLemmas.{same_tests}
 use Rattle.project_close.specs.Padding.{IsPadded}
 use Rattle.numeration.specs.Systems.{System}
 use Rattle.numeration.specs.Relations.{HoldsOf}
 use Rattle.numeration.specs.Spelling.{letters_in, sizes_of}
-use Rattle.numeration.proofs.RankLemmas.{same_tests}
 use Rattle.numeration.proofs.SpellLemmas.{spellings}
 use Rattle.num_system.specs.Sealed.{SystemValue, system_of, IsSealed}
 use Rattle.num_system.specs.Spellings.{HasSpelling, IgnoresZeros}
@@ -49,9 +49,6 @@ module _ (limit : ℕ) (systems : List SystemValue) (listed : Branching) (r : Re
 
   closed_sizes : closed.sizes ≡ sizes_of ss
   closed_sizes = steps.before.pad_step.closure.sizes ∙ read_sizes
-
-  to_closed : (w : List ℕ) → IsWord (letters_in ss) w → IsWord (deterministic.letters_of closed) w
-  to_closed w over = subst (λ (s : List ℕ). IsWord (product s) w) (sym closed_sizes) over
 
   from_closed : (w : List ℕ) → IsWord (deterministic.letters_of closed) w → IsWord (letters_in ss) w
   from_closed w over = subst (λ (s : List ℕ). IsWord (product s) w) closed_sizes over

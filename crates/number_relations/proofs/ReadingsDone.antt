@@ -1,5 +1,5 @@
 -- The three steps of a relation that is read, one after another.
-use Rattle.std.proofs.Common.{◌≡◌, ℕ, List, [], ◌∷◌, Err, inl, inr, ◌⊎◌, ap, ◌∙◌, subst}
+use Rattle.std.proofs.Common.{◌≡◌, ℕ, List, [], ◌∷◌, Err, inr, ◌⊎◌, ap, ◌∙◌, subst}
 use Rattle.digit_tuple.specs.Automaton.{Branching}
 use Rattle.digit_tuple.specs.Deterministic.{Automaton}
 use Rattle.digit_tuple.specs.Letters.{IsAlphabet}
@@ -9,8 +9,8 @@ use Rattle.digit_tuple.specs.declared.step_fault.StepFault.{StepFault}
 use Rattle.digit_tuple.specs.declared.step_fault.StepFault.TheVariants as faults
 use Rattle.minimise.specs.Tracked.{NamedAutomaton}
 use Rattle.automaton_steps.specs.Numbered.{numbered}
-use Rattle.automaton_steps.specs.PadSteps.{IsPadStep, DoesPad, PadExceeds}
-use Rattle.automaton_steps.specs.ReadSteps.{IsReadStep, DoesRead}
+use Rattle.automaton_steps.specs.PadSteps.{IsPadStep}
+use Rattle.automaton_steps.specs.ReadSteps.{IsReadStep}
 use Rattle.automaton_steps.specs.ValidSteps.{IsValidStep, DoesValid, ValidExceeds}
 use Rattle.num_system.specs.Sealed.{SystemValue}
 use Rattle.num_system.specs.Tracks.{way_of, languages_of}
@@ -18,24 +18,9 @@ use Rattle.number_relations.specs.Relations.{relation_over}
 use Rattle.number_relations.specs.Readings.{IsPaddedReading, IsReadDone, PassesReading}
 use Rattle.num_system.proofs.LineLemmas.{with_more}
 
--- the first step is refused
-pub read_stops : (old new : StepLog) (systems : List SystemValue) (listed : Branching) (fault : StepFault) → DoesRead old listed (Err fault) new → (fault ≡ faults.Memory) ⊎ PassesReading old systems listed fault
-read_stops old new systems listed fault refused = inr (inl refused.by_limit)
-
 module _ (old mid : StepLog) (systems : List SystemValue) (listed : Branching) (read : Automaton) (first : IsDone old (IsReadStep old.limit listed read) mid) where
   mid_limit : mid.limit ≡ old.limit
   mid_limit = ap (λ (log : StepLog). log.limit) first.new_is
-
-  -- the second is
-  pub pad_stops : (new : StepLog) (fault : StepFault) → DoesPad mid (way_of systems) read (Err fault) new → (fault ≡ faults.Memory) ⊎ PassesReading old systems listed fault
-  pad_stops new fault refused = inr (inr (inl (record {
-    read = read;
-    first = first.line;
-    read_step = first.step;
-    refused =
-        subst (λ (log : StepLog). IsRefusedBy log ⊥ (PadExceeds old.limit (way_of systems) read) fault) first.new_is
-        (subst (λ (limit : ℕ). IsRefusedBy mid ⊥ (PadExceeds limit (way_of systems) read) fault) mid_limit refused.by_limit);
-  })))
 
   module _ (late : StepLog) (closed : Automaton) (second : IsDone mid (IsPadStep mid.limit (way_of systems) read closed) late) where
     late_limit : late.limit ≡ old.limit

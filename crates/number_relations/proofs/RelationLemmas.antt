@@ -7,11 +7,11 @@ use Rattle.digit_tuple.specs.Letters.{product, IsWord}
 use Rattle.digit_tuple.specs.Names.{AreDistinct}
 use Rattle.digit_tuple.specs.Paddings.{in_order}
 use Rattle.digit_tuple.proofs.NameLemmas.{place_of-is}
+use Rattle.digit_tuple.proofs.TruthLemmas.{same_tests}
 use Rattle.minimise.specs.Canonical.{IsCanonical}
 use Rattle.minimise.proofs.CanonicalLemmas.{canonical_forms}
 use Rattle.numeration.specs.Systems.{AreSystems}
 use Rattle.numeration.specs.Spelling.{letters_in}
-use Rattle.numeration.proofs.RankLemmas.{same_tests}
 use Rattle.num_system.specs.Sealed.{SystemValue, system_of, IsSealed}
 use Rattle.num_system.specs.Tracks.{systems_of, way_of, number_under}
 use Rattle.number_relations.specs.Relations.{RelationValue, IsRelationOf, IsClosedOver, HoldsOver, RelationHolds}

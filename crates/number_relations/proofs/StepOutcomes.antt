@@ -7,7 +7,7 @@ use Rattle.digit_tuple.specs.declared.steps.StepLine.{StepLine}
 use Rattle.digit_tuple.proofs.WidthLemmas.{IsOneWidth-equivalence}
 use Rattle.minimise.proofs.CanonicalLemmas.{canonical_forms}
 use Rattle.numeration.specs.Spelling.{sizes_of}
-use Rattle.numeration.proofs.RankLemmas.{same_tests}
+use Rattle.digit_tuple.proofs.TruthLemmas.{same_tests}
 use Rattle.num_system.specs.Sealed.{SystemValue, system_of}
 use Rattle.constants.specs.Constants.{ConstantAlike}
 use Rattle.constants.specs.ConstantSteps.{IsConstantStep}

@@ -1,5 +1,5 @@
 -- A step on automata is one on relations.
-use Rattle.std.proofs.Common.{◌≡◌, ℕ, List, [], ◌∷◌, Result, Err, ap, sym, ◌∙◌, subst}
+use Rattle.std.proofs.Common.{◌≡◌, ℕ, List, [], ◌∷◌, ap, sym, ◌∙◌, subst}
 use Rattle.digit_tuple.specs.Deterministic.{Automaton}
 use Rattle.digit_tuple.specs.StepResults.{IsDone, IsRefusedBy}
 use Rattle.digit_tuple.specs.Steps.{StepLog}
@@ -12,14 +12,14 @@ use Rattle.numeration.specs.Relations.{IsLanguageOf}
 use Rattle.num_system.specs.Sealed.{SystemValue, system_of, IsSealed}
 use Rattle.constants.specs.ConstantSteps.{IsConstantStep, ConstantExceeds}
 use Rattle.automaton_steps.specs.StepLines.{IsRefused}
-use Rattle.automaton_steps.specs.JoinSteps.{IsJoinStep, JoinExceedsLetters, JoinExceeds}
+use Rattle.automaton_steps.specs.JoinSteps.{IsJoinStep}
 use Rattle.automaton_steps.specs.ComplementSteps.{IsComplementStep, ComplementExceeds}
-use Rattle.automaton_steps.specs.ProjectSteps.{IsProjectStep, ProjectExceedsLetters, ProjectExceeds}
+use Rattle.automaton_steps.specs.ProjectSteps.{IsProjectStep}
 use Rattle.num_system.specs.Tracks.{way_of, languages_of}
 use Rattle.number_relations.specs.Relations.{RelationValue, named_of, relation_over}
-use Rattle.number_relations.specs.Joins.{IsRelationJoinStep, RelationJoinExceedsLetters, RelationJoinExceeds, joint_systems}
+use Rattle.number_relations.specs.Joins.{IsRelationJoinStep, joint_systems}
 use Rattle.number_relations.specs.Complements.{IsRelationComplement, IsRelationComplementStep, RelationComplementExceeds}
-use Rattle.number_relations.specs.Projections.{IsRelationProjectStep, RelationProjectExceedsLetters, RelationProjectExceeds, staying_systems}
+use Rattle.number_relations.specs.Projections.{IsRelationProjectStep, staying_systems}
 use Rattle.number_relations.specs.Constants.{IsRelationConstant, IsRelationConstantStep, RelationConstantExceeds}
 
 module _ (old new : StepLog) (op : Op) (a b : RelationValue) (systems : List SystemValue) (languages : List Automaton) (same : systems ≡ joint_systems a b) (are : languages ≡ languages_of systems) where
@@ -32,11 +32,6 @@ module _ (old new : StepLog) (op : Op) (a b : RelationValue) (systems : List Sys
     step = record { systems = same; step = subst (λ (ls : List Automaton). IsJoinStep old.limit op ls (named_of a) (named_of b) joined done.line) languages_joint done.step };
     new_is = done.new_is;
   }
-
-  pub join_refused : (fault : StepFault) → IsRefused old (JoinExceedsLetters (named_of a) (named_of b)) (JoinExceeds old.limit op languages (named_of a) (named_of b)) new fault
-      → IsRefused old (RelationJoinExceedsLetters a b) (RelationJoinExceeds old.limit op a b) new fault
-  join_refused fault refused =
-      subst (λ (ls : List Automaton). IsRefused old (JoinExceedsLetters (named_of a) (named_of b)) (JoinExceeds old.limit op ls (named_of a) (named_of b)) new fault) languages_joint refused
 
 module _ (old new : StepLog) (a : RelationValue) (systems : List SystemValue) (languages : List Automaton) (same : systems ≡ a.systems) (are : languages ≡ languages_of systems) where
   languages_own : languages ≡ languages_of a.systems
@@ -60,11 +55,6 @@ module _ (old new : StepLog) (track : List ℕ) (a : RelationValue) (way : Direc
     step = record { systems = same; step = subst (λ (w : Direction). IsProjectStep old.limit w track (named_of a) projected done.line) is done.step };
     new_is = done.new_is;
   }
-
-  pub project_refused : (fault : StepFault) → IsRefused old (ProjectExceedsLetters track (named_of a)) (ProjectExceeds old.limit way track (named_of a)) new fault
-      → IsRefused old (RelationProjectExceedsLetters track a) (RelationProjectExceeds old.limit track a) new fault
-  project_refused fault refused =
-      subst (λ (w : Direction). IsRefused old (ProjectExceedsLetters track (named_of a)) (ProjectExceeds old.limit w track (named_of a)) new fault) is refused
 
 -- the language of a sealed system, seen in its parts
 pub constant_language : (system seen : SystemValue) (way : Direction) (d : Automaton) → IsSealed system → seen ≡ system → way ≡ seen.way → d ≡ seen.language → IsLanguageOf way (system_of system) d

@@ -1,5 +1,5 @@
 -- Projections of automata that hold of relations hold of the numbers that some numbers complete.
-use Rattle.std.proofs.Common.{◌≡◌, ℕ, zero, suc, ◌<◌, List, [], ◌∷◌, ◌++◌, reverse, length, refl, ap, sym, ◌∙◌, subst, arith, ◌↔◌, IsTrue}
+use Rattle.std.proofs.Common.{◌≡◌, ℕ, ◌<◌, List, ◌++◌, reverse, length, refl, ap, sym, ◌∙◌, subst, arith, ◌↔◌, IsTrue}
 use Rattle.std.specs.List.{All}
 use Rattle.std.proofs.lemmas.List.{reverse-append}
 use Rattle.digit_tuple.specs.Letters.{product, IsWord}
@@ -13,24 +13,16 @@ use Rattle.numeration.specs.Systems.{System, AreSystems}
 use Rattle.numeration.specs.Spelling.{sizes_of, letters_in, Spells}
 use Rattle.numeration.specs.Relations.{HoldsOf}
 use Rattle.numeration.specs.SomeTracks.{systems_at, completed}
-use Rattle.digit_tuple.proofs.PaddingLemmas.{in_order-map}
+use Rattle.digit_tuple.proofs.PaddingLemmas.{in_order-map, reverse-zeros}
 use Rattle.digit_tuple.proofs.PaddingLemmas.{length-zeros, IsWord-zeros_before, IsWord-in_order, in_order-twice}
 use Rattle.numeration.proofs.SpellLemmas.{letters_positive, spells-apart, spells-pad, spelling}
 use Rattle.numeration.proofs.TrackLemmas.{numerals_from_spelling, spelling_from_numerals}
 use Rattle.numeration.proofs.PartSpelling.{sizes_at, IsWord-at, AreSystems-picked, numerals_at}
 
-zeros-push : (k : ℕ) → zeros k ++ 0 ∷ [] ≡ 0 ∷ zeros k
-zeros-push zero = refl
-zeros-push (suc k) = ap (λ w. 0 ∷ w) (zeros-push k)
-
-zeros-reverse : (k : ℕ) → reverse (zeros k) ≡ zeros k
-zeros-reverse zero = refl
-zeros-reverse (suc k) = reverse-append (0 ∷ []) (zeros k) ∙ ap (λ w. w ++ 0 ∷ []) (zeros-reverse k) ∙ zeros-push k
-
 -- zeros at the end of the most significant letters are leading zeros
 pub in_order-padded : (way : Direction) (k : ℕ) (w : List ℕ) → in_order way (padded way k w) ≡ zeros k ++ in_order way w
 in_order-padded Msd k w = refl
-in_order-padded Lsd k w = reverse-append w (zeros k) ∙ ap (λ v. v ++ reverse w) (zeros-reverse k)
+in_order-padded Lsd k w = reverse-append w (zeros k) ∙ ap (λ v. v ++ reverse w) (reverse-zeros k)
 
 padded-in_order : (way : Direction) (k : ℕ) (w v : List ℕ) → v ≡ zeros k ++ in_order way w → in_order way v ≡ padded way k w
 padded-in_order way k w v same = ap (in_order way) (same ∙ sym (in_order-padded way k w)) ∙ in_order-twice way (padded way k w)

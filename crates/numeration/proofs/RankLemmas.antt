@@ -7,14 +7,9 @@ use Rattle.numeration.specs.Words.{words, words_to, is_plain, is_less, is_before
 use Rattle.numeration.specs.Systems.{IsRep}
 use Rattle.numeration.proofs.CountLemmas.{sum_below, sum_below-same, sum_below-first, sum_below-le, count_by-append, count_by-words, count_by-same, count_by-same_to, count_by-none}
 use Rattle.digit_tuple.proofs.PaddingLemmas.{length-zeros, without_zeros-short, zeros_in_front, without_zeros-zeros}
+pub use Rattle.digit_tuple.proofs.TruthLemmas.{same_tests}
 use Rattle.numeration.proofs.PlainLemmas.{without_zeros-plain, plain_is}
 use Rattle.numeration.proofs.BelowLemmas.{size, below, after, led_below, size-suc, and_true, less_first, below-cons, below-less, below-ordered, below-apart, below-find, word_order}
-
--- tests that are true alike are equal
-pub same_tests : (b c : Bool) → IsTrue b ↔ IsTrue c → b ≡ c
-same_tests true c both = sym (both.0 refl)
-same_tests false true both = both.1 refl
-same_tests false false both = refl
 
 -- a leading zero changes nothing
 pub zeros_same : (d : ℕ) (test : List ℕ → Bool) → IsLanguage d test → after test 0 ≡ test

@@ -1,36 +1,17 @@
 -- The automata of the code, and what they say.
-use Rattle.std.proofs.Common.{◌≡◌, ℕ, ◌+◌, ◌<◌, ◌≤◌, Bool, true, false, ◌&&◌, List, [], ◌∷◌, ◌++◌, length, map, drop, take, get_or, set, sym, ap, ◌∙◌, arith, below_more, get_or-set_same, get_or-set_other}
-use Rattle.std.specs.List.{range_with_len}
-use Rattle.std.proofs.lemmas.List.{get_or-map, length-map, at_drop_more, at_drop_all, take_more, map-append}
-use Rattle.std.proofs.lemmas.List.FromFn.{fill_by_all, length-map-range_with_len, get_or-map-range_with_len, map-range_with_len_more}
+use Rattle.std.proofs.Common.{◌≡◌, ℕ, ◌+◌, ◌<◌, ◌≤◌, Bool, true, false, ◌&&◌, List, length, drop, get_or, set, sym, ap, ◌∙◌, arith, below_more, get_or-set_same, get_or-set_other}
+use Rattle.std.proofs.lemmas.List.{get_or-map, length-map, at_drop_more, at_drop_all}
+use Rattle.std.proofs.lemmas.List.FromFn.{fill_by_all, length-map-range_with_len, get_or-map-range_with_len}
 use Rattle.digit_tuple.specs.Deterministic.{accepting_of}
-use Rattle.minimise.specs.Classes.{next_of, first_of}
+use Rattle.minimise.specs.Classes.{next_of}
 use Rattle.product_op.specs.declared.reader.Reader.{Reader}
-use Rattle.product_op.specs.Readings.{Reading, no_reading, reading_in, readings_in, reading_at, part_read, state_at, first_key, next_key, flags_at, flag_at, all_true}
+use Rattle.product_op.specs.Readings.{Reading, no_reading, reading_in, readings_in, reading_at, part_read, state_at, next_key, flags_at, flag_at, all_true}
 
 pub reading_at-reader : (readers : List Reader) (i : ℕ) (r : Reader) → i < length readers → r ≡ get_or readers i r → reading_at (readings_in readers) i ≡ reading_in r
 reading_at-reader readers i r within is = get_or-map reading_in readers i r no_reading within ∙ ap reading_in (sym is)
 
 pub length-readings : (readers : List Reader) → length (readings_in readers) ≡ length readers
 length-readings readers = length-map readers reading_in
-
--- the first states of one more
-pub first_key_more : (readers : List Reader) (i : ℕ) (r : Reader) → i < length readers → r ≡ get_or readers i r
-    → first_key (readings_in (take (i + 1) readers)) ≡ first_key (readings_in (take i readers)) ++ first_of r.dfa.now ∷ []
-first_key_more readers i r within is =
-    ap (λ rs. first_key (readings_in rs)) (take_more readers i r within ∙ ap (λ x. take i readers ++ x ∷ []) (sym is))
-    ∙ ap first_key (map-append reading_in (take i readers) (r ∷ []))
-    ∙ map-append (λ x. first_of x.automaton) (readings_in (take i readers)) (reading_in r ∷ [])
-
--- where the letter leads the first so many
-abbrev pub next_states_to : List Reading → List ℕ → ℕ → ℕ → List ℕ
-next_states_to rs key a count = map (λ i. next_of (reading_at rs i).automaton (state_at key i) (part_read (reading_at rs i) a)) (range_with_len 0 count)
-
-pub next_states_more : (readers : List Reader) (key : List ℕ) (a i : ℕ) (r : Reader) → i < length readers → r ≡ get_or readers i r
-    → next_states_to (readings_in readers) key a (i + 1) ≡ next_states_to (readings_in readers) key a i ++ next_of r.dfa.now (state_at key i) (get_or r.parts a 0) ∷ []
-next_states_more readers key a i r within is =
-    map-range_with_len_more (λ j. next_of (reading_at (readings_in readers) j).automaton (state_at key j) (part_read (reading_at (readings_in readers) j) a)) 0 i i (omega arith)
-    ∙ ap (λ (x : Reading). next_states_to (readings_in readers) key a i ++ next_of x.automaton (state_at key i) (part_read x a) ∷ []) (reading_at-reader readers i r within is)
 
 -- where the letter leads from the states of the first so many
 abbrev pub LeadTo : List Reading → List ℕ → ℕ → List ℕ → ℕ → Type 0

@@ -1,14 +1,10 @@
 -- What a rule says where no automaton accepts.
-use Rattle.std.proofs.Common.{◌≡◌, ℕ, zero, suc, ◌<◌, ◌≤◌, Bool, true, false, not, ◌&&◌, nat_lt, refl, arith}
+use Rattle.std.proofs.Common.{◌≡◌, ℕ, zero, suc, ◌<◌, Bool, true, false, not, ◌&&◌, nat_lt, refl, arith}
 use Rattle.std.proofs.lemmas.Bool.Decides.{Decides-ltb}
 use Rattle.product_op.specs.declared.op.Op.{Op}
 use Rattle.product_op.specs.declared.rule.Rule.TheVariants.{Both, NotFirst}
 use Rattle.product_op.specs.Connectives.{connective}
 use Rattle.product_op.specs.SinkKeys.{refuses_all_sinks}
-
-and_true : (b : Bool) → not (b && true) ≡ not b
-and_true true = refl
-and_true false = refl
 
 and_false : (b : Bool) → not (b && false) ≡ true
 and_false true = refl
@@ -20,12 +16,6 @@ refuses-both_more op zero more = absurd (omega (arith, more))
 refuses-both_more op (suc zero) more = absurd (omega (arith, more))
 refuses-both_more op (suc (suc zero)) more = absurd (omega (arith, more))
 refuses-both_more op (suc (suc (suc n))) more = and_false (connective op false false)
-
-pub refuses-both : (op : Op) (count : ℕ) → count ≤ 2 → refuses_all_sinks (Both op) count ≡ not (connective op false false)
-refuses-both op zero few = and_true (connective op false false)
-refuses-both op (suc zero) few = and_true (connective op false false)
-refuses-both op (suc (suc zero)) few = and_true (connective op false false)
-refuses-both op (suc (suc (suc n))) few = absurd (omega (arith, few))
 
 -- an automaton more than the first refuses
 pub refuses-not_first : (count : ℕ) → nat_lt 1 count ≡ refuses_all_sinks NotFirst count

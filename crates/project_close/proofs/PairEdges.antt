@@ -1,11 +1,11 @@
 -- The edges from a pair: one by the zero letter, and those of its second state by the other letters.
-use Rattle.std.proofs.Common.{◌≡◌, ◌≢◌, ◌==◌, ◌&&◌, ℕ, zero, suc, ◌+◌, ◌<◌, Bool, true, false, not, cond, if◌then◌else◌, List, [], ◌∷◌, ◌++◌, filter, map, take, length, get_or, slice_index, Option, None, Some, unwrap_or, refl, sym, ap, ◌∙◌, arith}
+use Rattle.std.proofs.Common.{◌≡◌, ◌≢◌, ◌==◌, ◌&&◌, ℕ, zero, suc, ◌+◌, ◌<◌, Bool, true, false, not, cond, if◌then◌else◌, List, [], ◌∷◌, ◌++◌, filter, map, length, get_or, slice_index, Option, None, Some, unwrap_or, refl, sym, ap, ◌∙◌, arith}
 use Rattle.std.specs.List.{All, AllPairs}
 use Rattle.std.specs.Option.{IfSome}
 use Rattle.std.proofs.lemmas.Bool.{eqb-true, ne_eqb}
 use Rattle.std.proofs.lemmas.Bool.Decides.{Decides-eqb}
-use Rattle.std.proofs.lemmas.List.{get_or-map, length-map, map-append, take_more}
-use Rattle.std.proofs.lemmas.List.Elements.{All-cons, All-filter, All-map, filter-append, filter_passes}
+use Rattle.std.proofs.lemmas.List.{get_or-map, length-map}
+use Rattle.std.proofs.lemmas.List.Elements.{All-cons, All-filter, All-map, filter_passes}
 use Rattle.std.proofs.lemmas.List.Kept.{AllPairs-cons, AllPairs-filter}
 use Rattle.digit_tuple.specs.declared.edges.Edge.{Edge}
 use Rattle.digit_tuple.specs.Deterministic as deterministic
@@ -75,14 +75,6 @@ key_by-others_zero (e ∷ es) = by (e.letter == 0) refl (key_by-others_zero es)
     by : (b : Bool) → (e.letter == 0) ≡ b → key_by (edges_by_others es) 0 ≡ None → key_by (map pair_edge (cond (not b) (e ∷ filter is_by_other es) (filter is_by_other es))) 0 ≡ None
     by true is rest = rest
     by false is rest = ap (λ b. if b then Some (twice e.target) else key_by (edges_by_others es) 0) is ∙ rest
-
--- one more edge of the state
-pub edges_by_others-more : (es : List Edge) (n : ℕ) (d : Edge) → n < length es
-    → edges_by_others (take (n + 1) es) ≡ edges_by_others (take n es) ++ map pair_edge (cond (is_by_other (get_or es n d)) (get_or es n d ∷ []) [])
-edges_by_others-more es n d within =
-    ap edges_by_others (take_more es n d within)
-    ∙ ap (map pair_edge) (filter-append is_by_other (take n es) (get_or es n d ∷ []))
-    ∙ map-append pair_edge (filter is_by_other (take n es)) (cond (is_by_other (get_or es n d)) (get_or es n d ∷ []) [])
 
 module _ (d : Automaton) (table : IsTable (letters_of d) d.states) (key : List ℕ) where
   abbrev stripped : ℕ

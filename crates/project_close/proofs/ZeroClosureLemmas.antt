@@ -3,7 +3,7 @@ use Rattle.std.proofs.Common.{◌≡◌, ◌≢◌, ℕ, zero, suc, ◌+◌, ◌
 use Rattle.std.specs.Prelude.{eqb}
 use Rattle.std.specs.List.{AllByRecursion, Contains, IsDistinct, list_any}
 use Rattle.std.proofs.lemmas.Bool.{cases_lt, eqb-true, false_from_ne_true}
-use Rattle.std.proofs.lemmas.List.{append-nil, get_or_append_left, get_or_push, get_or_past, get_or_default, length_push, take_more, take_all, take-append-le}
+use Rattle.std.proofs.lemmas.List.{get_or_append_left, get_or_push, get_or_past, get_or_default, length_push, take_more, take_all, take-append-le}
 use Rattle.std.proofs.lemmas.List.Elements.{Contains-append_left, Contains-push, Contains-push_cases, All-contains_itself}
 use Rattle.std.proofs.lemmas.List.Folds.{Any-from_list_any}
 use Rattle.std.proofs.lemmas.List.Quantifiers.{all_pairs_push}
@@ -36,15 +36,6 @@ AreFoundToo-more old mid new P Q R parts left right one two = record {
     last : (q : ℕ) → P q ⊎ Q q → Contains new q
     last q (inl is) = subst (λ xs. Contains xs q) (sym two.new_is) (Contains-append_left mid two.later q (one.all q is))
     last q (inr is) = two.all q is
-
--- nothing more is found
-pub AreFoundToo-none : (old : List ℕ) (P : ℕ → Type 0) → ((q : ℕ) → ¬ P q) → AreFoundToo old old P
-AreFoundToo-none old P none = record {
-  later = [];
-  new_is = sym (append-nil old);
-  from = λ q there. inl there;
-  all = λ q is. absurd (none q is);
-}
 
 -- the more are the same
 pub AreFoundToo-same : (old new : List ℕ) (P Q : ℕ → Type 0) → ((q : ℕ) → P q → Q q) → ((q : ℕ) → Q q → P q) → AreFoundToo old new P → AreFoundToo old new Q

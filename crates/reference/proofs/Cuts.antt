@@ -11,17 +11,11 @@ use Rattle.regex_build.specs.Matches.{Matches, joined}
 abbrev pub NoCut : {L : Type 0} → Expression L → Expression L → List L → ℕ → ℕ → Type 0
 NoCut e f w low high = (k : ℕ) → low ≤ k → k < high → Matches e (take k w) → Matches f (drop k w) → ⊥
 
-pub follow_cut : {L : Type 0} (e f : Expression L) (w : List L) (k : ℕ) → Matches e (take k w) → Matches f (drop k w) → Matches (follow e f) w
-follow_cut e f w k front back = (take k w, drop k w, sym (take-append-drop k w), front, back)
-
 pub no_follow : {L : Type 0} (e f : Expression L) (w : List L) (high : ℕ) → length w < high → NoCut e f w 0 high → Matches (follow e f) w → ⊥
 no_follow {L} e f w high whole none (u, v, split, front, back) =
     none (length u) (omega arith) (omega (arith, ap length split, length-append u v))
     (subst (λ (t : List L). Matches e t) (sym (rw split (take-append_seam u v))) front)
     (subst (λ (t : List L). Matches f t) (sym (rw split (drop-append_seam u v))) back)
-
-pub star_empty : {L : Type 0} (e : Expression L) → Matches (star e) []
-star_empty e = ([], refl, tt)
 
 pub star_cut : {L : Type 0} (e : Expression L) (w : List L) (k : ℕ) → Matches e (take k w) → Matches (star e) (drop k w) → Matches (star e) w
 star_cut e w k front (pieces, split, all) = (take k w ∷ pieces, rw (← split) (sym (take-append-drop k w)), (front, all))

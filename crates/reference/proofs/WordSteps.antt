@@ -4,7 +4,7 @@ use Rattle.std.specs.List.{range_with_len}
 use Rattle.std.proofs.lemmas.Bool.{cases_lt}
 use Rattle.std.proofs.lemmas.Grind.{flat_map-append}
 use Rattle.std.proofs.lemmas.List.{length-map, get_or-map}
-use Rattle.std.proofs.lemmas.List.Elements.{All-cons, All-head, All-tail, All-append, All-map, All-from_get_or, All-weaker, Contains-append_left, Contains-append_right}
+use Rattle.std.proofs.lemmas.List.Elements.{All-head, All-tail, All-append, All-map, All-from_get_or, All-weaker, Contains-append_left, Contains-append_right}
 use Rattle.std.proofs.lemmas.List.Kept.{AllPairs-cons}
 use Rattle.digit_tuple.specs.Letters.{IsWord}
 use Rattle.digit_tuple.specs.Shortlex.{IsLetterwiseBefore}
@@ -68,19 +68,6 @@ from_has a (suc n) b words w low high has = elim (cases_lt a b) [
   | inl later ↦ Contains-append_right (behind_letter words a) (longer_from (a + 1) n words) (b ∷ w) (from_has (a + 1) n b words w (omega arith) (omega arith) has)
   | inr first ↦ let same : a ≡ b = omega arith in Contains-append_left (behind_letter words a) (longer_from (a + 1) n words) (b ∷ w) (subst (λ (x : ℕ). Contains (behind_letter words a) (x ∷ w)) same (behind_has a words w has))
 ]
-
-empty_whole : (letters : ℕ) (w : List ℕ) → IsWord letters w → length w ≡ 0 → Contains ([] ∷ []) w
-empty_whole letters [] word len = (0, omega arith, refl)
-empty_whole letters (a ∷ w) word len = absurd (omega arith)
-
--- the empty word is the only one of length 0
-pub empty_words : (letters : ℕ) → AreAllWords letters 0 ([] ∷ [])
-empty_words letters = record {
-  over = All-cons (IsWord letters) [] [] tt (All-from_get_or (IsWord letters) [] [] (λ i less. absurd (omega arith)));
-  long = All-cons (λ w. length w ≡ 0) [] [] refl (All-from_get_or (λ w. length w ≡ 0) [] [] (λ i less. absurd (omega arith)));
-  whole = empty_whole letters;
-  ordered = λ i j d less within. absurd (omega arith);
-}
 
 longer_whole : (letters n : ℕ) (words : List (List ℕ)) → (n ≡ 0 → ⊥) → AreAllWords letters (n - 1) words → (w : List ℕ) → IsWord letters w → length w ≡ n → Contains (longer letters words) w
 longer_whole letters n words some h [] word len = absurd (some (sym len))

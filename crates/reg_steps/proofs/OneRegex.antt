@@ -1,8 +1,7 @@
 -- The step of an expression has one width and one line.
-use Rattle.std.proofs.Common.{◌≡◌, ◌⊎◌, ◌↔◌, ℕ, ◌<◌, ◌≤◌, Bool, true, false, IsTrue, List, length, ℤ, refl, sym, ap, ◌∙◌, subst, inl, inr, arith}
-use Rattle.std.proofs.lemmas.Bool.{cases_lt}
+use Rattle.std.proofs.Common.{◌≡◌, ◌↔◌, ℕ, Bool, true, false, IsTrue, List, ℤ, refl, sym, ap, ◌∙◌, subst}
 use Rattle.digit_tuple.specs.Deterministic.{Automaton, letters_of, states_of, accepts_of}
-use Rattle.digit_tuple.specs.Letters.{IsAlphabet, IsWord, product}
+use Rattle.digit_tuple.specs.Letters.{IsWord, product}
 use Rattle.digit_tuple.specs.Sets.{sizes_of}
 use Rattle.digit_tuple.specs.Tuples.{Codes}
 use Rattle.digit_tuple.specs.Width.{IsEquivalence, IsOneWidth}
@@ -53,12 +52,3 @@ within_or_above limit sets e d line step above = not_beside (AlikeBy sets e) (pr
 pub one_line : (limit : ℕ) (sets : List (List ℤ)) (e : Expression (List ℤ)) (d f : Automaton) (line other : StepLine) → IsRegexStep limit sets e d line → IsRegexStep limit sets e f other → line ≡ other
 one_line limit sets e d f line other a b = one_step_line (AlikeBy sets e) (product (sizes_of sets)) (one_regex_width sets e) limit (states_of d) (states_of f) kinds.Regex line other a.line_is b.line_is
     (ap (λ (x : Automaton). states_of x) (one_automaton sets e d f a.of_regex b.of_regex))
-
--- whether sizes are those of an alphabet can be told
-pub alphabet_is : (sizes : List ℕ) → (¬ IsAlphabet sizes → ⊥) → IsAlphabet sizes
-alphabet_is sizes not_none = by_counts (cases_lt 16 (length sizes)) (cases_lt 65536 (product sizes))
-  where
-    by_counts : (16 < length sizes) ⊎ (length sizes ≤ 16) → (65536 < product sizes) ⊎ (product sizes ≤ 65536) → IsAlphabet sizes
-    by_counts (inr few) (inr small) = record { tracks = few; letters = small }
-    by_counts (inl many) letters = absurd (not_none (λ are. omega (arith, are.tracks, many)))
-    by_counts (inr few) (inl large) = absurd (not_none (λ are. omega (arith, are.letters, large)))

@@ -1,13 +1,12 @@
 -- The numbers of letters.
 use Rattle.std.proofs.Common.{◌≡◌, ℕ, ◌+◌, ◌<◌, ◌≤◌, List, [], ◌∷◌, ◌++◌, length, refl, sym, ap, ◌∙◌, subst, arith, take, get_or}
 use Rattle.std.specs.Prelude.{ℤ, pos, Contains}
-use Rattle.std.specs.List.{AllZip}
 use Rattle.std.proofs.lemmas.List.{take_more, take_all}
 use Rattle.digit_tuple.specs.Letters.{AreDigits}
 use Rattle.digit_tuple.specs.Sets.{sizes_of, members_at}
 use Rattle.regex_build.specs.Codes.{ArePlaces}
 use Rattle.regex_build.specs.Patterns.{AreMembers}
-use Rattle.regex_build.proofs.ListSteps.{zip-append, length_zip, zip_at}
+use Rattle.regex_build.proofs.ListSteps.{length_zip, zip_at}
 
 -- the member at a track is one of its set
 pub member_at : (sets : List (List ℤ)) (members : List ℤ) (i : ℕ) (set : List ℤ) (other : ℤ) → AreMembers sets members → i < length sets → set ≡ get_or sets i set → Contains {X = ℤ} set (get_or members i other)
@@ -63,11 +62,3 @@ members_from_places (s ∷ ss) (m ∷ ms) (p ∷ ps) h =
     let e : get_or s p (pos 0) ≡ m = h.1 in
     let f : ms ≡ members_at ss ps = members_from_places ss ms ps h.2 in
     ap (λ x. x ∷ ms) (sym e) ∙ ap (λ xs. get_or s p (pos 0) ∷ xs) f
-
--- one element more beside one element more
-pub zip_more : {X Y : Type 0} (R : X → Y → Type 0) (xs : List X) (ys more : List Y) (i : ℕ) (x : X) (y : Y) → i < length xs → x ≡ get_or xs i x → AllZip R (take i xs) ys → R x y → more ≡ ys ++ y ∷ [] → AllZip R (take (i + 1) xs) more
-zip_more {X} {Y} R xs ys more i x y l e h r g =
-    let s : take (i + 1) xs ≡ take i xs ++ x ∷ [] = take_more xs i x l ∙ ap (λ z. take i xs ++ z ∷ []) (sym e) in
-    let P : List X → Type 0 = λ z. AllZip R z more in
-    let Q : List Y → Type 0 = λ z. AllZip R (take i xs ++ x ∷ []) z in
-    subst P (sym s) (subst Q (sym g) (zip-append R (take i xs) ys (x ∷ []) (y ∷ []) h (r, tt)))

@@ -11,8 +11,8 @@ use Rattle.regex_build.specs.declared.fragment.Fragment.{Fragment}
 use Rattle.regex_build.specs.Expression.{Expression, empty, letter, any, either, follow, star, plus, optional, occurrences_in, placed}
 use Rattle.regex_build.specs.Matches.{Matches}
 use Rattle.regex_build.specs.Neighbours.{IsFirst, IsLast, IsNext}
-use Rattle.regex_build.specs.Fragments.{Follows, Crosses, IsFragment, IsKeptBelow, AreSettled, IsEmptyWord, IsPlace, IsEither, IsFollow, IsPlus, IsOptional}
-use Rattle.regex_build.proofs.ListSteps.{contains_cons_cases, contains_here, contains_none, middle_is_some}
+use Rattle.regex_build.specs.Fragments.{Follows, Crosses, IsFragment, IsKeptBelow, AreSettled, IsPlace, IsEither, IsFollow, IsPlus, IsOptional}
+use Rattle.regex_build.proofs.ListSteps.{contains_cons_cases, contains_here, contains_none}
 use Rattle.regex_build.proofs.PlaceWords.{IsWithin, place_within}
 use Rattle.regex_build.proofs.NeighbourWords.{first_of_either, last_of_either, next_of_either, nullable_of_follow, first_of_follow, first_in_left, first_in_right, last_of_follow, last_in_right, last_in_left, next_of_follow, next_in_left, next_in_right, next_between, plus_from_one, nullable_of_plus, first_of_plus, first_in_plus, last_of_plus, last_in_plus, next_of_plus, next_in_plus, next_again, first_of_optional, last_of_optional, next_of_optional, first_of_star, last_of_star, next_of_star, star_from_plus, first_of_letter, last_of_letter, next_of_letter}
 
@@ -33,18 +33,6 @@ last_within n e p h = place_within n e h.0 p [] h.1
 
 pub next_within : {L : Type 0} (n : ℕ) (e : Expression L) (p q : ℕ) → IsNext (placed n e) p q → IsWithin n (n + length (occurrences_in e)) p
 next_within n e p q h = place_within n e h.0 p (q ∷ h.1) h.2
-
--- the empty word
-pub empty_fragment : (made : Fragment) → made.nullable ≡ true → made.repeats ≡ false → made.firsts.items ≡ [] → made.lasts.items ≡ [] → made.owed.items ≡ [] → IsEmptyWord made
-empty_fragment made null rep fir las owe n rows = record {
-  nullable = (λ h. refl, λ m. null);
-  firsts = λ q. (λ h. absurd (contains_none q (let P : List ℕ → Type 0 = λ xs. Contains xs q in subst P fir h)), λ h. let s : q ∷ h.0 ≡ [] = h.1 in cc);
-  lasts = λ p. (λ h. absurd (contains_none p (let P : List ℕ → Type 0 = λ xs. Contains xs p in subst P las h)), λ h. absurd (middle_is_some h.0 p [] h.1));
-  repeats = λ h. absurd (not_true made.repeats rep h);
-  owed = λ p q h. absurd (contains_none h.0 (let P : List Crossing → Type 0 = λ xs. Contains xs h.0 in subst P owe h.1));
-  listed = λ p q low high h. absurd (omega arith);
-  whole = λ p q h. absurd (middle_is_some h.0 p (q ∷ h.1) h.2);
-}
 
 -- a letter at a place
 module _ (n : ℕ) (made : Fragment) (null : made.nullable ≡ false) (rep : made.repeats ≡ false) (fir : made.firsts.items ≡ n ∷ []) (las : made.lasts.items ≡ n ∷ []) (owe : made.owed.items ≡ []) (rows : List (List ℕ)) (row : slice_index_or rows n [] ≡ []) where
@@ -175,9 +163,6 @@ module _ (left right made : Fragment) (between before behind : List Crossing) (o
 
     listed_of : (p q : ℕ) → Follows old p q → Follows new p q
     listed_of p q h = j.settles_right.kept p q (j.settles_left.kept p q (j.crossed.kept p q h))
-
-    first_in : (q : ℕ) → IsFirst is_e q → IsFirst (follow is_e is_f) q
-    first_in q h = first_in_left is_e is_f q h
 
     owes : (p q : ℕ) → Crosses made.owed.items p q → IsLast (follow is_e is_f) p × IsFirst (follow is_e is_f) q × IsNext (follow is_e is_f) p q
     owes p q h =

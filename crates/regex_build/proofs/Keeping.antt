@@ -4,6 +4,7 @@ use Rattle.std.specs.Prelude.{ℤ, pos, nat_lt, ◌==◌, Contains, ⊤}
 use Rattle.std.specs.List.{AllByRecursion}
 use Rattle.std.proofs.lemmas.List.{length-append}
 use Rattle.std.proofs.lemmas.Bool.Decides.{nat_tests}
+use Rattle.digit_tuple.proofs.AllLemmas.{all_append}
 use Rattle.regex_build.specs.declared.postfix_symbol.PostfixSymbol.{PostfixSymbol}
 use Rattle.regex_build.specs.declared.postfix_symbol.PostfixSymbol.TheVariants as kinds
 use Rattle.regex_build.specs.declared.reading.Group.{Group}
@@ -15,7 +16,7 @@ use Rattle.regex_build.specs.Patterns.{AreMembers, IsOver}
 use Rattle.regex_build.specs.Limits.{Around, behind, set_at, IsAllowed}
 use Rattle.regex_build.specs.Machine.{State, gate, symbol_if, pushed, followed, joined, is_fresh, close, enter, step, in_bracket}
 use Rattle.regex_build.specs.Reading.{around}
-use Rattle.regex_build.proofs.ListSteps.{all-append, contains_none}
+use Rattle.regex_build.proofs.ListSteps.{contains_none}
 use Rattle.regex_build.proofs.Runs.{st}
 
 -- the numbers are members of the first sets
@@ -55,7 +56,7 @@ gated sets s inside t true o h = h refl
 gated sets s inside t false o h = tt
 
 pushed_over : (sets : List (List ℤ)) (ss : List PostfixSymbol) (x : PostfixSymbol) → IsOver sets x → AllByRecursion (IsOver sets) ss → AllByRecursion (IsOver sets) (ss ++ x ∷ [])
-pushed_over sets ss x h k = all-append (IsOver sets) ss (x ∷ []) k (h, tt)
+pushed_over sets ss x h k = all_append (IsOver sets) ss (x ∷ []) k (h, tt)
 
 if_over : (sets : List (List ℤ)) (b : Bool) (ss : List PostfixSymbol) (x : PostfixSymbol) → IsOver sets x → AllByRecursion (IsOver sets) ss → AllByRecursion (IsOver sets) (symbol_if b x ss)
 if_over sets true ss x h k = pushed_over sets ss x h k

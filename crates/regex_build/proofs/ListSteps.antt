@@ -41,10 +41,6 @@ middle-append (y ∷ u) x v (z ∷ a) b h =
       | inr p ↦ inr (record { rest = p.rest; before = let f : u ≡ a ++ p.rest = p.before in cc; second = p.second })
     ]
 
-pub all-append : {X : Type 0} (P : X → Type 0) (xs ys : List X) → AllByRecursion P xs → AllByRecursion P ys → AllByRecursion P (xs ++ ys)
-all-append P [] ys h k = k
-all-append P (x ∷ xs) ys h k = (h.0, all-append P xs ys h.1 k)
-
 pub joined-append : {X : Type 0} (xs ys : List (List X)) → joined (xs ++ ys) ≡ joined xs ++ joined ys
 joined-append [] ys = refl
 joined-append (x ∷ xs) ys = ap (λ w. x ++ w) (joined-append xs ys) ∙ sym (append_assoc x (joined xs) (joined ys))
@@ -60,18 +56,6 @@ zip-weaker R S f [] [] h = tt
 zip-weaker R S f [] (y ∷ ys) h = absurd h
 zip-weaker R S f (x ∷ xs) [] h = absurd h
 zip-weaker R S f (x ∷ xs) (y ∷ ys) h = (f x y h.0, zip-weaker R S f xs ys h.1)
-
--- what stands beside the same elements is the same, where an element has one thing beside it
-pub zip-same : {X Y : Type 0} (R : X → Y → Type 0) → ((x : X) (y z : Y) → R x y → R x z → y ≡ z) → (xs : List X) (ys zs : List Y) → AllZip R xs ys → AllZip R xs zs → ys ≡ zs
-zip-same R f [] [] [] h k = refl
-zip-same R f [] [] (z ∷ zs) h k = absurd k
-zip-same R f [] (y ∷ ys) zs h k = absurd h
-zip-same R f (x ∷ xs) [] zs h k = absurd h
-zip-same R f (x ∷ xs) (y ∷ ys) [] h k = absurd k
-zip-same R f (x ∷ xs) (y ∷ ys) (z ∷ zs) h k =
-    let a : y ≡ z = f x y z h.0 k.0 in
-    let b : ys ≡ zs = zip-same R f xs ys zs h.1 k.1 in
-    cc
 
 -- three lists side by side
 pub zip-through : {X Y Z : Type 0} (R : X → Y → Type 0) (S : Z → Y → Type 0) (T : X → Z → Type 0) → ((x : X) (y : Y) (z : Z) → R x y → S z y → T x z)
@@ -120,10 +104,6 @@ zip_at R [] (b ∷ ys) i x y h l = absurd h
 zip_at R (a ∷ xs) [] i x y h l = absurd h
 zip_at R (a ∷ xs) (b ∷ ys) zero x y h l = h.0
 zip_at R (a ∷ xs) (b ∷ ys) (suc i) x y h l = zip_at R xs ys i x y h.1 (omega arith)
-
-pub all_weaker : {X : Type 0} (P Q : X → Type 0) → ((x : X) → P x → Q x) → (xs : List X) → AllByRecursion P xs → AllByRecursion Q xs
-all_weaker P Q f [] h = tt
-all_weaker P Q f (x ∷ xs) h = (f x h.0, all_weaker P Q f xs h.1)
 
 -- what stands beside two lists, one behind the other
 pub record ZipParts {X Y : Type 0} (R : X → Y → Type 0) (xs us : List X) (ys : List Y) : Type 0 where

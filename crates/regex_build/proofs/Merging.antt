@@ -1,10 +1,11 @@
 -- Words over the places that pass through one place may be crossed there, so such a word is told by its pairs of neighbours.
 use Rattle.std.proofs.Common.{◌≡◌, ℕ, zero, suc, ◌+◌, List, [], ◌∷◌, ◌++◌, length, inl, inr, refl, sym, ap, ◌∙◌, subst, arith, append_assoc}
 use Rattle.std.specs.List.{AllByRecursion}
+use Rattle.digit_tuple.proofs.AllLemmas.{all_append}
 use Rattle.regex_build.specs.Expression.{Expression, empty, letter, any, either, follow, star, plus, optional, occurrences_in, placed}
 use Rattle.regex_build.specs.Matches.{Matches, joined}
 use Rattle.regex_build.specs.Positions.{ComesNext, MayEnd}
-use Rattle.regex_build.proofs.ListSteps.{middle_is_some, middle_of_one, middle-append, all-append, joined-append}
+use Rattle.regex_build.proofs.ListSteps.{middle_is_some, middle_of_one, middle-append, joined-append}
 use Rattle.regex_build.proofs.PlaceWords.{IsWithin, place_within}
 
 -- the piece in which an element stands, and the pieces round it
@@ -111,7 +112,7 @@ merged {L} n (star e) place u v s t a b =
     let q = in_piece (Matches (placed n e)) b.0 s place t b.2 b.1 in (
       p.pieces ++ (p.first ++ place ∷ q.last) ∷ q.more,
       ap (λ w. w ++ place ∷ t) p.before ∙ (ap (λ w. (joined p.pieces ++ p.first) ++ place ∷ w) q.after ∙ crossed p.pieces p.first place q.last q.more),
-      all-append (Matches (placed n e)) p.pieces ((p.first ++ place ∷ q.last) ∷ q.more) p.all_before (merged n e place p.first p.last q.first q.last p.here q.here, q.all_after),
+      all_append (Matches (placed n e)) p.pieces ((p.first ++ place ∷ q.last) ∷ q.more) p.all_before (merged n e place p.first p.last q.first q.last p.here q.here, q.all_after),
     )
 merged {L} n (plus e) place u v s t a b =
     let p = in_piece (Matches (placed n e)) a.0 u place v a.3 a.2 in
@@ -119,7 +120,7 @@ merged {L} n (plus e) place u v s t a b =
       p.pieces ++ (p.first ++ place ∷ q.last) ∷ q.more,
       middle_is_some p.pieces (p.first ++ place ∷ q.last) q.more,
       ap (λ w. w ++ place ∷ t) p.before ∙ (ap (λ w. (joined p.pieces ++ p.first) ++ place ∷ w) q.after ∙ crossed p.pieces p.first place q.last q.more),
-      all-append (Matches (placed n e)) p.pieces ((p.first ++ place ∷ q.last) ∷ q.more) p.all_before (merged n e place p.first p.last q.first q.last p.here q.here, q.all_after),
+      all_append (Matches (placed n e)) p.pieces ((p.first ++ place ∷ q.last) ∷ q.more) p.all_before (merged n e place p.first p.last q.first q.last p.here q.here, q.all_after),
     )
 merged {L} n (optional e) place u v s t a b =
     elim a [

@@ -131,9 +131,6 @@ star_from_plus e w m = (m.0, m.2, m.3)
 pub plus_from_one : (e : Expression ℕ) (w : List ℕ) → Matches e w → Matches (plus e) w
 plus_from_one e w m = (w ∷ [], (λ h. cc), sym (append-nil w), (m, tt))
 
-pub plus_from_star : (e : Expression ℕ) (x : ℕ) (u v : List ℕ) → Matches (star e) (u ++ x ∷ v) → Matches (plus e) (u ++ x ∷ v)
-plus_from_star e x u v m = (m.0, (λ h. middle_is_some u x v (m.1 ∙ ap joined h)), m.1, m.2)
-
 pub nullable_of_plus : (e : Expression ℕ) → Matches (plus e) [] → Matches e []
 nullable_of_plus e m = from m.0 m.1 m.2 m.3
   where

@@ -2,9 +2,10 @@
 use Rattle.std.proofs.Common.{◌≡◌, ◌≢◌, ℕ, ◌+◌, ◌<◌, ◌≤◌, List, [], ◌∷◌, ◌++◌, length, ◌⊎◌, inl, inr, refl, sym, ap, ◌∙◌, subst, arith, Option, None, Some}
 use Rattle.std.specs.List.{AllByRecursion, AllZip}
 use Rattle.std.proofs.lemmas.List.{length-append}
+use Rattle.digit_tuple.proofs.AllLemmas.{all_append, all_weaker}
 use Rattle.regex_build.specs.Expression.{Expression, empty, letter, any, either, follow, star, plus, optional, occurrences_in, placed}
 use Rattle.regex_build.specs.Matches.{Matches, joined}
-use Rattle.regex_build.proofs.ListSteps.{all-append, zip-append, zip-weaker, all_weaker, zip_parts, zip_weaker_where}
+use Rattle.regex_build.proofs.ListSteps.{zip-append, zip-weaker, zip_parts, zip_weaker_where}
 
 -- the letter may stand at the occurrence
 abbrev pub Allows : {L : Type 0} → Option L → L → Type 0
@@ -84,7 +85,7 @@ AreWithin low high places = AllByRecursion (IsWithin low high) places
 
 within_of_pieces : (low high : ℕ) (pieces : List (List ℕ)) → AllByRecursion (AreWithin low high) pieces → AreWithin low high (joined pieces)
 within_of_pieces low high [] h = tt
-within_of_pieces low high (piece ∷ pieces) h = all-append (IsWithin low high) piece (joined pieces) h.0 (within_of_pieces low high pieces h.1)
+within_of_pieces low high (piece ∷ pieces) h = all_append (IsWithin low high) piece (joined pieces) h.0 (within_of_pieces low high pieces h.1)
 
 pub places_within : {L : Type 0} (n : ℕ) (e : Expression L) (w : List ℕ) → Matches (placed n e) w → AreWithin n (n + length (occurrences_in e)) w
 places_within n empty w m = let P : List ℕ → Type 0 = λ v. AreWithin n (n + 0) v in subst P (sym m) tt
@@ -102,7 +103,7 @@ places_within n (follow e f) w m =
     let l : length (occurrences_in e ++ occurrences_in f) ≡ length (occurrences_in e) + length (occurrences_in f) = length-append (occurrences_in e) (occurrences_in f) in
     let high : ℕ = n + length (occurrences_in e ++ occurrences_in f) in
     let P : List ℕ → Type 0 = λ v. AreWithin n high v in
-    subst P (sym m.2) (all-append (IsWithin n high) m.0 m.1
+    subst P (sym m.2) (all_append (IsWithin n high) m.0 m.1
     (all_weaker (IsWithin n (n + length (occurrences_in e))) (IsWithin n high) (within_wider n (n + length (occurrences_in e)) n high (omega arith) (omega arith)) m.0 (places_within n e m.0 m.3))
     (all_weaker (IsWithin (n + length (occurrences_in e)) (n + length (occurrences_in e) + length (occurrences_in f))) (IsWithin n high)
     (within_wider (n + length (occurrences_in e)) (n + length (occurrences_in e) + length (occurrences_in f)) n high (omega arith) (omega arith)) m.1 (places_within (n + length (occurrences_in e)) f m.1 m.4)))

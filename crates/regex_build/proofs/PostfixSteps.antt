@@ -79,7 +79,7 @@ counts_other Optional waiting a b c d e = one
     one (x ∷ []) h = h
     one (x ∷ y ∷ stack) h = h
 
-stacked-push : (stack : List (Expression (List ℤ))) (symbols : List PostfixSymbol) (symbol : PostfixSymbol) → stacked stack (symbols ++ symbol ∷ []) ≡ after_symbol (stacked stack symbols) symbol
+pub stacked-push : (stack : List (Expression (List ℤ))) (symbols : List PostfixSymbol) (symbol : PostfixSymbol) → stacked stack (symbols ++ symbol ∷ []) ≡ after_symbol (stacked stack symbols) symbol
 stacked-push stack [] symbol = refl
 stacked-push stack (s ∷ symbols) symbol = stacked-push (after_symbol stack s) symbols symbol
 

@@ -15,6 +15,7 @@ use Rattle.regex_build.specs.Waiting.{AreWaiting, Waits, IsWaiting, Takes, AddsO
 use Rattle.regex_build.proofs.ListSteps.{middle_is_some, same_ends}
 use Rattle.regex_build.proofs.PlaceWords.{IsWithin}
 use Rattle.regex_build.proofs.FragmentSteps.{last_within, next_within}
+use Rattle.regex_build.proofs.PostfixSteps.{stacked-push}
 
 -- a fragment of places whose lists are as before
 kept_fragment : (n : ℕ) (e : Expression (List ℤ)) (fragment : Fragment) (old new : List (List ℕ)) → IsFragment n e fragment old → IsKeptBelow (n + length (occurrences_in e)) old new → IsFragment n e fragment new
@@ -249,14 +250,6 @@ rows_of_two old popped left right rows e waiting = from waiting.0 waiting.1
         let te : length rows ≡ t.n + length (occurrences_in y) = t.end in
         let ue : t.n ≡ u.n + length (occurrences_in x) = u.end in
         (rows_of_fragment u.n x left rows (length rows) u.top (omega arith), rows_of_fragment t.n y right rows (length rows) t.top (omega arith))
-
--- the symbols taken so far
-stacked-push : (stack : List (Expression (List ℤ))) (symbols : List PostfixSymbol) (symbol : PostfixSymbol) → stacked stack (symbols ++ symbol ∷ []) ≡ after_symbol (stacked stack symbols) symbol
-stacked-push stack [] symbol = refl
-stacked-push stack (s ∷ symbols) symbol = stacked-push (after_symbol stack s) symbols symbol
-
-pub waits_first : (rows : List (List ℕ)) (fragments : List Fragment) → length rows ≡ 1 → fragments ≡ [] → Waits [] fragments rows
-waits_first rows fragments l e = (e, l)
 
 pub waits_next : (symbols : List PostfixSymbol) (i : ℕ) (symbol : PostfixSymbol) (old new : List Fragment) (rows more : List (List ℕ)) → i < length symbols → symbol ≡ slice_index_or symbols i symbol → Waits (stacked [] (take i symbols)) old rows → Takes old rows symbol new more
     → Waits (stacked [] (take (i + 1) symbols)) new more

@@ -40,15 +40,6 @@ passes-then old mid new told between now a b p q = record {
   room_is = omega (arith, p.room_is, q.room_is, length-append a b);
 }
 
-pub passes-advance : (n : ℕ) (old : Kept) (told : SourceView) → n ≤ length old.held → n ≤ old.room → Passes old told (advance n old) told (take n old.held)
-passes-advance n old told held room = record {
-  pieces = [];
-  given = gives-none told;
-  split = append-nil old.held ∙ sym (take-append-drop n old.held);
-  line_is = refl;
-  room_is = omega (arith, length-take-le n old.held held);
-}
-
 -- bytes that are held already
 pub supplied-held : (old : Kept) (told : SourceView) → IsSupplied old told old told
 unfolding passes-none

@@ -10,7 +10,8 @@ use Rattle.formula_resolve.specs.declared.file.File.TheVariants.{Automaton, Word
 use Rattle.definitions.specs.TreeMeanings.{chosen}
 use Rattle.definitions.specs.Trees.{Tree, Entry, Ledger, Bindings, bound, tree_of, with_entry, with_file}
 use Rattle.session_cli.specs.TableReads.{TableRead, ARelation, AWord}
-use Rattle.session_cli.proofs.TableFiles.{same_itself, same_files, IsOther, once_other, once_rest}
+use Rattle.session_cli.proofs.TableFiles.{same_itself, IsOther, once_other, once_rest}
+use Rattle.formula_build.proofs.ReadFormulas.{same_file as same_files}
 
 -- the file under whose name something was read
 abbrev pub file_of : TableRead → formula_file.File

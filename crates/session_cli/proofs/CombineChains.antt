@@ -1,5 +1,5 @@
 -- From what each part of the code makes of listed automata to what all checks of their command make.
-use Rattle.std.proofs.Common.{◌≡◌, ℕ, Bool, false, List, [], None, Result, Ok, Err, inl, inr, refl, sym, ap, ◌∙◌}
+use Rattle.std.proofs.Common.{◌≡◌, ℕ, Bool, List, [], None, Result, Ok, Err, inl, inr, sym, ap, ◌∙◌}
 use Rattle.wal_outside.specs.Files.{Files}
 use Rattle.wal_outside.specs.Places.{Place}
 use Rattle.wal_outside.specs.declared.folder.Folder.TheVariants.{Words}
@@ -30,7 +30,6 @@ use Rattle.session_cli.specs.CombineOutcomes.{WordTracks, PlainAnswers, ShapeAns
 use Rattle.session_cli.specs.FileChecks.{FilesAnswers, files_loaded}
 use Rattle.session_cli.specs.HeadAnswers.{HeadAnswers, fault_of_head}
 use Rattle.session_cli.specs.Plans.{Makes, Plans}
-use Rattle.session_cli.specs.Runs.{is_store_fault}
 use Rattle.session_cli.specs.SystemChecks.{SystemsAnswers, systems_known}
 use Rattle.session_cli.proofs.CheckSteps.{fails_first, fails_after, makes_after, plans_after}
 use Rattle.session_cli.proofs.CommandSteps.{files_store}
@@ -43,12 +42,6 @@ pub list_broken : (limit : ℕ) (ledger : Ledger) (text : List ℕ) (fault : Hea
 list_broken limit ledger text (head_faults.Syntax at) breaks = fails_first (Pure (HeadAnswers SpellsCombine text)) (λ head. after_combine_head limit ledger head) (faults.Syntax grammars.Command at) breaks
 list_broken limit ledger text (head_faults.Number at) breaks = fails_first (Pure (HeadAnswers SpellsCombine text)) (λ head. after_combine_head limit ledger head) (faults.Number grammars.Command at) breaks
 list_broken limit ledger text head_faults.Memory breaks = tt
-
--- a fault of a head is none of the store
-pub own_head : (fault : HeadFault) → is_store_fault (fault_of_head fault) ≡ false
-own_head (head_faults.Syntax at) = refl
-own_head (head_faults.Number at) = refl
-own_head head_faults.Memory = refl
 
 -- what is accepted stands among words, under the name of the head
 record IsWordAt (head : CombineHead) (success : Success) : Type 0 where

@@ -1,7 +1,7 @@
 -- The header of what a file lists: a line of the file is read so, and its systems have one direction. A word's file is read as a relation's
 -- would be.
 use Rattle.std.proofs.Common.{◌≡◌, ℕ, zero, suc, ◌+◌, ◌<◌, Bool, true, false, ◌&&◌, ◌||◌, cond, eqb, List, [], ◌∷◌, length, take, drop, get_or, Option, None, Some, Result, Ok, Err, bytes_eq, refl, sym, ap, ◌∙◌, subst, arith}
-use Rattle.std.specs.Prelude.{ok_or, option_map, codes, nat_le}
+use Rattle.std.specs.Prelude.{ok_or, codes, nat_le}
 use Rattle.std.specs.List.{AllByRecursion, list_all}
 use Rattle.std.proofs.lemmas.Bool.{eqb-true}
 use Rattle.std.proofs.lemmas.Slice.Eq.{bytes_eq-Decides}
@@ -11,11 +11,11 @@ use Rattle.text_grammar.specs.Bytes.{is_alphanumeric}
 use Rattle.text_grammar.specs.Systems.{is_system, is_direction}
 use Rattle.dfa_reading.specs.Systems.{system_of, directs_as, of_one_direction, systems_of}
 use Rattle.dfa_reading.specs.Listed.{Listed}
-use Rattle.dfa_reading.specs.Entries.{Entry, State, Line, entry_of}
-use Rattle.dfa_reading.specs.Reading.{Draft, no_draft, with_header, with_state, with_line, has_number, add_entry, add_to, add_line, add_lines_by, add_lines, then_read, placed_lines, lists, finish_with, finish, relation_of}
+use Rattle.dfa_reading.specs.Reading.{Draft, no_draft, add_line, add_lines_by, add_lines, then_read, placed_lines, lists, finish_with, finish, relation_of}
 use Rattle.dfa_reading.specs.WordFiles.{is_word, kept_word, add_word_line, word_of}
 use Rattle.dfa_reading.proofs.Drafts.{then_ok, ok_some}
-use Rattle.dfa_reading.proofs.Options.{bind_some, map_some, cond_some, cond_some-then, each_holds}
+use Rattle.dfa_reading.proofs.Options.{bind_some, cond_some-then, each_holds}
+use Rattle.dfa_reading.proofs.ReadWords.{IsHeaded, line_headed, line_of_systems, lines_kept}
 use Rattle.digit_tuple.specs.declared.direction.Direction.TheVariants.{Msd, Lsd}
 use Rattle.formula_parse.specs.Tokens.{Name}
 use Rattle.formula_resolve.specs.Directions.{is_lsd}
@@ -28,44 +28,6 @@ use Rattle.formula_build.specs.Solutions.{way_named}
 -- a line is read as this header
 abbrev pub IsHeaderOfLine : Header → Type 0
 IsHeaderOfLine header = (line : List ℕ) × (header_of line ≡ Some header)
-
--- the header of a draft, where it has one, is that of a line
-abbrev IsHeaded : Draft → Type 0
-IsHeaded draft = (header : Header) → draft.header ≡ Some header → IsHeaderOfLine header
-
-entry_headed : (at : ℕ) (draft next : Draft) (entry : Entry) → add_entry at draft entry ≡ Some next → IsHeaded draft → IsHeaded next
-entry_headed at draft next (State n output) h is =
-    let added = cond_some (has_number draft.numbers n) (Some (with_state draft n output)) next h in
-    let same : with_state draft n output ≡ next = let e : Some (with_state draft n output) ≡ Some next = added.1 in cc in
-    subst IsHeaded same is
-entry_headed at draft next (Line digits targets) h is =
-    let added = cond_some (eqb (length draft.outputs) 0) (Some (with_line at draft digits targets)) next h in
-    let same : with_line at draft digits targets ≡ next = let e : Some (with_line at draft digits targets) ≡ Some next = added.1 in cc in
-    subst IsHeaded same is
-
-to_headed : (at : ℕ) (draft next : Draft) (line : List ℕ) (header : Option Header) → add_to at draft line header ≡ Some next → IsHeaded draft → IsHeaded next
-to_headed at draft next line None h is =
-    let read = map_some (header_of line) (with_header draft) next h in
-    let first : IsHeaded (with_header draft read.0) = λ other there. let same : read.0 ≡ other = let e : Some read.0 ≡ Some other = there in cc in (line, read.1 ∙ ap Some same) in
-    subst IsHeaded read.2 first
-to_headed at draft next line (Some header) h is =
-    let below = cond_some-then (has_states header) (entry_of (digits_in header) line >>= add_entry at draft) next h in
-    let read = bind_some (entry_of (digits_in header) line) (add_entry at draft) next below.1 in
-    entry_headed at draft next read.0 read.2 is
-
-line_headed : (at : ℕ) (draft next : Draft) (line : List ℕ) → add_line at draft line ≡ Some next → IsHeaded draft → IsHeaded next
-unfolding add_line
-line_headed at draft next line h is = by (is_passed line) h
-  where
-    by : (b : Bool) → cond b (Some draft) (add_to at draft line draft.header) ≡ Some next → IsHeaded next
-    by true e = let same : draft ≡ next = let f : Some draft ≡ Some next = e in cc in subst IsHeaded same is
-    by false e = to_headed at draft next line draft.header e is
-
-lines_headed : (at : ℕ) (draft last : Draft) (lines : List (List ℕ)) → add_lines at draft lines ≡ Ok last → IsHeaded draft → IsHeaded last
-lines_headed at draft last [] h is = let same : draft ≡ last = let e : Ok draft ≡ Ok last = h in cc in subst IsHeaded same is
-lines_headed at draft last (line ∷ lines) h is =
-    let first = then_ok (ok_or (add_line at draft line) at) (λ next. add_lines (at + 1) next lines) last h in
-    lines_headed (at + 1) first.0 last lines first.2 (line_headed at draft first.0 line (ok_some (add_line at draft line) at first.0 first.1) is)
 
 lists_header : (header : Header) (draft : Draft) (listed : Listed) → lists header draft ≡ Ok listed → listed.header ≡ header
 lists_header header draft listed h =
@@ -87,23 +49,7 @@ pub header_of_line : (text : List ℕ) (listed : Listed) → relation_of text �
 unfolding relation_of
 header_of_line text listed h =
     let read = then_ok (add_lines 1 no_draft (lines_of text)) (finish (line_after (lines_of text))) listed h in
-    lines_headed 1 no_draft read.0 (lines_of text) read.1 (λ header none. let e : None ≡ Some header = none in absurd (cc)) listed.header (finished_header (line_after (lines_of text)) read.0.header read.0 listed read.2)
-
--- a header of systems is a line of them
-or_else_some : {A : Type 0} (o other : Option A) (x : A) (P : Type 0) → (o ≡ Some x → P) → (other ≡ Some x → P) → or_else o other ≡ Some x → P
-or_else_some None other x P first second h = second h
-or_else_some (Some y) other x P first second h = first h
-
-line_of_systems : (line : List ℕ) (names : List (List ℕ)) → header_of line ≡ Some (Systems names) → systems_of line ≡ Some names
-unfolding header_of
-line_of_systems line names h =
-    or_else_some (option_map Truth (truth_of line)) (or_else (option_map Systems (systems_of line)) (option_map Sets (sets_of line))) (Systems names) (systems_of line ≡ Some names)
-    (λ e. let read = map_some (truth_of line) Truth (Systems names) e in let other : Truth read.0 ≡ Systems names = read.2 in absurd (cc))
-    (λ rest. or_else_some (option_map Systems (systems_of line)) (option_map Sets (sets_of line)) (Systems names) (systems_of line ≡ Some names)
-    (λ e. let read = map_some (systems_of line) Systems (Systems names) e in let same : read.0 ≡ names = let s : Systems read.0 ≡ Systems names = read.2 in cc in read.1 ∙ ap Some same)
-    (λ e. let read = map_some (sets_of line) Sets (Systems names) e in let other : Sets read.0 ≡ Systems names = read.2 in absurd (cc))
-    rest)
-    h
+    lines_kept IsHeaded add_line line_headed 1 no_draft read.0 (lines_of text) read.1 (λ header none. let e : None ≡ Some header = none in absurd (cc)) listed.header (finished_header (line_after (lines_of text)) read.0.header read.0 listed read.2)
 
 -- the first byte of a name tells whether it begins with `lsd_`, of those that begin with a direction
 abbrev tells_lsd : List ℕ → Bool

@@ -1,5 +1,5 @@
 -- From what each part of the code makes of an image to what all checks of its command make.
-use Rattle.std.proofs.Common.{◌≡◌, ℕ, Bool, false, List, [], length, Result, Ok, Err, inl, inr, refl, sym, ap, ◌∙◌}
+use Rattle.std.proofs.Common.{◌≡◌, ℕ, Bool, List, [], length, Result, Ok, Err, inl, inr, sym, ap, ◌∙◌}
 use Rattle.wal_outside.specs.Files.{Files}
 use Rattle.wal_outside.specs.Places.{Place}
 use Rattle.wal_outside.specs.declared.folder.Folder.TheVariants.{Words}
@@ -35,7 +35,6 @@ use Rattle.session_cli.specs.ImageMakes.{IsReadImage, MakesAfterOldSystems, head
 use Rattle.session_cli.specs.ImageOutcomes.{WordTrack, OneTrackAnswers, LengthsAnswers, TrackAnswers, ImagedAnswers, OldAnswers, old_mentions, image_success, after_image_steps, after_track, after_lengths, after_one_track, after_old_systems, after_old_table, after_image_morphism, after_image_head, image_checks}
 use Rattle.session_cli.specs.MorphismChecks.{MorphismAnswers, morphism_loaded}
 use Rattle.session_cli.specs.Plans.{Makes, Plans}
-use Rattle.session_cli.specs.Runs.{is_store_fault}
 use Rattle.session_cli.specs.SystemChecks.{SystemsAnswers, systems_known}
 use Rattle.session_cli.proofs.CheckSteps.{fails_first, fails_after, makes_after, plans_after}
 use Rattle.session_cli.proofs.CommandSteps.{files_store}
@@ -48,12 +47,6 @@ pub image_broken : (limit : ℕ) (ledger : Ledger) (text : List ℕ) (fault : He
 image_broken limit ledger text (head_faults.Syntax at) breaks = fails_first (Pure (HeadAnswers SpellsImage text)) (λ head. after_image_head limit ledger head) (faults.Syntax grammars.Command at) breaks
 image_broken limit ledger text (head_faults.Number at) breaks = fails_first (Pure (HeadAnswers SpellsImage text)) (λ head. after_image_head limit ledger head) (faults.Number grammars.Command at) breaks
 image_broken limit ledger text head_faults.Memory breaks = tt
-
--- a fault of a head is none of the store
-pub own_image_head : (fault : HeadFault) → is_store_fault (fault_of_head fault) ≡ false
-own_image_head (head_faults.Syntax at) = refl
-own_image_head (head_faults.Number at) = refl
-own_image_head head_faults.Memory = refl
 
 -- what is accepted stands among words, under the name of the head
 record IsImageAt (head : ImageHead) (success : Success) : Type 0 where

@@ -7,14 +7,14 @@ use Rattle.wal_outside.specs.Views.{StoreView}
 use Rattle.wal_outside.specs.declared.folder.Folder.{Folder}
 use Rattle.wal_outside.specs.declared.folder.Folder.TheVariants.{Automata, Words, Bases, Macros, Morphisms, Transducers, Results, Commands}
 use Rattle.dfa_loading.specs.Loading.{AreListedBy, FirstRefuses, ReadsAt}
-use Rattle.dfa_loading.specs.Places.{IsCausedBy, IsListedBy, Refuses}
+use Rattle.dfa_loading.specs.Places.{IsListedBy, Refuses}
 use Rattle.dfa_loading.specs.declared.fault.LoadFault.{LoadFault}
 use Rattle.dfa_loading.specs.declared.fault.LoadFault.TheVariants as loads
 use Rattle.dfa_loading.specs.declared.loaded.Loaded.{Loaded}
 use Rattle.formula_resolve.specs.declared.file.File.{File}
 use Rattle.formula_resolve.specs.declared.file.File.TheVariants.{Automaton, Word}
 use Rattle.morph_words.specs.Rules.{Rules}
-use Rattle.morphism_loading.specs.MorphismFiles.{FailsMorphism, IsLoadedMorphism, IsMorphismIn}
+use Rattle.morphism_loading.specs.MorphismFiles.{IsLoadedMorphism, IsMorphismIn}
 use Rattle.definitions.specs.Texts.{Stores}
 use Rattle.definitions.specs.Trees.{Ledger}
 use Rattle.session_cli.specs.declared.fault.Fault.{Fault}
@@ -23,8 +23,10 @@ use Rattle.session_cli.specs.Checks.{Fails}
 use Rattle.session_cli.specs.FormulaFaults.{fault_of_loading}
 use Rattle.session_cli.specs.FormulaPlans.{AreUnloaded, LoadsTables}
 use Rattle.session_cli.specs.MorphismChecks.{morphism_loaded}
-use Rattle.session_cli.specs.StoreReads.{IsReadFault, HasRead, FromFiles}
+use Rattle.session_cli.specs.StoreReads.{HasRead, FromFiles}
 use Rattle.session_cli.proofs.TextReads.{reads_both}
+use Rattle.session_cli.proofs.LoadedFiles.{caused_so}
+use Rattle.session_cli.proofs.LoadedMorphisms.{morphism_unloaded}
 
 -- the files with the morphisms of others
 abbrev pub with_morphisms : Files → Files → Files
@@ -127,24 +129,11 @@ then_tables name rules named old mid new r first second =
     let read : HasRead {X = Rules} old (Ok rules) mid = record { files = first.has_read.files; later = first.has_read.later; cause = first.has_read.cause } in
     record { found = c.found; told = c.told_so; gives = (c.first, c.second); has_read = reads_both old mid new rules r read second.has_read }
 
-caused_so : (f : LoadFault) (old new : StoreView) → IsCausedBy f old new → IsReadFault (fault_of_loading f) old new
-caused_so (loads.Unknown folder name) old new is = is
-caused_so (loads.File folder name flaw) old new is = is
-caused_so (loads.Store folder name) old new is = is
-caused_so loads.Memory old new is = is
-
--- a morphism that is not loaded refuses a command
-unloaded_morphism : (ledger : Ledger) (files : Files) (name : List ℕ) (f : LoadFault) → Stores ledger files → FailsMorphism files name f → Fails (morphism_loaded ledger name) (fault_of_loading f)
-unloaded_morphism ledger files name (loads.Unknown folder at) stores fails = (files, stores, fails)
-unloaded_morphism ledger files name (loads.File folder at flaw) stores fails = (files, stores, fails)
-unloaded_morphism ledger files name (loads.Store folder at) stores fails = fails
-unloaded_morphism ledger files name loads.Memory stores fails = tt
-
 pub from_no_morphism : {X : Type 0} (Gives : Files → Result X Fault → Type 0) (name : List ℕ) (old new : StoreView) (f : LoadFault) → IsLoadedMorphism name old (Err f) new
     → ((found : Files) → ((ledger : Ledger) → Stores ledger found → Fails (morphism_loaded ledger name) (fault_of_loading f)) → Gives found (Err (fault_of_loading f))) → FromFiles Gives old (Err (fault_of_loading f)) new
 from_no_morphism Gives name old new f l so = record {
   found = l.found;
   told = l.told;
-  gives = so l.found (λ ledger stores. unloaded_morphism ledger l.found name f stores l.gives);
+  gives = so l.found (λ ledger stores. morphism_unloaded ledger l.found name f stores l.gives);
   has_read = record { files = l.has_read.files; later = l.has_read.later; cause = caused_so f old new l.has_read.cause };
 }

@@ -11,7 +11,7 @@ use Rattle.number_relations.specs.Relations.{IsRelation, RelationHolds, Relation
 use Rattle.formula_parse.specs.Tokens.{Name}
 use Rattle.formula_build.specs.Libraries.{NamedSystem, meanings_of, word_named}
 use Rattle.combinations.specs.Parts.{PartValue, systems_at}
-use Rattle.combinations.specs.Combined.{AreSystemsFor, IsCombination, IsCombined}
+use Rattle.combinations.specs.Combined.{IsCombination, IsCombined}
 use Rattle.combinations.specs.Shapes.{HaveSameTracks, IsShapeFault}
 use Rattle.combinations.proofs.CombinedLemmas.{some_combined}
 use Rattle.word_images.specs.ImageFormula.{word_name}
@@ -119,10 +119,6 @@ parts_over : (t : Setting) (s : Name) (k : ℕ) (system : SystemValue) → (libr
 parts_over t s k system is [] are i inside = absurd (omega (arith, inside))
 parts_over t s k system is (part ∷ parts) are zero inside = are.0.systems ∙ ap (λ (v : SystemValue). v ∷ []) (ap (λ (ss : List NamedSystem). (get_or ss 0 (record { name = s; system = system })).system) (sym are.0.system_is ∙ is))
 parts_over t s k system is (part ∷ parts) are (suc i) inside = parts_over t s k system is parts are.1 i (omega (arith, inside))
-
-pub systems_for : (t : Setting) (s : Name) (k : ℕ) (system : SystemValue) (parts : List PartValue) → (library_in t).systems ≡ record { name = s; system = system } ∷ [] → AreLetterParts t s k parts → AreSystemsFor parts (system ∷ [])
-systems_for t s k system [] is are = (omega arith, (refl, tt))
-systems_for t s k system (part ∷ parts) is are = sym (parts_over t s k system is (part ∷ parts) are 0 (omega arith))
 
 same_tracks : (ss ts : List SystemValue) → ss ≡ ts → HaveSameTracks ss ts
 same_tracks ss ts same = subst (HaveSameTracks ss) same (record { count = refl; each = λ track inside. record { digits = refl; way = refl; language = λ w over. refl } })

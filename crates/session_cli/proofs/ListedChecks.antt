@@ -18,16 +18,6 @@ AreNotPlain h automata = AllByRecursion (λ (v : valued.ValuedName). is_plain h 
 abbrev pub AreOver : Headers → List (List ℕ) → List valued.ValuedName → Type 0
 AreOver h tracks automata = AllByRecursion (λ (v : valued.ValuedName). automaton_tracks h v.name ≡ tracks) automata
 
-module _ {X : Type 0} (P : X → Type 0) where
-  taken_more : (xs : List X) (i : ℕ) (d : X) → i < length xs → AllByRecursion P (take i xs) → P (get_or xs i d) → AllByRecursion P (take (suc i) xs)
-  taken_more [] i d within before own = absurd (omega (arith, within))
-  taken_more (x ∷ xs) zero d within before own = (own, tt)
-  taken_more (x ∷ xs) (suc i) d within before own = (before.0, taken_more xs i d (omega (arith, within)) before.1 own)
-
-  -- what holds of those in front and of the next one holds of one more
-  pub one_more : (xs : List X) (i : ℕ) (d : X) → i < length xs → AllByRecursion P (take i xs) → P (get_or xs i d) → AllByRecursion P (take (i + 1) xs)
-  one_more xs i d within before own = let more : suc i ≡ i + 1 = omega arith in subst (λ (n : ℕ). AllByRecursion P (take n xs)) more (taken_more xs i d within before own)
-
 module _ (h : Headers) where
   skipped : (v : valued.ValuedName) (automata : List valued.ValuedName) → is_plain h v.name ≡ false → first_plain h (listed_names (automata_in (v ∷ automata))) ≡ first_plain h (listed_names (automata_in automata))
   skipped v automata not = ap (λ (b : Bool). if b then Some v.name else first_plain h (listed_names (automata_in automata))) not

@@ -20,6 +20,7 @@ use Rattle.formula_build.specs.Libraries.{NamedRelation, NamedSystem, AreSealed,
 use Rattle.formula_build.specs.Resolved.{plan_headers}
 use Rattle.formula_build.specs.Solutions.{way_named}
 use Rattle.formula_build.specs.TrackSystems.{IsOverSystems, Fits}
+use Rattle.formula_build.proofs.ReadFormulas.{same_file}
 use Rattle.num_system.specs.Sealed.{SystemValue}
 use Rattle.num_system.specs.Tracks.{absent_system}
 use Rattle.number_relations.specs.Relations.{RelationValue, IsRelation}
@@ -34,7 +35,7 @@ use Rattle.session_cli.specs.TableReads.{TableRead, AreTablesRead, IsReadingGap,
 use Rattle.session_cli.specs.TableReading.{AreReadable}
 use Rattle.session_cli.proofs.MentionedTables.{OfMention, IsNotPlain, files_all, once_each, tables_all}
 use Rattle.session_cli.proofs.ReadableTables.{mentions_readable}
-use Rattle.session_cli.proofs.TableFiles.{files_apart, same_files}
+use Rattle.session_cli.proofs.TableFiles.{files_apart}
 use Rattle.session_cli.proofs.TableFits.{are_relations, files_known, tables_fit}
 use Rattle.session_cli.proofs.TableRelations.{AreUnder}
 
@@ -96,7 +97,7 @@ module _ (automata : List ValuedName) (tables : List Loaded) (files : Files) (li
       pub listed_relations : HasRelations (relations_in reads) automata
       listed_relations =
           named_relations systems reads automata
-          (once_each is_same_file same_files (IsFileIn (library_with reads systems)) [] (flat_map mentioned_files (listed_mentions automata)) (files_known systems files (listed_files automata) tables reads old new listed made)).1
+          (once_each is_same_file same_file (IsFileIn (library_with reads systems)) [] (flat_map mentioned_files (listed_mentions automata)) (files_known systems files (listed_files automata) tables reads old new listed made)).1
 
       fits : Fits (library_with reads systems) (plan_headers (headers_of tables)) way_named
       fits = tables_fit table_holds systems sealed custom tables reads old new meant (files_apart files (listed_files automata) tables (first_once (listed_mentions automata)) listed) listed_readable made

@@ -1,70 +1,21 @@
 -- What calls of macros read: texts among macros, beside whatever is read of other folders after them.
-use Rattle.std.proofs.Common.{◌≡◌, ℕ, ◌≤◌, List, Option, None, Some, IfSome, Result, Ok, Err, refl, sym, ap, ◌∙◌, subst, arith}
-use Rattle.std.specs.declared.alloc.Global.{Global}
-use Rattle.std.specs.declared.vec.Vec.{Vec}
-use Rattle.wal_outside.specs.Causes.{CountsFault}
+use Rattle.std.proofs.Common.{◌≡◌, ℕ, List, Option, None, Some, IfSome, Result, Ok, refl, sym, ap, ◌∙◌, subst}
 use Rattle.wal_outside.specs.Files.{Files}
 use Rattle.wal_outside.specs.Views.{StoreView}
 use Rattle.wal_outside.specs.declared.folder.Folder.TheVariants.{Automata, Words, Bases, Macros, Morphisms, Transducers, Results, Commands}
-use Rattle.dfa_loading.specs.declared.fault.LoadFault.TheVariants as loads
 use Rattle.macro_expand.specs.Expansion.{expansion}
 use Rattle.macro_expand.specs.Texts.{TextOf}
-use Rattle.macro_loading.specs.MacroFiles as macros
-use Rattle.macro_loading.specs.MacroFiles.{IsExpanded, macros_of, short_text}
-use Rattle.macro_loading.specs.declared.fault.ExpansionFault.{ExpansionFault}
-use Rattle.macro_loading.specs.declared.fault.ExpansionFault.TheVariants as expansions
+use Rattle.macro_loading.specs.MacroFiles.{macros_of, short_text}
 use Rattle.definitions.specs.Trees.{Ledger}
 use Rattle.definitions.specs.Texts.{Stores}
 use Rattle.session_cli.specs.declared.fault.Grammar.TheVariants as grammars
 use Rattle.session_cli.specs.declared.fault.Fault.{Fault}
 use Rattle.session_cli.specs.declared.fault.Fault.TheVariants as faults
 use Rattle.session_cli.specs.Checks.{Fails}
-use Rattle.session_cli.specs.FormulaFaults.{fault_of_expansion}
 use Rattle.session_cli.specs.MacroChecks.{expanded}
-use Rattle.session_cli.specs.MacroMakes.{ExpandsTo, IsUnexpanded, SameButMacros}
-use Rattle.session_cli.specs.StoreReads.{IsReadFault, FromFiles}
+use Rattle.session_cli.specs.MacroMakes.{IsUnexpanded, SameButMacros}
+use Rattle.session_cli.specs.StoreReads.{FromFiles}
 use Rattle.session_cli.proofs.TextReads.{reads_both}
-
-unexpanded_so : (files : Files) (body : List ℕ) (f : ExpansionFault) → macros.Fails files body f → IsUnexpanded files body (fault_of_expansion f)
-unexpanded_so files body (expansions.Syntax at) is = is
-unexpanded_so files body (expansions.MacroArgs name n given) is = is
-unexpanded_so files body (expansions.MacroDepth name) is = is
-unexpanded_so files body expansions.MacroLong is = is
-unexpanded_so files body (expansions.Load (loads.Unknown folder name)) is = is
-unexpanded_so files body (expansions.Load (loads.File folder name flaw)) is = is
-unexpanded_so files body (expansions.Load (loads.Store folder name)) is = is
-unexpanded_so files body (expansions.Load loads.Memory) is = tt
-
-later_so : (f : ExpansionFault) (before now : ℕ) → CountsFault (macros.is_store_fault {X = Vec ℕ Global} (Err f)) before now → before ≤ now
-later_so (expansions.Syntax at) before now is = omega (arith, is)
-later_so (expansions.MacroArgs name n given) before now is = omega (arith, is)
-later_so (expansions.MacroDepth name) before now is = omega (arith, is)
-later_so expansions.MacroLong before now is = omega (arith, is)
-later_so (expansions.Load (loads.Unknown folder name)) before now is = omega (arith, is)
-later_so (expansions.Load (loads.File folder name flaw)) before now is = omega (arith, is)
-later_so (expansions.Load (loads.Store folder name)) before now is = is.0
-later_so (expansions.Load loads.Memory) before now is = omega (arith, is)
-
-caused_so : (f : ExpansionFault) (old new : StoreView) → macros.IsCausedBy f old new → IsReadFault (fault_of_expansion f) old new
-caused_so (expansions.Syntax at) old new is = is
-caused_so (expansions.MacroArgs name n given) old new is = is
-caused_so (expansions.MacroDepth name) old new is = is
-caused_so expansions.MacroLong old new is = is
-caused_so (expansions.Load (loads.Unknown folder name)) old new is = is
-caused_so (expansions.Load (loads.File folder name flaw)) old new is = is
-caused_so (expansions.Load (loads.Store folder name)) old new is = is
-caused_so (expansions.Load loads.Memory) old new is = is
-
-pub macros_read : (body : List ℕ) (old new : StoreView) (text : Vec ℕ Global) → IsExpanded body old (Ok text) new → FromFiles (ExpandsTo body) old (Ok text) new
-macros_read body old new text e = record { found = e.found; told = e.told; gives = e.gives; has_read = record { files = e.has_read.files; later = let same : new.faults ≡ old.faults = e.has_read.faults in omega (arith, same); cause = e.has_read.cause } }
-
-pub macros_unread : (body : List ℕ) (old new : StoreView) (f : ExpansionFault) → IsExpanded body old (Err f) new → FromFiles {X = Vec ℕ Global} (ExpandsTo body) old (Err (fault_of_expansion f)) new
-macros_unread body old new f e = record {
-  found = e.found;
-  told = e.told;
-  gives = unexpanded_so e.found body f e.gives;
-  has_read = record { files = e.has_read.files; later = later_so f old.faults new.faults e.has_read.faults; cause = caused_so f old new e.has_read.cause };
-}
 
 -- a text that is not expanded refuses a command
 pub unexpanded : (ledger : Ledger) (files : Files) (body : List ℕ) (fault : Fault) → Stores ledger files → IsUnexpanded files body fault → Fails (expanded ledger body) fault

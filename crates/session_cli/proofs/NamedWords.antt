@@ -4,7 +4,6 @@ use Rattle.std.specs.Option.{option_or}
 use Rattle.std.specs.Ordering.{nat_cmp, is_eq, eq_by_cmp}
 use Rattle.std.specs.declared.cmp.Ordering.{Ordering}
 use Rattle.std.specs.declared.cmp.Ordering.TheVariants.{Less, Equal, Greater}
-use Rattle.std.specs.Cmp.{tied_itself}
 use Rattle.std.specs.Cmp.Lexicographic.{slice_cmp, nat_list_cmp_total}
 use Rattle.std.specs.FinMap as finite
 use Rattle.std.specs.FinMap.{get-empty, get-insert, slice_cmp-IsAntisymmetric, nat_cmp-IsAntisymmetric}
@@ -28,6 +27,7 @@ use Rattle.formula_build.specs.TrackSystems.{Fits, IsWordOverSystems}
 use Rattle.word_images.specs.ImageFormula.{at_place, image_formula, places_before, word_name}
 use Rattle.word_images.specs.Recoded.{IsRecoded}
 use Rattle.session_cli.specs.RecodedWords.{AreRecoded, IsImageLibrary, image_headers}
+use Rattle.session_cli.proofs.TableHeaders.{ties_same}
 
 -- one word more, and its header
 pub words_more : (rules : Rules) (word : WordValue) (r : ℕ) (old new : List NamedWord) (name : Name) (u recoded : WordValue) → new ≡ with_named old name u → name ≡ word_name r → u ≡ recoded → AreRecoded rules word r old → IsRecoded rules word r recoded → AreRecoded rules word (r + 1) new
@@ -106,9 +106,6 @@ module _ (rules : Rules) (word : WordValue) where
       by (Some v) e rest = let early = rest v e in
           (early.0, omega (arith, early.1), early.2, subst (IsRecoded rules word early.0) (same_Some v w (sym (ap (λ o. option_or o (if bytes_eq (word_name n) name then Some u else None)) e) ∙ pushed)) early.3)
       by None e rest = last (bytes_eq (word_name n) name) refl (sym (ap (λ o. option_or o (if bytes_eq (word_name n) name then Some u else None)) e) ∙ pushed)
-
-ties_same : (name : Name) → eq_by_cmp (slice_cmp nat_cmp) name name ≡ true
-ties_same name = ap is_eq (tied_itself nat_list_cmp_total name)
 
 ties_apart : (name other : Name) → ¬ (name ≡ other) → eq_by_cmp (slice_cmp nat_cmp) name other ≡ false
 ties_apart name other apart = by (slice_cmp nat_cmp name other) refl

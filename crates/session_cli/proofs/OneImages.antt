@@ -2,7 +2,7 @@
 use Rattle.std.proofs.Common.{◌≡◌, ◌≢◌, ◌⊎◌, ℕ, Bool, true, false, List, [], ◌∷◌, length, if◌then◌else◌, Some, Result, Ok, Err, bytes_eq, inl, inr, refl, sym, ap, ◌∙◌, subst}
 use Rattle.std.proofs.lemmas.Option.{none-some}
 use Rattle.wal_outside.specs.Files.{Files}
-use Rattle.wal_outside.specs.declared.folder.Folder.TheVariants.{Morphisms, Words}
+use Rattle.wal_outside.specs.declared.folder.Folder.TheVariants.{Words}
 use Rattle.command_head.specs.Grammar.{SpellsImage}
 use Rattle.command_head.proofs.OneFault.{one_head}
 use Rattle.command_head.proofs.WordHeads.{one_image}
@@ -11,8 +11,6 @@ use Rattle.digit_tuple.specs.declared.step_fault.StepFault.TheVariants as steps
 use Rattle.digit_tuple.specs.declared.steps.StepLine.{StepLine}
 use Rattle.dfa_loading.specs.Headers.{headers_of}
 use Rattle.dfa_loading.specs.Loading.{AreListedBy}
-use Rattle.dfa_loading.specs.declared.fault.LoadFault.{LoadFault}
-use Rattle.dfa_loading.specs.declared.fault.LoadFault.TheVariants as loads
 use Rattle.dfa_loading.specs.declared.loaded.Loaded.{Loaded}
 use Rattle.formula_build.specs.Libraries.{NamedWord, AreWords, word_named}
 use Rattle.formula_resolve.specs.Arity.{kept_count}
@@ -23,10 +21,7 @@ use Rattle.morph_words.specs.Rules.{Rules, IsMorphism}
 use Rattle.morph_words.specs.Uniform.{HasLength, IsImageLength, IsLengthRefused}
 use Rattle.morph_words.specs.declared.morphism_kind.MorphismKind.{MorphismKind}
 use Rattle.morph_words.proofs.MorphismShape.{spells_morphisms}
-use Rattle.morph_words.proofs.OneParse as parsing
 use Rattle.morph_words.proofs.UniformLemmas.{one_lengths}
-use Rattle.morphism_loading.specs.MorphismFiles.{AnswersMorphism}
-use Rattle.morphism_loading.proofs.OneAnswer.{files_have_one_answer}
 use Rattle.session_cli.specs.ImageSteps.{IsImageDone, IsImageRefused}
 use Rattle.session_cli.specs.OneImage.{HasOneImage, ImagesHaveOneOutcome}
 use Rattle.session_cli.specs.declared.image_fault.ImageFault.{ImageFault}
@@ -36,85 +31,27 @@ use Rattle.system_files.specs.SystemFiles.{Custom}
 use Rattle.definitions.proofs.NameLemmas.{one_meaning}
 use Rattle.definitions.proofs.TableRelations.{table_holds}
 use Rattle.definitions.specs.Named.{IsSystemNamed}
-use Rattle.definitions.specs.Texts.{Stores}
 use Rattle.definitions.specs.Trees.{Entry, Ledger, custom_of}
 use Rattle.session_cli.specs.declared.fault.Fault.{Fault}
 use Rattle.session_cli.specs.declared.fault.Fault.TheVariants as faults
 use Rattle.session_cli.specs.Accepting.{stored}
 use Rattle.session_cli.specs.Checks.{Pure}
 use Rattle.session_cli.specs.FileChecks.{files_loaded}
-use Rattle.session_cli.specs.FormulaFaults.{fault_of_loading}
 use Rattle.session_cli.specs.HeadAnswers.{HeadAnswers}
 use Rattle.session_cli.specs.ImageFaults.{fault_of_imaging}
 use Rattle.session_cli.specs.ImageOutcomes.{WordTrack, IsOldWordRead, AreImageSteps, IsImagingStopped, OneTrackAnswers, LengthsAnswers, TrackAnswers, ImagedAnswers, OldAnswers, old_mentions, image_success, after_image_steps, after_track, after_lengths, after_one_track, after_old_systems, after_old_table, after_image_morphism, after_image_head, image_checks}
-use Rattle.session_cli.specs.MorphismChecks.{MorphismAnswers, morphism_loaded}
+use Rattle.session_cli.specs.MorphismChecks.{morphism_loaded}
 use Rattle.session_cli.specs.SystemChecks.{systems_known}
 use Rattle.session_cli.specs.TableReads.{TableRead, words_in}
 use Rattle.session_cli.proofs.CheckSteps.{IsSingle, then_single}
 use Rattle.session_cli.proofs.ImagedSteps.{of_one_kind}
 use Rattle.session_cli.proofs.OneHeads.{head_single}
-use Rattle.session_cli.proofs.OneLoadings.{files_single, same_there}
+use Rattle.session_cli.proofs.OneLoadings.{files_single}
 use Rattle.session_cli.proofs.OneMeantReadings.{IsStopped, stopped_by, missing_by, same_reading, were_readable, read_stopped, both_stopped}
 use Rattle.session_cli.proofs.OneSystems.{systems_single}
 use Rattle.session_cli.proofs.OneTexts.{stored_single}
 use Rattle.session_cli.proofs.TableFits.{are_words}
-
--- the morphism, or the fault, by some files of the ledger
-abbrev of_morphism : Result Rules LoadFault → Result Rules Fault
-of_morphism (Ok rules) = Ok rules
-of_morphism (Err fault) = Err (fault_of_loading fault)
-
-record IsMorphismRead (ledger : Ledger) (name : List ℕ) (r : Result Rules Fault) : Type 0 where
-  answer : Result Rules LoadFault
-  files : Files
-  stores : Stores ledger files
-  answers : AnswersMorphism files name answer
-  is : r ≡ of_morphism answer
-
-morphism_is : (ledger : Ledger) (name : List ℕ) (r : Result Rules Fault) → MorphismAnswers ledger name r → IsMorphismRead ledger name r
-morphism_is ledger name (Ok rules) (files, stores, are) = record { answer = Ok rules; files = files; stores = stores; answers = are; is = refl }
-morphism_is ledger name (Err (faults.Unknown folder under)) (files, stores, refuses) = record { answer = Err (loads.Unknown folder under); files = files; stores = stores; answers = refuses; is = refl }
-morphism_is ledger name (Err (faults.File folder under flaw)) (files, stores, refuses) = record { answer = Err (loads.File folder under flaw); files = files; stores = stores; answers = refuses; is = refl }
-morphism_is ledger name (Err faults.Command) a = absurd a
-morphism_is ledger name (Err (faults.Syntax grammar at)) a = absurd a
-morphism_is ledger name (Err (faults.MixedChain byte)) a = absurd a
-morphism_is ledger name (Err (faults.Number grammar at)) a = absurd a
-morphism_is ledger name (Err (faults.NotLinear byte)) a = absurd a
-morphism_is ledger name (Err (faults.Depth grammar at)) a = absurd a
-morphism_is ledger name (Err (faults.Long bytes)) a = absurd a
-morphism_is ledger name (Err (faults.Arity of tracks given)) a = absurd a
-morphism_is ledger name (Err (faults.SystemUnknown of)) a = absurd a
-morphism_is ledger name (Err (faults.NotAdmitted of law)) a = absurd a
-morphism_is ledger name (Err (faults.Clash of first other)) a = absurd a
-morphism_is ledger name (Err (faults.Direction first other)) a = absurd a
-morphism_is ledger name (Err (faults.Letters step)) a = absurd a
-morphism_is ledger name (Err (faults.States step)) a = absurd a
-morphism_is ledger name (Err (faults.WordGap of spelling)) a = absurd a
-morphism_is ledger name (Err (faults.Plain of)) a = absurd a
-morphism_is ledger name (Err (faults.Store folder of)) a = absurd a
-morphism_is ledger name (Err faults.Memory) a = absurd a
-morphism_is ledger name (Err faults.ScriptLimit) a = absurd a
-morphism_is ledger name (Err (faults.MacroArgs of at given)) a = absurd a
-morphism_is ledger name (Err (faults.MacroDepth of)) a = absurd a
-morphism_is ledger name (Err faults.MacroLong) a = absurd a
-morphism_is ledger name (Err (faults.Morphism kind)) a = absurd a
-morphism_is ledger name (Err (faults.LetterMissing letter)) a = absurd a
-morphism_is ledger name (Err (faults.CombineShape one two)) a = absurd a
-
--- what other files of one ledger have under a name is the same
-answers_there : (ledger : Ledger) (files others : Files) (name : List ℕ) (answer : Result Rules LoadFault) → Stores ledger files → Stores ledger others → AnswersMorphism others name answer → AnswersMorphism files name answer
-answers_there ledger files others name (Ok rules) stores also are = record { text = are.text; there = same_there ledger files others stores also Morphisms name ∙ are.there; short = are.short; spells = are.spells }
-answers_there ledger files others name (Err (loads.Unknown folder under)) stores also (at, none) = (at, same_there ledger files others stores also Morphisms name ∙ none)
-answers_there ledger files others name (Err (loads.File folder under flaw)) stores also (at, (text, there, flawed)) = (at, (text, same_there ledger files others stores also Morphisms name ∙ there, flawed))
-answers_there ledger files others name (Err (loads.Store folder under)) stores also refuses = absurd refuses
-answers_there ledger files others name (Err loads.Memory) stores also refuses = absurd refuses
-
-pub morphism_loaded_single : (ledger : Ledger) (name : List ℕ) → IsSingle (morphism_loaded ledger name)
-morphism_loaded_single ledger name r s a b =
-    let p : IsMorphismRead ledger name r = morphism_is ledger name r a in
-    let q : IsMorphismRead ledger name s = morphism_is ledger name s b in
-    let same : p.answer ≡ q.answer = files_have_one_answer parsing.one_answer p.files name p.answer q.answer p.answers (answers_there ledger p.files q.files name q.answer p.stores q.stores q.answers) in
-    p.is ∙ (ap of_morphism same ∙ sym q.is)
+use Rattle.session_cli.proofs.OneTextCommands.{loading_single}
 
 -- the word has one track, or another number of them
 abbrev IsTrackAnswer : Headers → List ℕ → Result (Unit {0}) Fault → Type 0
@@ -365,7 +302,7 @@ pub image_single : ImagesHaveOneOutcome → (limit : ℕ) (ledger : Ledger) (tex
 image_single law limit ledger text =
     let custom : Custom = custom_of ledger in
     then_single (Pure (HeadAnswers SpellsImage text)) (λ head. after_image_head limit ledger head) (head_single SpellsImage (one_head SpellsImage one_image) text) (λ head spells.
-    then_single (morphism_loaded ledger head.morphism) (λ rules. after_image_morphism limit ledger head rules) (morphism_loaded_single ledger head.morphism) (λ rules read.
+    then_single (morphism_loaded ledger head.morphism) (λ rules. after_image_morphism limit ledger head rules) (loading_single ledger head.morphism) (λ rules read.
     then_single (files_loaded ledger (first_files (old_mentions head.old))) (λ ts. after_old_table limit ledger head rules ts) (files_single ledger (first_files (old_mentions head.old))) (λ ts there.
     then_single (systems_known limit custom (first_systems (headers_of ts) (old_mentions head.old))) (λ admitted. after_old_systems ledger head rules ts admitted) (systems_single limit custom (first_systems (headers_of ts) (old_mentions head.old))) (λ admitted known.
     then_single (Pure (OneTrackAnswers (headers_of ts) head.old)) (λ one. after_one_track ledger head rules ts admitted) (one_track_single (headers_of ts) head.old) (λ one has.

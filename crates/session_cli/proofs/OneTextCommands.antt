@@ -157,7 +157,7 @@ loading_is ledger name (Err (faults.Store folder of)) a = absurd a
 loading_is ledger name (Err faults.Memory) a = absurd a
 loading_is ledger name (Err faults.ScriptLimit) a = absurd a
 
-loading_single : (ledger : Ledger) (name : List ℕ) → IsSingle (morphism_loaded ledger name)
+pub loading_single : (ledger : Ledger) (name : List ℕ) → IsSingle (morphism_loaded ledger name)
 loading_single ledger name r s a b =
     let p : IsLoading ledger name r = loading_is ledger name r a in
     let q : IsLoading ledger name s = loading_is ledger name s b in

@@ -118,10 +118,6 @@ made_over_systems custom admitted name way named languages body shown pattern au
     (record { languages = languages; languages_are = are; automaton = automaton; valid = done.valid; steps = done.steps; lines_are = refl }) (record { some = some; are = are_named; automaton = automaton; of_relation = relation; text_is = refl })
     (ap (λ (log : StepLog). log.lines) done.new_is ∙ three_lines admitted.lines done.steps.before.regex done.steps.before.pad done.valid) prints
 
--- the expression was refused
-pub unparsed : (custom : Custom) (admitted : StepLog) (name : List ℕ) (tracks : Tracks) (body : List ℕ) (f : Fault) → Fails (Pure (ParsedAnswers (letter_sets tracks) body)) f → Fails (after_tracks admitted custom name body tracks) f
-unparsed custom admitted name tracks body f refused = fails_first (Pure (ParsedAnswers (letter_sets tracks) body)) (λ (p : Pattern). after_expression admitted custom name tracks p.tree) f refused
-
 -- a step was refused
 unstepped : (custom : Custom) (admitted : StepLog) (name : List ℕ) (tracks : Tracks) (body : List ℕ) (pattern : Pattern) (f : Fault) → Parses (letter_sets tracks) body (Ok pattern) → Fails (Pure (StepsAnswers admitted tracks pattern.tree)) f → Fails (after_tracks admitted custom name body tracks) f
 unstepped custom admitted name tracks body pattern f parses refused =

@@ -1,10 +1,9 @@
 -- Sealed systems, one after another.
-use Rattle.std.proofs.Common.{◌≡◌, ℕ, ◌*◌, ◌≤◌, Bool, true, false, List, [], ◌∷◌, ◌++◌, length, take, Some, Result, Ok, Err, if◌then◌else◌, inl, inr, refl, sym, ap, subst, arith}
+use Rattle.std.proofs.Common.{◌≡◌, ℕ, ◌≤◌, Bool, true, false, List, [], ◌∷◌, ◌++◌, length, take, Some, Result, Ok, Err, if◌then◌else◌, inl, inr, refl, sym, ap, subst, arith}
 use Rattle.std.specs.List.{AllByRecursion}
 use Rattle.std.specs.Str.{bytes_eq}
 use Rattle.std.proofs.lemmas.Fmt.{decimal_digit}
 use Rattle.std.proofs.lemmas.List.{take_all}
-use Rattle.std.proofs.lemmas.Nat.{mul-le}
 use Rattle.std.proofs.lemmas.Option.{none-some}
 use Rattle.std.proofs.lemmas.Slice.Eq.{bytes_eq-Decides}
 use Rattle.digit_tuple.specs.Letters.{IsAlphabet}
@@ -14,6 +13,7 @@ use Rattle.num_system.specs.Sealed.{SystemValue}
 use Rattle.num_system.specs.Sealed as sealed
 use Rattle.system_names.specs.Names.{IsBuiltInName}
 use Rattle.system_names.specs.declared.system_kind.SystemKind.TheVariants as kinds
+use Rattle.base_k.proofs.BaseAlphabets.{three_fit}
 use Rattle.formula_parse.specs.FormulaTrees.{default_system}
 use Rattle.formula_build.specs.Libraries.{NamedSystem, system_named, with_system}
 use Rattle.formula_build.proofs.LargerLibrary.{named_first}
@@ -28,16 +28,9 @@ use Rattle.session_cli.specs.UserSystems.{IsThere}
 use Rattle.session_cli.proofs.KnownSteps.{its_name_means}
 
 -- three tracks over a built-in system have an alphabet
-cubes : (k : ℕ) → k ≤ 40 → k * (k * (k * 1)) ≤ 65536
-cubes k most =
-    let one : k * 1 ≤ 40 * 1 = mul-le k 1 40 1 most (omega arith) in
-    let two : k * (k * 1) ≤ 40 * (40 * 1) = mul-le k (k * 1) 40 (40 * 1) most one in
-    let three : k * (k * (k * 1)) ≤ 40 * (40 * (40 * 1)) = mul-le k (k * (k * 1)) 40 (40 * (40 * 1)) most two in
-    omega (arith, three)
-
-pub three_fit : (s : KnownSystem) → IsAlphabet ((system_of s).digits ∷ (system_of s).digits ∷ (system_of s).digits ∷ [])
-three_fit (Base s) = record { tracks = omega arith; letters = cubes s.base s.at_most }
-three_fit (Fibonacci s) = record { tracks = omega arith; letters = omega arith }
+pub system_fits : (s : KnownSystem) → IsAlphabet ((system_of s).digits ∷ (system_of s).digits ∷ (system_of s).digits ∷ [])
+system_fits (Base s) = three_fit s.base s.at_most
+system_fits (Fibonacci s) = record { tracks = omega arith; letters = omega arith }
 
 -- what stands under a name stays there where more come after
 pub stays : (systems : List NamedSystem) (name : List ℕ) (s : SystemValue) (other : List ℕ) → HasSystemIn systems other → HasSystemIn (with_system systems name s) other
@@ -77,10 +70,6 @@ built_in_found (x ∷ systems) name s are found = by (bytes_eq x.name name) refl
         let systems_same : x.system ≡ s = cc in
         subst (λ (t : SystemValue). IsBuiltInSystem name t.way (sealed.system_of t)) systems_same (subst (λ (n : List ℕ). IsBuiltInSystem n x.system.way (sealed.system_of x.system)) names are.0)
     by false apart rest is = rest is
-
--- nothing is added
-pub extends_none : (systems : List NamedSystem) → Extends systems systems
-extends_none systems = record { meant = λ custom are. are; kept = λ name has. has }
 
 -- what is added by one after another
 pub extends_both : (systems more most : List NamedSystem) → Extends systems more → Extends more most → Extends systems most

@@ -22,10 +22,3 @@ one_line_more steps k step at =
     let count : 1 + length (take k steps) ≡ k + 1 = omega (arith, length-take k steps) in
     ap (step_lines 1) (take_more steps k step inside ∙ ap (λ (x : StepLine). take k steps ++ x ∷ []) same)
     ∙ (step_lines-more 1 (take k steps) step ∙ ap (λ (n : ℕ). step_lines 1 (take k steps) ++ step_line n step) count)
-
--- texts one behind the other, however they are put together
-pub parts_joined : (old a b c d e : List ℕ) → ((((old ++ a) ++ b) ++ c) ++ d) ++ (e ++ []) ≡ old ++ ((a ++ b) ++ (c ++ (d ++ e)))
-parts_joined old a b c d e =
-    ap (λ (text : List ℕ). ((((old ++ a) ++ b) ++ c) ++ d) ++ text) (append-nil e)
-    ∙ (append_assoc (((old ++ a) ++ b) ++ c) d e ∙ (append_assoc ((old ++ a) ++ b) c (d ++ e)
-    ∙ (ap (λ (text : List ℕ). text ++ (c ++ (d ++ e))) (append_assoc old a b) ∙ append_assoc old (a ++ b) (c ++ (d ++ e)))))

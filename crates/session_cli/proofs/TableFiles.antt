@@ -1,7 +1,6 @@
 -- The files of loaded tables are those that were named, each once; and what such files list.
-use Rattle.std.proofs.Common.{◌≡◌, ◌≢◌, ℕ, suc, ◌<◌, Bool, true, false, ◌||◌, List, [], ◌∷◌, length, take, get_or, Ok, refl, sym, ap, ◌∙◌, subst, arith}
+use Rattle.std.proofs.Common.{◌≡◌, ◌≢◌, ℕ, suc, ◌<◌, Bool, true, false, ◌||◌, List, [], ◌∷◌, length, take, get_or, Ok, refl, sym, ◌∙◌, subst, arith}
 use Rattle.std.specs.List.{AllByRecursion}
-use Rattle.std.proofs.lemmas.Bool.{false≢true}
 use Rattle.std.proofs.lemmas.Slice.Eq.{bytes_eq-Decides}
 use Rattle.wal_outside.specs.Files.{Files}
 use Rattle.formula_resolve.specs.FirstMentions.{has, is_same_file, IsOnce}
@@ -15,16 +14,11 @@ use Rattle.dfa_loading.specs.declared.loaded.Loaded.{Loaded}
 use Rattle.definitions.specs.TableLaws.{FilesAreTables}
 use Rattle.definitions.specs.TableSteps.{IsTable}
 use Rattle.session_cli.proofs.HeaderLines.{file_is_relation}
+use Rattle.formula_build.proofs.ReadFormulas.{same_file}
 
 pub same_itself : (file : File) → is_same_file file file ≡ true
 same_itself (Automaton name) = (bytes_eq-Decides name name).1 refl
 same_itself (Word name) = (bytes_eq-Decides name name).1 refl
-
-pub same_files : (a b : File) → is_same_file a b ≡ true → a ≡ b
-same_files (Automaton m) (Automaton n) is = ap Automaton ((bytes_eq-Decides m n).0 is)
-same_files (Automaton m) (Word n) is = absurd (false≢true is)
-same_files (Word m) (Automaton n) is = absurd (false≢true is)
-same_files (Word m) (Word n) is = ap Word ((bytes_eq-Decides m n).0 is)
 
 -- no table is of this file
 abbrev pub HasNo : File → List Loaded → Type 0

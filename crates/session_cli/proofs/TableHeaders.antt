@@ -23,8 +23,9 @@ use Rattle.formula_resolve.specs.declared.file.File.{File}
 use Rattle.formula_resolve.specs.declared.file.File.TheVariants.{Automaton, Word}
 use Rattle.formula_build.specs.Resolved.{HaveOneWay, AreWays}
 use Rattle.formula_build.specs.Solutions.{way_named}
+use Rattle.formula_build.proofs.ReadFormulas.{same_file}
 use Rattle.session_cli.proofs.HeaderLines.{file_is_relation, listed_one_way}
-use Rattle.session_cli.proofs.TableFiles.{HasNo, AreApart, same_itself, same_files}
+use Rattle.session_cli.proofs.TableFiles.{HasNo, AreApart, same_itself}
 
 -- the systems of a header; sets are none
 abbrev pub systems_in : Header → Option (List Name)
@@ -56,7 +57,7 @@ abbrev pub kept_of : File → Header → Option (List Name)
 kept_of (Automaton name) header = systems_in header
 kept_of (Word name) header = Some (known (systems_in header))
 
-ties_same : (name : Name) → eq_by_cmp (slice_cmp nat_cmp) name name ≡ true
+pub ties_same : (name : Name) → eq_by_cmp (slice_cmp nat_cmp) name name ≡ true
 ties_same name = ap is_eq (tied_itself nat_list_cmp_total name)
 
 ties_apart : (name other : Name) → name ≢ other → eq_by_cmp (slice_cmp nat_cmp) name other ≡ false
@@ -165,7 +166,7 @@ one_way_with h file header own before other = subst (HaveOneWay way_named) (sym 
     here = subst IsOfOneWay (sym (kept_same h file header)) (subst (HaveOneWay way_named) (sym (known_kept file header)) own)
 
     by : (b : Bool) → is_same_file file other ≡ b → IsOfOneWay (kept (with_file h file header) other)
-    by true same = subst (λ (f : File). IsOfOneWay (kept (with_file h file header) f)) (same_files file other same) here
+    by true same = subst (λ (f : File). IsOfOneWay (kept (with_file h file header) f)) (same_file file other same) here
     by false apart =
         let unlike : file ≢ other = λ is. let yes : is_same_file file other ≡ true = subst (λ (f : File). is_same_file file f ≡ true) is (same_itself file) in cc in
         subst IsOfOneWay (sym (kept_other h file header other unlike)) (subst (HaveOneWay way_named) (tracks_known h other) (before other))

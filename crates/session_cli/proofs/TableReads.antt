@@ -1,32 +1,28 @@
 -- Tables read one after another: the systems under their headers, what those in front make and one more, and the refusal of one.
-use Rattle.std.proofs.Common.{◌≡◌, ◌⊎◌, ℕ, zero, suc, ◌+◌, ◌<◌, List, [], ◌∷◌, ◌++◌, length, take, map, get_or, Option, None, Some, Result, Ok, Err, Vec, Global, inl, inr, refl, sym, ap, ◌∙◌, subst, arith}
+use Rattle.std.proofs.Common.{◌≡◌, ℕ, zero, suc, ◌+◌, ◌<◌, List, [], ◌∷◌, ◌++◌, length, take, map, get_or, Option, None, Some, Result, Ok, Err, Vec, Global, inl, inr, refl, sym, ap, ◌∙◌, subst, arith}
 use Rattle.std.specs.List.{AllZip}
 use Rattle.std.specs.Result.{IsErrAnd}
 use Rattle.std.proofs.lemmas.List.{take_more, map-append, length-map}
 use Rattle.std.proofs.lemmas.Option.{none-some}
 use Rattle.digit_tuple.specs.Steps.{StepLog}
 use Rattle.digit_tuple.specs.declared.step_fault.StepFault.{StepFault}
-use Rattle.digit_tuple.specs.declared.step_fault.StepFault.TheVariants.{Memory}
 use Rattle.dfa_reading.specs.Headers.{Header, Truth, Systems, Sets, Below, digits_in, has_states}
 use Rattle.dfa_reading.specs.Listed.{Listed}
 use Rattle.dfa_reading.specs.Systems.{digit_limit}
 use Rattle.dfa_reading.specs.WordFiles.{IsWordListed}
-use Rattle.dfa_loading.specs.Places.{place_of}
-use Rattle.formula_resolve.specs.declared.file.File.{File}
-use Rattle.formula_resolve.specs.declared.file.File.TheVariants.{Automaton, Word}
+use Rattle.formula_resolve.specs.declared.file.File.TheVariants.{Word}
 use Rattle.dfa_loading.specs.declared.loaded.Loaded.{Loaded}
 use Rattle.formula_build.specs.Libraries.{NamedRelation, NamedWord, NamedSystem, ReadValue, system_named, with_relation, with_word}
 use Rattle.num_system.specs.Sealed.{SystemValue}
 use Rattle.num_system.specs.Tracks.{HaveOneWay}
 use Rattle.number_relations.specs.Relations.{RelationValue}
 use Rattle.word_output.specs.Words.{WordValue}
-use Rattle.word_output.specs.WordReadings.{IsWordDone, IsWordRefused, HasWordGap}
 use Rattle.word_output.specs.declared.word_fault.WordFault.TheVariants as words
-use Rattle.definitions.specs.TableSteps.{AreForTracks, IsTableDone, PassesTable}
+use Rattle.definitions.specs.TableSteps.{AreForTracks}
 use Rattle.session_cli.specs.declared.read_fault.ReadFault.{ReadFault}
 use Rattle.session_cli.specs.declared.read_fault.ReadFault.TheVariants.{Step, Gap}
-use Rattle.session_cli.specs.TableReads.{TableRead, ARelation, AWord, relations_in, words_in, read_of, AreSystemsUnder, IsRelationRead, IsWordRead, IsTableRead, PassesFile, IsTableRefused, IsTableGap, AreTablesRead, IsReadingRefused, IsReadingGap}
-use Rattle.session_cli.specs.TableReading.{IsReadable, AreReadable, IsTableFault, IsReadingFault, ReadsTables, with_read}
+use Rattle.session_cli.specs.TableReads.{TableRead, ARelation, AWord, relations_in, words_in, read_of, AreSystemsUnder, IsRelationRead, IsWordRead, IsTableRead, IsTableRefused, IsTableGap, AreTablesRead, IsReadingRefused, IsReadingGap}
+use Rattle.session_cli.specs.TableReading.{IsReadable, IsTableFault, IsReadingFault, ReadsTables, with_read}
 
 -- the system stands under the name
 abbrev pub StandsUnder : List NamedSystem → List ℕ → SystemValue → Type 0
@@ -90,12 +86,6 @@ for_tracks systems (Sets sets) tracks under one_way = under
 pub readable_tracks : (systems : List NamedSystem) (table : Loaded) (tracks : List SystemValue) → IsReadable systems table → AreSystemsUnder systems table.listed.header tracks → AreForTracks table.listed.header tracks
 readable_tracks systems table tracks readable under =
     for_tracks systems table.listed.header tracks under (subst HaveOneWay (same_under systems systems table.listed.header readable.tracks tracks (alike_self systems) readable.over under) readable.one_way)
-
--- one of some tables that are readable
-pub readable_at : (systems : List NamedSystem) (tables : List Loaded) (i : ℕ) (table : Loaded) → AreReadable systems tables → i < length tables → table ≡ get_or tables i table → IsReadable systems table
-readable_at systems [] i table all within is = absurd (omega (arith, within))
-readable_at systems (t ∷ tables) zero table all within is = subst (IsReadable systems) (sym is) all.0
-readable_at systems (t ∷ tables) (suc i) table all within is = readable_at systems tables i table all.1 (omega (arith, within)) is
 
 -- tables were read, and then one more
 pub one_more_read : (systems : List NamedSystem) (old mid new : StepLog) (tables : List Loaded) (reads : List TableRead) (table : Loaded) (r : TableRead)
@@ -212,36 +202,6 @@ may_read_word systems table name tracks file_is readable under =
       count = for_word.0 ∙ sym (ap (λ (h : Header). length (digits_in h)) word.header ∙ length-map word.names (λ (n : List ℕ). Below (digit_limit n)));
       one_way = for_word.1;
     }
-
--- the relation of a table is read
-pub relation_made : (systems : List NamedSystem) (old new : StepLog) (table : Loaded) (tracks : List SystemValue) (r : RelationValue) → AreSystemsUnder systems table.listed.header tracks → IsTableDone old tracks table.listed r new
-    → (name : List ℕ) → table.file ≡ Automaton name → IsRelationRead systems old table (record { name = name; relation = r }) new
-relation_made systems old new table tracks r under done name file_is = record { file_is = file_is; tracks = tracks; over = under; done = done }
-
--- or refused
-pub relation_refused : (systems : List NamedSystem) (old : StepLog) (table : Loaded) (name : List ℕ) (tracks : List SystemValue) (fault : StepFault) → table.file ≡ Automaton name → AreSystemsUnder systems table.listed.header tracks
-    → (fault ≡ Memory) ⊎ PassesTable old tracks table.listed fault → IsTableFault systems old table (Step fault)
-relation_refused systems old table name tracks fault file_is under (inl memory) = inl memory
-relation_refused systems old table name tracks fault file_is under (inr passes) =
-    inr (record { tracks = tracks; over = under; passes = subst (λ (f : File). PassesFile f old tracks table.listed fault) (sym file_is) passes })
-
--- a word is read
-pub word_made : (systems : List NamedSystem) (old new : StepLog) (table : Loaded) (tracks : List SystemValue) (w : WordValue) → AreSystemsUnder systems table.listed.header tracks → IsWordDone old tracks table.listed w new
-    → (name : List ℕ) → table.file ≡ Word name → IsWordRead systems old table (record { name = name; word = w }) new
-word_made systems old new table tracks w under done name file_is = record { file_is = file_is; tracks = tracks; over = under; done = done }
-
-pub word_refused : (systems : List NamedSystem) (old : StepLog) (table : Loaded) (name : List ℕ) (tracks : List SystemValue) (fault : StepFault) → table.file ≡ Word name → AreSystemsUnder systems table.listed.header tracks
-    → IsWordRefused old tracks table.listed (words.Step fault) → IsTableFault systems old table (Step fault)
-word_refused systems old table name tracks fault file_is under (inl memory) = inl memory
-word_refused systems old table name tracks fault file_is under (inr passes) =
-    inr (record { tracks = tracks; over = under; passes = subst (λ (f : File). PassesFile f old tracks table.listed fault) (sym file_is) passes })
-
--- a letter is missing in it
-pub word_gap : (systems : List NamedSystem) (old : StepLog) (table : Loaded) (name told : List ℕ) (tracks : List SystemValue) (spelling : List (List ℕ)) → table.file ≡ Word name → told ≡ (place_of table.file).1 → AreSystemsUnder systems table.listed.header tracks
-    → HasWordGap old.limit tracks table.listed spelling → IsTableFault systems old table (Gap told spelling)
-word_gap systems old table name told tracks spelling file_is told_is under gap =
-    let own : told ≡ name = told_is ∙ ap (λ (f : File). (place_of f).1) file_is in
-    record { file_is = file_is ∙ ap Word (sym own); tracks = tracks; over = under; gap = gap }
 
 -- one table is added
 pub relation_added : (systems : List NamedSystem) (old mid new : StepLog) (table : Loaded) (name : List ℕ) (r shared : RelationValue) (before more after : ReadValue) → IsRelationRead systems old table (record { name = name; relation = r }) mid → shared ≡ r

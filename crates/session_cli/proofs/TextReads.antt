@@ -18,7 +18,7 @@ abbrev pub no_texts : Custom
 no_texts = λ name. None
 
 -- no text was read
-none_told : (told : Option Files) → IfSome told (λ (files : Files). Agrees (files Bases) [])
+pub none_told : (told : Option Files) → IfSome told (λ (files : Files). Agrees (files Bases) [])
 none_told None = tt
 none_told (Some files) = tt
 

@@ -40,7 +40,7 @@ use Rattle.session_cli.specs.SystemChecks.{no_steps, systems_known}
 use Rattle.session_cli.specs.SystemFaults.{fault_of_system}
 use Rattle.session_cli.specs.UserSystems.{IsThere, AreAdmitted, AdmitsUsers, AdmitsUser}
 use Rattle.session_cli.proofs.SealedLemmas.{stays, last_stands, meant_push}
-use Rattle.session_cli.proofs.TextReads.{reads_both}
+use Rattle.session_cli.proofs.TextReads.{reads_both, none_told}
 
 -- one more name
 names_more : (custom : Custom) (names : List (List ℕ)) (name : List ℕ) (old mid new : StepLog) → AdmitsNames custom names old (Ok tt) mid → AdmitsName custom name mid (Ok tt) new → AdmitsNames custom (names ++ name ∷ []) old (Ok tt) new
@@ -150,10 +150,6 @@ pub record AreSoFar (limit : ℕ) (front : List (List ℕ)) (users : UserSystems
   pub stands : CanStand users.texts
   pub told : IfSome old.files (λ (files : Files). Agrees (files Bases) users.texts)
   pub has_read : HasRead {X = ⊤} old (Ok tt) now
-
-none_told : (told : Option Files) → IfSome told (λ (files : Files). Agrees (files Bases) [])
-none_told None = tt
-none_told (Some files) = tt
 
 -- at first there is none
 pub none_so_far : (limit : ℕ) (users : UserSystems) (store : StoreView) → users.named ≡ [] → users.texts ≡ [] → users.steps ≡ no_steps limit → AreSoFar limit [] users store store

@@ -7,17 +7,15 @@ use Rattle.digit_tuple.specs.Deterministic.{Automaton}
 use Rattle.digit_tuple.specs.Letters.{IsWord, product}
 use Rattle.digit_tuple.specs.Paddings.{in_order}
 use Rattle.digit_tuple.specs.declared.direction.Direction.{Direction}
-use Rattle.digit_tuple.specs.declared.step_fault.StepFault.{StepFault}
-use Rattle.digit_tuple.specs.declared.step_fault.StepFault.TheVariants as steps
 use Rattle.digit_tuple.proofs.PaddingLemmas.{IsWord-reverse}
 use Rattle.dfa_reading.specs.Branching.{IsBranching, IsLetterOfDigits}
 use Rattle.dfa_reading.specs.Listed.{Listed, ListedAccepts}
 use Rattle.dfa_reading.proofs.Words.{accepts_listed}
+use Rattle.dfa_reading.proofs.TupleWords.{tuples_of, word_of_tuples}
 use Rattle.numeration.specs.Spelling.{sizes_of}
 use Rattle.numeration.specs.Systems.{System}
 use Rattle.adder_check.specs.AdderRelation.{adds_in_file, three_of}
 use Rattle.adder_check.specs.Admission.{IsSystemOfFile, IsFirstFault, IsFirstFaultOfFiles, IsAdmitted, user_system}
-use Rattle.adder_check.specs.Faults.{fault_of}
 use Rattle.adder_check.specs.LanguageSteps.{IsFirstLanguageFault, IsOfFile, in_file as word_in_file}
 use Rattle.adder_check.specs.declared.admit_fault.AdmitFault.{AdmitFault}
 use Rattle.adder_check.specs.declared.admit_fault.AdmitFault.TheVariants as faults
@@ -28,7 +26,7 @@ use Rattle.adder_check.proofs.FileSystems.{language_fault}
 use Rattle.system_files.specs.SystemFiles.{SystemFiles}
 use Rattle.system_files.specs.UserSystems.{AreWordsOf, AddsInFile, in_file, singles}
 use Rattle.system_admission.specs.Admissions.{IsFirstFaultIn, IsSystemIn}
-use Rattle.system_admission.proofs.TupleWords.{AllZip-reverse, accepted_singles, singles_accepted, singles_reverse, tuples_of, word_of_tuples}
+use Rattle.system_admission.proofs.TupleWords.{AllZip-reverse, accepted_singles, singles_accepted, singles_reverse}
 
 -- words that may be of the other direction
 singles_in_file : (reversed : Bool) (w : List ℕ) → in_file reversed (singles w) ≡ singles (word_in_file reversed w)
@@ -169,9 +167,3 @@ module _ (way : Direction) (files : SystemFiles) (language : Branching) (words :
     pub first_in_files : (fault : AdmitFault) → IsFirstFaultOfFiles way language adder files.reversed fault → IsFirstFaultIn way files fault
     first_in_files fault wrong s are =
         first_fault_same s (adds_in_file way s adder files.reversed) (AddsInFile way files s) (sums_same s are.digits) fault (wrong s (words_of_file s are))
-
--- no law is wrong where a step is refused
-pub step_fault : (way : Direction) (files : SystemFiles) (fault : StepFault) → IsFirstFaultIn way files (fault_of fault)
-step_fault way files (steps.Letters step) s are = tt
-step_fault way files (steps.States step) s are = tt
-step_fault way files steps.Memory s are = tt

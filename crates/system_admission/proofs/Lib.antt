@@ -1,5 +1,4 @@
 pub mod TupleWords
-pub mod BranchTables
 pub mod FileMeanings
 pub mod FileTables
 pub mod NumberSteps

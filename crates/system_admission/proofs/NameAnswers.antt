@@ -1,12 +1,10 @@
 -- What is answered of a name.
-use Rattle.std.proofs.Common.{◌≡◌, ℕ, List, [], ◌∷◌, Result, Ok, Err, MatchResult, inl, inr, refl, sym, ap, ◌∙◌, subst}
+use Rattle.std.proofs.Common.{◌≡◌, ℕ, List, Result, Ok, Err, MatchResult, inl, inr, refl, sym, ap, ◌∙◌, subst}
 use Rattle.std.specs.Prelude.{⊤}
-use Rattle.digit_tuple.specs.Letters.{IsAlphabet}
 use Rattle.digit_tuple.specs.Steps.{StepLog}
 use Rattle.digit_tuple.specs.declared.direction.Direction.{Direction}
 use Rattle.num_system.specs.Sealed.{SystemValue, IsSealed, system_of}
 use Rattle.wal_outside.specs.Views.{StoreView}
-use Rattle.wal_outside.specs.declared.folder.Folder.TheVariants.{Bases}
 use Rattle.dfa_loading.specs.Places.{HasRead}
 use Rattle.dfa_loading.specs.declared.fault.LoadFault.{LoadFault}
 use Rattle.dfa_loading.specs.declared.fault.LoadFault.TheVariants as loads
@@ -15,7 +13,7 @@ use Rattle.adder_check.specs.declared.admit_fault.AdmitFault.{AdmitFault}
 use Rattle.adder_check.specs.declared.admit_fault.AdmitFault.TheVariants as admits
 use Rattle.adder_check.specs.declared.user_system.UserSystem.{UserSystem}
 use Rattle.system_names.specs.Names.{IsBuiltInName}
-use Rattle.system_names.specs.UserNames.{IsUserName, IsUsersName}
+use Rattle.system_names.specs.UserNames.{IsUserName}
 use Rattle.system_files.specs.SystemFiles.{Custom, SystemFiles}
 use Rattle.system_files.specs.SystemLoading.{FailsFiles}
 use Rattle.system_files.specs.UserSystems.{IsDefinedBy, IsUserSystem}
@@ -26,10 +24,6 @@ use Rattle.system_admission.specs.declared.system_fault.SystemFault.{SystemFault
 use Rattle.system_admission.specs.declared.system_fault.SystemFault.TheVariants as faults
 
 module _ (custom : Custom) (name : List ℕ) (other : ¬ IsBuiltInName name) (old : StepLog) where
-  -- no user's system has the name
-  pub no_user : ¬ IsUsersName name → FailsName custom name old old (faults.Load (loads.Unknown Bases name))
-  no_user none = inr (other, inl (none, refl, refl))
-
   -- its files are not loaded
   pub not_loaded : (way : Direction) (part : List ℕ) (load : LoadFault) → IsUserName way part name → FailsFiles custom way part load → FailsName custom name old old (faults.Load load)
   not_loaded way part (loads.Unknown folder at) named fails = inr (other, inr (inl (way, part, named, (loads.Unknown folder at, fails, refl), refl)))
@@ -63,10 +57,6 @@ module _ (custom : Custom) (name : List ℕ) (other : ¬ IsBuiltInName name) (ol
       where
         IsMeant : Direction → Type 0
         IsMeant turn = IsUserSystem custom name turn (system_of s)
-
--- a system that is admitted has an alphabet on three tracks
-pub three_fit : (way : Direction) (files : SystemFiles) (user : UserSystem) → IsSystemIn way files user → IsAlphabet (files.digits ∷ files.digits ∷ files.digits ∷ []) → IsAlphabet (user.digits ∷ user.digits ∷ user.digits ∷ [])
-three_fit way files user is fits = subst (λ (d : ℕ). IsAlphabet (d ∷ d ∷ d ∷ [])) (sym is.defined.words.digits) fits
 
 -- what holds of a fault holds of the answer with it
 pub failing : {A E : Type 0} (P : A → Type 0) (Q : E → Type 0) (r : Result A E) (fault : E) → r ≡ Err fault → Q fault → MatchResult r P Q

@@ -1,17 +1,14 @@
 -- The steps of a system's numbers are done only where three tracks have an alphabet.
-use Rattle.std.proofs.Common.{◌≡◌, ℕ, Bool, List, [], ◌∷◌, ◌++◌, Result, Ok, Err, refl, ap, ◌∙◌, subst, inl, inr}
+use Rattle.std.proofs.Common.{Bool, Result, Ok, Err, refl, ap, ◌∙◌, inl, inr}
 use Rattle.digit_tuple.specs.Automaton.{Branching}
 use Rattle.digit_tuple.specs.Deterministic.{Automaton}
-use Rattle.digit_tuple.specs.Letters.{IsAlphabet}
 use Rattle.digit_tuple.specs.Steps.{StepLog}
 use Rattle.digit_tuple.specs.declared.direction.Direction.{Direction}
 use Rattle.digit_tuple.specs.declared.step_fault.StepFault.{StepFault}
-use Rattle.num_system.proofs.SuccessorLemmas.{chain_sizes_are}
 use Rattle.adder_check.specs.Admission.{DoesAdmission, DoesLanguage}
 use Rattle.adder_check.specs.Faults.{fault_of}
 use Rattle.adder_check.specs.LanguageLaws.{KeepsZeros, IsEndless, language_in}
 use Rattle.adder_check.specs.LanguageSteps.{DoesFile, IsFirstLanguageFault}
-use Rattle.adder_check.specs.SuccessorPlan.{DoesSuccessor}
 use Rattle.adder_check.specs.declared.admit_fault.AdmitFault.{AdmitFault}
 use Rattle.adder_check.specs.declared.user_system.UserSystem.{UserSystem}
 use Rattle.adder_check.proofs.OneAnswers.{from_err, ok_not_err}
@@ -27,13 +24,6 @@ module _ (way : Direction) (listed : Branching) (reversed : Bool) (old mid : Ste
 
   pub language_done : (d : Automaton) → DoesFile listed reversed old (Ok d) mid → KeepsZeros (language_in way d) → IsEndless (language_in way d) → DoesLanguage way listed reversed old (Ok d) mid
   language_done d does keeps endless = inl (d, mid, does, (refl, (refl, keeps, endless)))
-
-pub successor_fits : (way : Direction) (d : Automaton) (digits : ℕ) → d.sizes ≡ digits ∷ [] → (old new : StepLog) (next : Automaton) → DoesSuccessor way d old (Ok next) new → IsAlphabet (digits ∷ digits ∷ digits ∷ [])
-successor_fits way d digits one old new next (inr (f, does, none)) = absurd (ok_not_err next f none)
-successor_fits way d digits one old new next (inl (less, mid, order, inr (f, does, none))) = absurd (ok_not_err next f none)
-successor_fits way d digits one old new next (inl (less, mid, order, inl (chain, after, chains, rest))) =
-    let pair : less.sizes ≡ digits ∷ digits ∷ [] = order.step.order_is.sizes ∙ ap (λ (ns : List ℕ). ns ++ ns) one in
-    subst IsAlphabet (chain_sizes_are less digits pair) chains.step.alphabet
 
 -- what stops at the language stops so whatever the adder is
 pub stops_admission : (way : Direction) (language adder : Branching) (reversed : Bool) (old new : StepLog) (result : Result UserSystem AdmitFault) → StopsAtLanguage way language reversed old result new

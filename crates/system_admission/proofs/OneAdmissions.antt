@@ -1,9 +1,10 @@
 -- The admission of files has one outcome.
-use Rattle.std.proofs.Common.{◌≡◌, ℕ, List, [], ◌∷◌, Ok, inl, inr, sym, ◌∙◌, subst, arith}
+use Rattle.std.proofs.Common.{◌≡◌, ℕ, List, [], ◌∷◌, Ok, inl, inr, sym, ◌∙◌, subst}
 use Rattle.digit_tuple.specs.Automaton.{Branching}
-use Rattle.digit_tuple.specs.Letters.{IsAlphabet, IsTooLarge}
 use Rattle.digit_tuple.specs.Steps.{StepLog}
 use Rattle.digit_tuple.specs.declared.direction.Direction.{Direction}
+use Rattle.digit_tuple.proofs.BranchTables.{same_branching}
+use Rattle.digit_tuple.proofs.LetterLemmas.{not_too_large}
 use Rattle.dfa_reading.specs.Listed.{Listed}
 use Rattle.adder_check.specs.Admission.{DoesAdmission}
 use Rattle.adder_check.specs.OneAnswer.{HasOneAnswer}
@@ -14,14 +15,8 @@ use Rattle.adder_check.proofs.OneAnswers.{ok_not_err}
 use Rattle.system_files.specs.SystemFiles.{SystemFiles}
 use Rattle.system_admission.specs.Admissions.{AdmitsFiles, AdmitsWithLanguage, IsSystemIn, IsTableOf}
 use Rattle.system_admission.proofs.AdmittedSystems.{admitted}
-use Rattle.system_admission.proofs.BranchTables.{same_branching}
 use Rattle.system_admission.proofs.FileMeanings.{defined}
 use Rattle.system_admission.proofs.NumberSteps.{not_stopped, stops_admission}
-
--- an alphabet is not too large
-not_too_large : (sizes : List ℕ) → IsAlphabet sizes → IsTooLarge sizes → ⊥
-not_too_large sizes are (inl many) = omega (arith, are.tracks, many)
-not_too_large sizes are (inr large) = omega (arith, are.letters, large)
 
 -- a table has one branching automaton
 table_one : (sizes : List ℕ) (listed : Listed) (n m : Branching) → IsTableOf sizes listed n → IsTableOf sizes listed m → n ≡ m

@@ -1,31 +1,14 @@
--- Words of letters, and the tuples of digits that they stand for, also from the last one on.
-use Rattle.std.proofs.Common.{◌≡◌, ℕ, ◌<◌, List, [], ◌∷◌, ◌++◌, map, reverse, sym, ap, ◌∙◌, subst, arith}
+-- Words on one track, and their tuples of digits, also from the last one on.
+use Rattle.std.proofs.Common.{◌≡◌, ℕ, List, [], ◌∷◌, ◌++◌, map, reverse, sym, ap, ◌∙◌, subst, arith}
 use Rattle.std.specs.List.{AllZip, AllByRecursion}
 use Rattle.std.proofs.lemmas.List.{reverse-append, map_push}
 use Rattle.digit_tuple.specs.Automaton.{Branching, Accepts}
-use Rattle.digit_tuple.specs.Letters.{AreDigits, IsWord, product}
-use Rattle.digit_tuple.proofs.LetterLemmas.{code_of-below, digits_from_letter}
+use Rattle.digit_tuple.specs.Letters.{AreDigits, IsWord}
 use Rattle.digit_tuple.proofs.ZipLemmas.{AllZip-append}
 use Rattle.dfa_reading.specs.Branching.{IsBranching, IsLetterOfDigits}
 use Rattle.dfa_reading.specs.Listed.{Listed, MovesAlong, ListedAccepts}
 use Rattle.dfa_reading.proofs.Letters.{takes_digits}
 use Rattle.dfa_reading.proofs.Words.{accepts_listed}
-
--- each letter of a word is that of a tuple of digits
-pub tuples_of : (sizes word : List ℕ) → IsWord (product sizes) word → (tuples : List (List ℕ)) × AllZip (IsLetterOfDigits sizes) tuples word
-tuples_of sizes [] over = ([], tt)
-tuples_of sizes (letter ∷ word) over =
-    let first = digits_from_letter sizes letter over.0 in
-    let rest = tuples_of sizes word over.1 in
-    (first.0 ∷ rest.0, (record { fit = first.1; letter_is = sym first.2 }, rest.1))
-
--- the letters of tuples of digits are a word
-pub word_of_tuples : (sizes : List ℕ) (tuples : List (List ℕ)) (word : List ℕ) → AllZip (IsLetterOfDigits sizes) tuples word → IsWord (product sizes) word
-word_of_tuples sizes [] [] letters = tt
-word_of_tuples sizes [] (letter ∷ word) letters = absurd letters
-word_of_tuples sizes (tuple ∷ tuples) [] letters = absurd letters
-word_of_tuples sizes (tuple ∷ tuples) (letter ∷ word) letters =
-    (subst (λ (a : ℕ). a < product sizes) (sym letters.0.letter_is) (code_of-below sizes tuple letters.0.fit), word_of_tuples sizes tuples word letters.1)
 
 -- lists that are related place by place are related from the last place on
 pub AllZip-reverse : {A B : Type 0} (R : A → B → Type 0) (xs : List A) (ys : List B) → AllZip R xs ys → AllZip R (reverse xs) (reverse ys)

@@ -20,7 +20,7 @@ use Rattle.system_files.specs.SystemLoading.{FailsFiles, AreFilesLoaded}
 use Rattle.system_files.specs.Looks.{IsPartAt, IsNoPart, FailsPart, IsListedPart, Loads, digits_on}
 use Rattle.system_files.specs.Taking.{IsTakenLanguage}
 use Rattle.system_files.specs.declared.taking.TakenLanguage.{TakenLanguage}
-use Rattle.system_files.proofs.LoadSteps.{fails_so, refused_so, loads_both, fails_both}
+use Rattle.system_files.proofs.LoadSteps.{fails_so, loads_both, fails_both}
 
 -- the header of a language tells its digits
 pub header_of : (digits : ℕ) (listed : Listed) → digits ≡ digits_on listed.header → IsLanguageListed listed → listed.header ≡ Sets (digit_set digits ∷ [])
@@ -65,10 +65,6 @@ module _ (way : Direction) (part : List ℕ) where
 
     has_language : (custom : Custom) → IsTakenLanguage way part custom mid taken → HasLanguage custom way part digits
     has_language custom is = (taken.language, language_at custom is)
-
-    pub loads_no_memory : Loads {X = SystemFiles} (λ custom found files. AreFilesOf custom way part files) (λ custom fault. FailsFiles custom way part fault) before old (Err faults.Memory) mid later
-    loads_no_memory =
-        refused_so (IsTakenLanguage way part) (λ custom fault. FailsFiles custom way part fault) (λ custom found (files : SystemFiles). AreFilesOf custom way part files) (λ custom fault. FailsFiles custom way part fault) before mid old later taken faults.Memory tt takes (λ custom agrees is. tt)
 
     adder_fails : (custom : Custom) (fault : LoadFault) → HasLanguage custom way part digits → FailsPart (Adder digits) custom (adder_name (taken_name custom way part)) fault → FailsFiles custom way part fault
     adder_fails custom (faults.Unknown folder name) has fails = (fails.0, inr (digits, has, ap custom fails.1 ∙ fails.2, fails.1))

@@ -153,11 +153,7 @@ looked name before one old new x named stands read =
       has_read = reads_ok old new x (length before) read;
     }
 
--- what was looked up stands under its name
-pub at_stands : (custom : Custom) (found : List FoundText) (name : List ℕ) (place : ℕ) (at : IsAt found name place) → Agrees custom found → StandsAs (custom name) at.finding
-at_stands custom found name place at agrees = stands_at custom found place (record { name = name; finding = at.finding }) agrees at.there
-
--- and lists a part, or nothing
+-- what was looked up lists a part, or nothing
 pub listed_here : (part : SystemPart) (name : List ℕ) (before found : List FoundText) (old new : StoreView) (place : ℕ) (one : FoundText) (result : Result Listed LoadFault) → slice_get found place ≡ Some one → IsAt found name place → MatchResult result (ListsPart part one.finding) (ListsNoPart part one)
     → Loads (λ custom found place. IsAt found name place) (λ custom fault. FailsLook name fault) before old (Ok place) found new → Loads (λ custom found listed. IsPartAt part custom name listed) (λ custom fault. FailsPart part custom name fault) before old result found new
 listed_here part name before found old new place one result at named lists loads = by result lists

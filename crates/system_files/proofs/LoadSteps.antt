@@ -1,5 +1,5 @@
 -- Steps of loading, one after another.
-use Rattle.std.proofs.Common.{◌≡◌, List, Option, None, Some, Result, Ok, Err, refl, sym, subst}
+use Rattle.std.proofs.Common.{◌≡◌, List, Option, None, Some, Result, Ok, Err, sym, subst}
 use Rattle.std.specs.Prelude.{⊤}
 use Rattle.std.specs.Option.{IfSome}
 use Rattle.std.specs.Result.{IsErrAnd}
@@ -9,18 +9,10 @@ use Rattle.wal_outside.specs.declared.folder.Folder.TheVariants.{Bases}
 use Rattle.dfa_loading.specs.declared.fault.LoadFault.{LoadFault}
 use Rattle.dfa_loading.specs.declared.fault.LoadFault.TheVariants as faults
 use Rattle.dfa_loading.specs.Places.{IsCausedBy}
-use Rattle.dfa_loading.proofs.ReadSteps.{nothing_refused, reads_both, reads_so, reads_ok}
+use Rattle.dfa_loading.proofs.ReadSteps.{reads_both, reads_so, reads_ok}
 use Rattle.system_files.specs.SystemFiles.{Custom}
 use Rattle.system_files.specs.SystemTexts.{FoundText, Agrees, HasFound}
 use Rattle.system_files.specs.Looks.{Loads}
-
--- nothing more was found
-pub found_nothing : (found : List FoundText) (store : StoreView) → HasFound found store found
-found_nothing found store = record { kept = λ custom agrees. agrees; told = by store.files }
-  where
-    by : (told : Option Files) → IfSome told (λ (files : Files). Agrees (files Bases) found → Agrees (files Bases) found)
-    by None = tt
-    by (Some files) = λ agrees. agrees
 
 told_both : (told later : Option Files) (before mid after : List FoundText) → later ≡ told → IfSome told (λ (files : Files). Agrees (files Bases) before → Agrees (files Bases) mid) → IfSome later (λ (files : Files). Agrees (files Bases) mid → Agrees (files Bases) after)
     → IfSome told (λ (files : Files). Agrees (files Bases) before → Agrees (files Bases) after)
@@ -75,12 +67,6 @@ module _ {X Y : Type 0} (P : Custom → List FoundText → X → Type 0) (F : Cu
     found = step.found;
     has_read = record { files = step.has_read.files; later = step.has_read.later; cause = quiet_caused fault old new quiet step.has_read.cause };
   }
-
--- memory ran out before anything was read
-pub refused_at_once : {Y : Type 0} (Q : Custom → List FoundText → Y → Type 0) (G : Custom → LoadFault → Type 0) (found : List FoundText) (store : StoreView) (fault : LoadFault) → fault ≡ faults.Memory → ((custom : Custom) → G custom faults.Memory) → Loads Q G found store (Err fault) found store
-refused_at_once {Y = Y} Q G found store fault memory fails =
-    let loads : Loads Q G found store (Err faults.Memory) found store = record { gives = λ custom agrees. fails custom; found = found_nothing found store; has_read = nothing_refused {X = Y} store faults.Memory refl } in
-    rw memory loads
 
 module _ {X Y Z : Type 0} (P : Custom → List FoundText → X → Type 0) (F : Custom → LoadFault → Type 0) (Q : Custom → List FoundText → Y → Type 0) (G : Custom → LoadFault → Type 0) (R : Custom → List FoundText → Z → Type 0) (H : Custom → LoadFault → Type 0)
     (before mid after : List FoundText) (old later new : StoreView) (x : X) (first : Loads P F before old (Ok x) mid later) where

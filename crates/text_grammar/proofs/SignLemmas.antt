@@ -1,8 +1,7 @@
 -- The first sign of a table with which bytes begin.
-use Rattle.std.proofs.Common.{◌≡◌, refl, ℕ, ◌≤◌, Bool, true, false, eqb, List, [], ◌∷◌, length, arith}
+use Rattle.std.proofs.Common.{◌≡◌, refl, ℕ, Bool, true, false, eqb, List, [], ◌∷◌, length}
 use Rattle.std.specs.Prelude.{if◌then◌else◌}
 use Rattle.std.specs.List.{AllByRecursion, starts_with}
-use Rattle.std.proofs.lemmas.Bool.{and_parts, false≢true}
 use Rattle.text_grammar.specs.Spots.{Lexeme}
 use Rattle.text_grammar.specs.Signs.{sign_of}
 
@@ -15,9 +14,3 @@ sign_each {T} P (sign ∷ signs) other bytes all none = pick (starts_with eqb by
     pick : (q : Bool) → (q ≡ true → P (record { token = sign.1; len = length sign.0 })) → P (sign_of signs other bytes) → P (if q then record { token = sign.1; len = length sign.0 } else sign_of signs other bytes)
     pick true h rest = h refl
     pick false h rest = rest
-
--- what begins with a sign is as long at least
-pub starts_within : (bytes sign : List ℕ) → starts_with eqb bytes sign ≡ true → length sign ≤ length bytes
-starts_within bytes [] h = omega arith
-starts_within [] (c ∷ cs) h = absurd (false≢true h)
-starts_within (b ∷ bs) (c ∷ cs) h = let rest = starts_within bs cs (and_parts (eqb c b) (starts_with eqb bs cs) h).1 in omega (arith, rest)

@@ -28,14 +28,6 @@ at_byte : {M T : Type 0} (lexing : Lexing M T) (m : M) (at b : ℕ) (bs : List �
     spots_from lexing m at 0 (b ∷ bs) ≡ (if q then spots_from lexing m (suc at) 0 bs else token_at lexing m at (lexing.lexeme m at b bs) bs)
 at_byte lexing m at b bs q e = ap (λ p. if p then spots_from lexing m (suc at) 0 bs else token_at lexing m at (lexing.lexeme m at b bs) bs) e
 
--- a byte between tokens is passed over
-pub spots_divider : {M T : Type 0} (lexing : Lexing M T) (m : M) (text : List ℕ) (at : ℕ) → at < length text → lexing.divides (get_or text at 0) ≡ true →
-    spots_from lexing m at 0 (drop at text) ≡ spots_from lexing m (at + 1) 0 (drop (at + 1) text)
-spots_divider lexing m text at h e =
-    let next : suc at ≡ at + 1 = omega arith in
-    ap (spots_from lexing m at 0) (drop-cons text at 0 h)
-    ∙ (at_byte lexing m at (get_or text at 0) (drop (suc at) text) true e ∙ ap (λ k. spots_from lexing m k 0 (drop k text)) next)
-
 -- the bytes between tokens are passed over, where they are those of a class
 pub spots_front : {M T : Type 0} (lexing : Lexing M T) (class : Class) → ((b : ℕ) → lexing.divides b ≡ is_in class b) → (m : M) (at : ℕ) (bs : List ℕ) →
     spots_from lexing m at 0 bs ≡ spots_from lexing m (at + front_len class bs) 0 (drop (front_len class bs) bs)

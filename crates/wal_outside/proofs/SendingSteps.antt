@@ -1,14 +1,14 @@
 -- How what was sent grows: nothing at first, then piece after piece, up to a call that failed.
-use Rattle.std.proofs.Common.{◌≡◌, ◌≢◌, ℕ, ◌+◌, ◌-◌, ◌<◌, List, [], ◌∷◌, ◌++◌, length, take, drop, Option, None, Some, Result, Ok, Err, refl, sym, ◌∙◌, subst, arith, append_assoc, append-nil, length-append, length-drop}
+use Rattle.std.proofs.Common.{◌≡◌, ◌≢◌, ℕ, ◌+◌, ◌-◌, ◌<◌, List, [], ◌∷◌, ◌++◌, length, take, drop, Option, None, Some, Result, Ok, Err, refl, sym, ◌∙◌, subst, arith, append_assoc, append-nil, length-drop}
 use Rattle.std.proofs.lemmas.List.{take-append-drop, take_rest}
 use Rattle.std.proofs.Math.Seq.{take-add}
 use Rattle.std.specs.Io.KnownBytes.{Appends, Keeps}
 use Rattle.wal_outside.specs.declared.sink.WriteFault.{WriteFault}
 use Rattle.wal_outside.specs.declared.sink.WriteFault.TheVariants.{Failed}
 use Rattle.wal_outside.specs.Calls.{Writes}
-use Rattle.wal_outside.specs.Causes.{CountsFault, is_failure, is_failed}
+use Rattle.wal_outside.specs.Causes.{CountsFault, is_failure}
 use Rattle.wal_outside.specs.Views.{SinkView}
-use Rattle.wal_outside.specs.Sending.{IsProperFront, Grows, Sends, HasSent}
+use Rattle.wal_outside.specs.Sending.{Grows, Sends, HasSent}
 
 -- a text has bytes where a part of it has
 some_behind : (text more : List ℕ) → more ≢ [] → text ++ more ≢ []
@@ -74,10 +74,6 @@ grows_cut (Some held) new text more fault (front, p, now) = (front, record { res
 
 pub sends_cut : (old new : SinkView) (text more : List ℕ) (fault : WriteFault) → Sends old text (Err fault) new → Sends old (text ++ more) (Err fault) new
 sends_cut old new text more fault sends = record { held = grows_cut old.held new.held text more fault sends.held; faults = sends.faults }
-
--- a sink fails only where there is something to hand over
-pub sends_some : (old new : SinkView) (text : List ℕ) (fault : WriteFault) → Sends old text (Err fault) new → text ≢ []
-sends_some old new text fault sends = grows_some old.held new.held text fault sends.held
 
 -- a call that took nothing leaves what is held
 pub Keeps-from_appends : (old new : Option (List ℕ)) → Appends old new [] → Keeps old new

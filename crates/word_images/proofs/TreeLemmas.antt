@@ -1,11 +1,10 @@
 -- The trees that are made of their parts are the formulas that are meant.
-use Rattle.std.proofs.Common.{◌≡◌, ℕ, ◌+◌, ◌-◌, ℤ, List, [], ◌∷◌, ◌++◌, map, refl, ap, ◌∙◌}
-use Rattle.std.specs.List.{fold}
+use Rattle.std.proofs.Common.{◌≡◌, ℕ, ◌+◌, ◌-◌, ℤ, List, [], ◌∷◌, ◌++◌, ap, ◌∙◌}
 use Rattle.std.specs.Prelude.{Vec, Box}
 use Rattle.std.specs.declared.alloc.Global.{Global}
 use Rattle.formula_parse.specs.Tokens as tokens
 use Rattle.formula_parse.specs.Trees as trees
-use Rattle.formula_parse.specs.Views.{term_view, factors_view, addends_view, formula_view, operand_view, operands_view, names_view, terms_view, with_operand}
+use Rattle.formula_parse.specs.Views.{term_view, factors_view, addends_view, formula_view, operands_view, names_view, terms_view}
 use Rattle.formula_parse.specs.declared.tree.Relation.TheVariants as relations
 use Rattle.formula_parse.specs.declared.tree.Quantifier.TheVariants as quantifiers
 use Rattle.formula_parse.specs.declared.tree.Sign.TheVariants as signs
@@ -21,17 +20,6 @@ use Rattle.formula_parse.specs.declared.tree.Formula.TheVariants as formula
 use Rattle.formula_parse.specs.declared.tree.Operand.{Operand}
 use Rattle.formula_parse.proofs.ViewSteps.{view_atom, view_chain, view_numeral, view_product, view_quantified, view_sum, view_times, view_variable}
 use Rattle.word_images.specs.ImageFormula.{at_place, has_letter, image_formula, is_place, place_term, place_variable, places_before, whole_variable, word_name}
-
-fold_snoc : {X Y : Type 0} (f : Y → X → Y) (a : Y) (xs : List X) (x : X) → fold f a (xs ++ x ∷ []) ≡ f (fold f a xs) x
-fold_snoc f a [] x = refl
-fold_snoc f a (y ∷ ys) x = fold_snoc f (f a y) ys x
-
-map_snoc : {X Y : Type 0} (f : X → Y) (xs : List X) (x : X) → map f (xs ++ x ∷ []) ≡ map f xs ++ f x ∷ []
-map_snoc f [] x = refl
-map_snoc f (y ∷ ys) x = ap (λ zs. f y ∷ zs) (map_snoc f ys x)
-
-operands_snoc : (os : List Operand) (o : Operand) → operands_view (os ++ o ∷ []) ≡ with_operand (operands_view os) (operand_view o)
-operands_snoc os o = ap (fold with_operand trees.no_operands) (map_snoc operand_view os o) ∙ fold_snoc with_operand trees.no_operands (map operand_view os) (operand_view o)
 
 -- lists that are pushed to
 pub pushed_first : {X : Type 0} (none one : List X) (x : X) → none ≡ [] → one ≡ none ++ x ∷ [] → one ≡ x ∷ []

@@ -1,8 +1,8 @@
 -- Where words lead in the automaton of a letter function: to one state exactly where the same letters follow them.
-use Rattle.std.proofs.Common.{◌≡◌, ℕ, ◌<◌, ◌≤◌, List, ◌++◌, length, ◌⊎◌, inl, inr, ap, arith}
+use Rattle.std.proofs.Common.{◌≡◌, ℕ, ◌<◌, ◌≤◌, List, ◌++◌, length, ◌⊎◌, inl, inr, ap, arith, None}
 use Rattle.std.proofs.lemmas.Bool.{cases_lt}
 use Rattle.std.proofs.lemmas.List.{get_or_past}
-use Rattle.digit_tuple.specs.Deterministic.{letters_of}
+use Rattle.digit_tuple.specs.Deterministic.{letters_of, states_of}
 use Rattle.digit_tuple.specs.Letters.{IsWord}
 use Rattle.minimise.specs.Classes.{class_of, first_of}
 use Rattle.minimise.specs.ClassFunctions.{class_after}
@@ -10,6 +10,7 @@ use Rattle.minimise.proofs.LeadLemmas.{lead}
 use Rattle.minimise.proofs.ClassLeadLemmas.{SameClassAfter-lead, class_after-lead}
 use Rattle.word_output.specs.LetterFunctions.{LetterFunctionValue, IsLetterFunction, SameLettersAfter, letter_after, letter_in}
 use Rattle.word_output.proofs.LetterFunctionLemmas.{one_class}
+use Rattle.word_output.specs.StateLetters.{letter_of_state}
 
 module _ (f : LetterFunctionValue) (is : IsLetterFunction f) where
   -- where a word leads from the first state
@@ -19,6 +20,10 @@ module _ (f : LetterFunctionValue) (is : IsLetterFunction f) where
   -- a word has the letter of where it leads
   pub letter_after-lead : (w : List ℕ) → letter_after f w ≡ letter_in f.letters (class_of f.classes (led w))
   letter_after-lead w = ap (letter_in f.letters) (class_after-lead f.automaton f.classes is.canonical w)
+
+  -- the sink has no letter
+  pub sink_letter : letter_of_state f (states_of f.automaton) ≡ None
+  sink_letter = ap (letter_in f.letters) (get_or_past f.classes (states_of f.automaton) 0 (omega (arith, is.canonical.count)))
 
   class_within : (q : ℕ) → class_of f.classes q ≤ length f.letters
   class_within q = by (cases_lt q (length f.classes))

@@ -5,7 +5,7 @@ use Rattle.std.specs.Option.{MatchOption, option_and_then}
 use Rattle.std.specs.Prelude.{slice_get, slice_index}
 use Rattle.std.proofs.lemmas.Bool.{cases_lt}
 use Rattle.std.proofs.lemmas.List.{get_or-map}
-use Rattle.std.proofs.lemmas.List.Elements.{All-nil, All-cons, All-weaker}
+use Rattle.std.proofs.lemmas.List.Elements.{All-weaker}
 use Rattle.std.proofs.lemmas.Option.{none-some, same_Some, slice_get-get_or, slice_get_past}
 use Rattle.digit_tuple.specs.Deterministic.{Automaton, IsTable, letters_of, states_of, edges_of, run_of}
 use Rattle.digit_tuple.specs.Explored.{key_at}
@@ -21,11 +21,11 @@ use Rattle.minimise.specs.Classes.{first_of}
 use Rattle.minimise.proofs.LeadLemmas.{lead}
 use Rattle.minimise.proofs.PlaceLemmas.{lead-run}
 use Rattle.minimise.proofs.RunLemmas.{run_within}
-use Rattle.product_op.specs.Readings.{Reading, AreReadings, AreStates, IsReading, state_at}
+use Rattle.product_op.specs.Readings.{Reading, AreStates, state_at}
 use Rattle.product_op.specs.TrackReadings.{whole_reading}
 use Rattle.product_op.specs.SinkKeys.{are_sinks}
 use Rattle.product_op.specs.Tuples.{AreTuples, LeadToOne, tuple_after}
-use Rattle.product_op.proofs.ReadingLemmas.{IsReading-whole, word_read-all}
+use Rattle.product_op.proofs.ReadingLemmas.{word_read-all}
 use Rattle.product_op.proofs.SinkKeyLemmas.{are_sinks-at}
 use Rattle.word_output.specs.LetterReadings.{HasListedLetter, LeadsListed, ListedAlike}
 use Rattle.word_output.specs.ListedStates.{AreListedStates, listed_letters, listed_of}
@@ -113,10 +113,6 @@ module _ (sizes : List ℕ) (listed : Listed) (d : Automaton) (is : IsTableOf si
 
   pub apart-listed : (letters k : ℕ) → letters ≡ product sizes → HasApart (LeadToOne readings) letters k → HasApart (ListedAlike sizes listed) (product sizes) k
   apart-listed letters k same apart = HasApart-same (LeadToOne readings) (ListedAlike sizes listed) (product sizes) k one_from_alike (subst (λ n. HasApart (LeadToOne readings) n k) same apart)
-
-  pub AreReadings-listed : (letters : ℕ) → letters ≡ product sizes → AreReadings letters readings
-  AreReadings-listed letters same =
-      subst (λ n. AreReadings n readings) (ap product is.sizes_are ∙ sym same) (All-cons (IsReading (product d.sizes)) (whole_reading d) [] (IsReading-whole d table) (All-nil (IsReading (product d.sizes))))
 
   pub AreListedStates-explored : (letters : ℕ) (keys : List (List ℕ)) (e : Automaton) → letters ≡ product sizes → e.sizes ≡ sizes → AreTuples letters readings keys e → AreListedStates sizes listed keys e
   AreListedStates-explored letters keys e same same_sizes tuples = record {

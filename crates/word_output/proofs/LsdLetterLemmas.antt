@@ -1,7 +1,7 @@
 -- Letters of words without their trailing zeros, by the pairs of states that words lead to without them and with them.
 use Rattle.std.proofs.Common.{◌≡◌, ◌≢◌, ℕ, ℤ, ◌<◌, Bool, true, false, List, [], ◌∷◌, ◌++◌, map, slice_index, Option, None, Some, refl, sym, ap, ◌∙◌, arith, if◌then◌else◌}
 use Rattle.std.specs.Option.{MatchOption, option_and_then}
-use Rattle.std.proofs.lemmas.List.{get_or-map, get_or_past}
+use Rattle.std.proofs.lemmas.List.{get_or-map}
 use Rattle.digit_tuple.specs.Deterministic.{Automaton, letters_of, run_of, states_of}
 use Rattle.digit_tuple.specs.Explored.{IsExplored, key_at}
 use Rattle.digit_tuple.specs.Keys.{LeadAlike, key_run}
@@ -16,10 +16,10 @@ use Rattle.minimise.proofs.LeadLemmas.{lead}
 use Rattle.project_close.specs.PaddedPairs.{are_sinks, pair_after, some_pair, twice}
 use Rattle.project_close.proofs.PaddedPairLemmas.{both_sinks, pair_run-first, same_pairs}
 use Rattle.project_close.proofs.SinkLeads.{lead-sink}
-use Rattle.word_output.specs.LetterFunctions.{IsLetterFunction, LetterFunctionValue, letter_after, letter_in}
+use Rattle.word_output.specs.LetterFunctions.{IsLetterFunction, LetterFunctionValue, letter_after}
 use Rattle.word_output.specs.LetterPaddings.{LsdLettersAlike}
 use Rattle.word_output.specs.StateLetters.{head_letters, letter_at, letter_led, letter_of_state}
-use Rattle.word_output.proofs.LetterLeads.{led, letter_after-lead, one_led, same_letters}
+use Rattle.word_output.proofs.LetterLeads.{led, letter_after-lead, one_led, same_letters, sink_letter}
 
 -- the letters of words by those of the keys that they lead to
 pub letter_led-explored : (letters : ℕ) (start : List ℕ) (after : List ℕ → ℕ → Option (List ℕ)) (accepts : List ℕ → Bool) (keys : List (List ℕ)) (e : Automaton)
@@ -36,14 +36,10 @@ module _ (f : LetterFunctionValue) (is : IsLetterFunction f) where
   abbrev d : Automaton
   d = f.automaton
 
-  -- the sink has no letter
-  pub sink_letter : letter_of_state f (states_of d) ≡ None
-  sink_letter = ap (λ class. letter_in f.letters class) (get_or_past f.classes (states_of d) 0 (omega (arith, is.canonical.count)))
-
   module _ (none : first_of d ≡ states_of d) where
     -- no word has a letter
     pub never : (w : List ℕ) → letter_after f w ≡ None
-    never w = letter_after-lead f is w ∙ ap (letter_of_state f) (ap (λ q. lead d q w) none ∙ lead-sink d w) ∙ sink_letter
+    never w = letter_after-lead f is w ∙ ap (letter_of_state f) (ap (λ q. lead d q w) none ∙ lead-sink d w) ∙ sink_letter f is
 
     pub never-alike : (w v : List ℕ) → LsdLettersAlike f w v
     never-alike w v = record { stripped = λ u over. never (strip Lsd w ++ u) ∙ sym (never (strip Lsd v ++ u)); whole = λ u over. never (w ++ u) ∙ sym (never (v ++ u)) }
@@ -70,7 +66,7 @@ module _ (f : LetterFunctionValue) (is : IsLetterFunction f) where
     pair_letter p q = by (are_sinks d p q) refl
       where
         by : (b : Bool) → are_sinks d p q ≡ b → option_and_then (λ key. letter_of_state f (slice_index key 0)) (if b then None else Some (p ∷ q ∷ [])) ≡ letter_of_state f p
-        by true sinks = sym (ap (letter_of_state f) (both_sinks d p q sinks).0 ∙ sink_letter)
+        by true sinks = sym (ap (letter_of_state f) (both_sinks d p q sinks).0 ∙ sink_letter f is)
         by false live_pair = refl
 
     pub letters-pairs : (letters : ℕ) (accepts : List ℕ → Bool) (keys : List (List ℕ)) (e : Automaton) → IsExplored letters (twice (first_of d)) (pair_after d) accepts keys e → 0 < states_of e

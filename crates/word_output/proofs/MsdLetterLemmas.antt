@@ -1,11 +1,11 @@
 -- Letters of words without their leading zeros.
-use Rattle.std.proofs.Common.{◌≡◌, ◌==◌, ◌&&◌, ℕ, zero, suc, ◌+◌, ◌<◌, Bool, true, false, not, cond, List, [], ◌∷◌, ◌++◌, filter, map, take, drop, length, get_or, slice_index, Option, None, Some, unwrap_or, ◌⊎◌, inl, inr, refl, sym, ap, ◌∙◌, arith, if◌then◌else◌}
+use Rattle.std.proofs.Common.{◌≡◌, ◌==◌, ◌&&◌, ℕ, zero, suc, ◌<◌, Bool, true, false, not, cond, List, [], ◌∷◌, ◌++◌, filter, drop, length, get_or, slice_index, Option, None, Some, unwrap_or, ◌⊎◌, inl, inr, refl, sym, ap, ◌∙◌, arith, if◌then◌else◌}
 use Rattle.std.specs.List.{All, AllPairs}
 use Rattle.std.specs.Option.{option_and_then, option_map_or}
 use Rattle.std.proofs.lemmas.Bool.{eqb-true, ne_eqb}
 use Rattle.std.proofs.lemmas.Bool.Decides.{Decides-eqb}
-use Rattle.std.proofs.lemmas.List.{get_or-map, length-map, nil_from_length, map-append, take_more}
-use Rattle.std.proofs.lemmas.List.Elements.{All-cons, All-filter, All-map, filter-append, filter_passes}
+use Rattle.std.proofs.lemmas.List.{get_or-map, length-map, nil_from_length}
+use Rattle.std.proofs.lemmas.List.Elements.{All-cons, All-filter, All-map, filter_passes}
 use Rattle.std.proofs.lemmas.List.Kept.{AllPairs-cons, AllPairs-filter}
 use Rattle.std.proofs.lemmas.Option.{none-some}
 use Rattle.digit_tuple.specs.Deterministic as deterministic
@@ -108,17 +108,6 @@ module _ (d : Automaton) (table : IsTable (letters_of d) d.states) where
       lead_on (suc a) small =
           ap (λ (b : Bool). if b then Some [] else key_by (edges_from others) (suc a)) (ne_eqb 0 (suc a) (λ other. absurd (omega (arith, other))))
           ∙ key_by-edges others (suc a) ∙ ap key_to (target_by-others (edges_of d 0) a)
-
--- one more edge
-pub edges_from-more : (es : List Edge) (n : ℕ) (e : Edge) → n < length es → edges_from (take (n + 1) es) ≡ edges_from (take n es) ++ edge_to_target (get_or es n e) ∷ []
-edges_from-more es n e within = ap edges_from (take_more es n e within) ∙ map-append edge_to_target (take n es) (get_or es n e ∷ [])
-
-pub others-more : (es : List Edge) (n : ℕ) (e : Edge) → n < length es
-    → edges_from (filter is_by_other (take (n + 1) es)) ≡ edges_from (filter is_by_other (take n es)) ++ map edge_to_target (cond (is_by_other (get_or es n e)) (get_or es n e ∷ []) [])
-others-more es n e within =
-    ap (λ xs. edges_from (filter is_by_other xs)) (take_more es n e within)
-    ∙ ap edges_from (filter-append is_by_other (take n es) (get_or es n e ∷ []))
-    ∙ map-append edge_to_target (filter is_by_other (take n es)) (cond (is_by_other (get_or es n e)) (get_or es n e ∷ []) [])
 
 -- the key of a word without leading zeros
 abbrev pub past_key : Automaton → List ℕ → Option (List ℕ)

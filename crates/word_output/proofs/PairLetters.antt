@@ -26,9 +26,8 @@ use Rattle.word_output.specs.KeyLetters.{BothAlike, BothCompare, KeyCompares}
 use Rattle.word_output.specs.LetterFunctions.{IsLetterFunction, LetterFunctionValue, letter_after}
 use Rattle.word_output.specs.StateLetters.{letter_of_state}
 use Rattle.word_output.proofs.FirstWordLemmas.{accepts-run}
-use Rattle.word_output.proofs.LetterLeads.{led, letter_after-lead, one_led, same_letters}
+use Rattle.word_output.proofs.LetterLeads.{led, letter_after-lead, one_led, same_letters, sink_letter}
 use Rattle.word_output.proofs.LetterSetLemmas.{run-reflagged}
-use Rattle.word_output.proofs.PlacedLetters.{sink_has_none}
 
 -- one more flag
 pub flags_more : (P : ℕ → Type 0) (flags : List Bool) (flag : Bool) (n : ℕ) → length flags ≡ n → ((q : ℕ) → q < n → IsTrue (slice_index_or flags q false) ↔ P q) → (IsTrue flag ↔ P n)
@@ -105,7 +104,7 @@ module _ (f g : LetterFunctionValue) (is_f : IsLetterFunction f) (is_g : IsLette
         second = letter_after-lead g is_g w ∙ ap (λ (k : List ℕ). letter_of_state g (slice_index k 1)) (sym (pair_is w over))
 
         none_first : are_sinks both key ≡ true → letter_after f w ≡ None
-        none_first sinks = first ∙ ap (letter_of_state f) (are_sinks-at both key 0 (omega arith) sinks) ∙ sink_has_none f is_f
+        none_first sinks = first ∙ ap (letter_of_state f) (are_sinks-at both key 0 (omega arith) sinks) ∙ sink_letter f is_f
 
         by : (o : Option ℕ) → MatchOption o (are_sinks both key ≡ true) (λ q. (q < states_of d) × (key_at keys q ≡ key)) → IsTrue (option_map_or (λ p. accepting_of table p) o false) ↔ Compare w
         by None sinks = (

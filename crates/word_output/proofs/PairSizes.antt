@@ -13,11 +13,11 @@ use Rattle.digit_tuple.proofs.JointNames.{AreJoint-joint_names}
 use Rattle.digit_tuple.proofs.LetterLemmas.{IsWord-append}
 use Rattle.digit_tuple.proofs.NameLemmas.{place_of-at, place_of-contained}
 use Rattle.digit_tuple.proofs.WidthLemmas.{HasApart-same, HasApart-within, HasWidth-same}
+use Rattle.digit_tuple.proofs.TruthLemmas.{same_tests}
 use Rattle.minimise.specs.Canonical.{IsCanonical}
 use Rattle.minimise.proofs.ApartLemmas.{canonical_apart}
 use Rattle.num_system.specs.declared.comparison.Comparison.{Comparison}
 use Rattle.num_system.proofs.UnderNames.{place_left, place_right}
-use Rattle.numeration.proofs.RankLemmas.{same_tests}
 use Rattle.product_op.proofs.SizeLemmas.{contained_from_place}
 use Rattle.word_output.specs.KeyLetters.{BothAlike, BothCompare}
 use Rattle.word_output.specs.LetterFunctions.{LetterFunctionValue, letter_after}

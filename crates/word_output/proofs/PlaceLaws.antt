@@ -4,9 +4,9 @@ use Rattle.std.proofs.lemmas.Option.{same_Some}
 use Rattle.digit_tuple.specs.Deterministic.{Automaton, accepts_of, letters_of}
 use Rattle.digit_tuple.specs.Letters.{IsWord, product}
 use Rattle.digit_tuple.specs.Paddings.{in_order}
+use Rattle.digit_tuple.proofs.TruthLemmas.{same_tests}
 use Rattle.minimise.proofs.CanonicalLemmas.{canonical_forms}
 use Rattle.numeration.specs.Spelling.{Spells, letters_in}
-use Rattle.numeration.proofs.RankLemmas.{same_tests}
 use Rattle.num_system.specs.Tracks.{systems_of, way_of}
 use Rattle.num_system.specs.declared.comparison.Comparison.{Comparison}
 use Rattle.word_output.specs.LetterFunctions.{letter_after}

@@ -2,7 +2,7 @@
 use Rattle.std.proofs.Common.{◌≡◌, ◌<◌, ℕ, true, List, [], ◌∷◌, length, get_or, slice_index, Option, None, Some, sym, ap, ◌∙◌, arith}
 use Rattle.std.specs.List.{All}
 use Rattle.std.specs.Option.{MatchOption, option_and_then}
-use Rattle.std.proofs.lemmas.List.{get_or-map, get_or_past}
+use Rattle.std.proofs.lemmas.List.{get_or-map}
 use Rattle.std.proofs.lemmas.List.Elements.{All-cons, All-nil}
 use Rattle.digit_tuple.specs.Deterministic.{Automaton, run_of, states_of}
 use Rattle.digit_tuple.specs.Explored.{key_at}
@@ -17,13 +17,9 @@ use Rattle.product_op.specs.TrackReadings.{read_on}
 use Rattle.product_op.specs.Tuples.{AreTuples, tuple_after}
 use Rattle.product_op.proofs.ReadingLemmas.{IsReading-on, word_read-part}
 use Rattle.product_op.proofs.SinkKeyLemmas.{are_sinks-at}
-use Rattle.word_output.specs.LetterFunctions.{IsLetterFunction, LetterFunctionValue, letter_after, letter_in}
+use Rattle.word_output.specs.LetterFunctions.{IsLetterFunction, LetterFunctionValue, letter_after}
 use Rattle.word_output.specs.StateLetters.{head_letters, letter_at, letter_led, letter_of_state}
-use Rattle.word_output.proofs.LetterLeads.{led, letter_after-lead}
-
--- the sink has no letter
-pub sink_has_none : (f : LetterFunctionValue) → IsLetterFunction f → letter_of_state f (states_of f.automaton) ≡ None
-sink_has_none f is = ap (letter_in f.letters) (get_or_past f.classes (states_of f.automaton) 0 (omega (arith, is.canonical.count)))
+use Rattle.word_output.proofs.LetterLeads.{led, letter_after-lead, sink_letter}
 
 -- one reader
 pub one_reading : (readers : List Reader) (r : Reader) (reading : Reading) → readers ≡ r ∷ [] → reading_in r ≡ reading → readings_in readers ≡ reading ∷ []
@@ -56,7 +52,7 @@ module _ (sizes : List ℕ) (g : LetterFunctionValue) (is : IsLetterFunction g) 
             → option_and_then (λ q. letter_at (head_letters g keys) q) o ≡ letter_of_state g (led g is (read w))
         by None sinks =
             let at : led g is (read w) ≡ states_of g.automaton = sym (ap (λ (k : List ℕ). get_or k 0 0) (read_tuple w over)) ∙ are_sinks-at (reading ∷ []) key 0 (omega arith) sinks in
-            sym (ap (letter_of_state g) at ∙ sink_has_none g is)
+            sym (ap (letter_of_state g) at ∙ sink_letter g is)
         by (Some q) found =
             let here : key_at keys q ≡ led g is (read w) ∷ [] = found.1 ∙ read_tuple w over in
             get_or-map (λ (k : List ℕ). letter_of_state g (slice_index k 0)) keys q [] None (omega (arith, found.0, tuples.count))

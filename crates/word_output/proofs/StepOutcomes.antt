@@ -10,7 +10,7 @@ use Rattle.digit_tuple.proofs.WidthLemmas.{IsEquivalence-facts, IsOneWidth-equiv
 use Rattle.dfa_reading.specs.Listed.{Listed}
 use Rattle.minimise.specs.Tracked.{NamedAutomaton}
 use Rattle.minimise.proofs.CanonicalLemmas.{canonical_forms}
-use Rattle.numeration.proofs.RankLemmas.{same_tests}
+use Rattle.digit_tuple.proofs.TruthLemmas.{same_tests}
 use Rattle.num_system.proofs.StepLemmas.{not_too_large}
 use Rattle.num_system.specs.declared.comparison.Comparison.{Comparison}
 use Rattle.automaton_steps.specs.Laws.{HasOneOutcome}
@@ -22,7 +22,7 @@ use Rattle.word_output.specs.LetterReadings.{IsLetterReading, IsLetterReadStep, 
 use Rattle.word_output.specs.ValidLetters.{AreValidLetters, IsValidLettersStep, ValidLettersAlike, ValidLettersExceed}
 use Rattle.word_output.specs.WordPairs.{IsPair, PairAlike, PlacedLetters, pair_sizes}
 use Rattle.word_output.proofs.OptionLemmas.{same_option}
-use Rattle.word_output.proofs.TupleWords.{tuples_of}
+use Rattle.dfa_reading.proofs.TupleWords.{tuples_of}
 
 -- words that are alike to a step: these are equivalences
 listed_alike : (sizes : List ℕ) (listed : Listed) → IsEquivalence (ListedAlike sizes listed)

@@ -21,8 +21,7 @@ use Rattle.product_op.proofs.TupleLemmas.{alike_from_one, one_from_alike, tuple_
 use Rattle.word_output.specs.LetterFunctions.{IsLetterFunction, LetterFunctionValue, letter_after}
 use Rattle.word_output.specs.StateLetters.{letter_at, letter_led, letter_of_state}
 use Rattle.word_output.specs.ValidLetters.{ValidLettersAlike, valid_letter, tuple_letters}
-use Rattle.word_output.proofs.LetterLeads.{led, letter_after-lead, one_led, same_letters}
-use Rattle.word_output.proofs.LsdLetterLemmas.{sink_letter}
+use Rattle.word_output.proofs.LetterLeads.{led, letter_after-lead, one_led, same_letters, sink_letter}
 
 same_heads : (p q : ℕ) (ps qs : List ℕ) → p ∷ ps ≡ q ∷ qs → p ≡ q
 same_heads p q ps qs same = cc

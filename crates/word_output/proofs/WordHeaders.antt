@@ -1,15 +1,12 @@
 -- The tracks of a word's header.
-use Rattle.std.proofs.Common.{◌≡◌, ℕ, ◌<◌, List, length, sym, ap, ◌∙◌, subst, arith}
+use Rattle.std.proofs.Common.{◌≡◌, ℕ, ◌<◌, List, length, ap, ◌∙◌, arith}
 use Rattle.std.proofs.lemmas.List.{length-map}
-use Rattle.dfa_reading.specs.Branching.{AreGiven, sizes_in}
+use Rattle.dfa_reading.specs.Branching.{sizes_in}
 use Rattle.dfa_reading.specs.Headers.{Below, Header, digits_in}
 use Rattle.dfa_reading.specs.Listed.{Listed}
 use Rattle.dfa_reading.specs.Systems.{digit_limit}
 use Rattle.dfa_reading.specs.WordFiles.{IsWordListed}
-use Rattle.numeration.specs.Spelling.{sizes_of}
-use Rattle.numeration.specs.Systems.{System}
-use Rattle.num_system.specs.Sealed.{SystemValue, system_of}
-use Rattle.num_system.specs.Tracks.{systems_of}
+use Rattle.num_system.specs.Sealed.{SystemValue}
 
 module _ (listed : Listed) (are : IsWordListed listed) where
   -- the digits of its systems are the sizes of the tracks
@@ -23,9 +20,3 @@ module _ (listed : Listed) (are : IsWordListed listed) where
     -- there is a track
     pub word_tracks : 0 < length systems
     word_tracks = omega (arith, count, are.some)
-
-    -- and a number of digits for each
-    pub word_given : (digits : List ℕ) → digits ≡ sizes_of (systems_of systems) → AreGiven listed.header digits
-    word_given digits same =
-        let long : length digits ≡ length are.names = ap length same ∙ length-map (systems_of systems) (λ (s : System). s.digits) ∙ length-map systems system_of ∙ count in
-        subst (λ (header : Header). AreGiven header digits) (sym are.header) long

@@ -20,7 +20,7 @@ use Rattle.word_output.specs.Words.{HasLetter, IsWordValue, SpellsPlace}
 use Rattle.word_output.proofs.OptionLemmas.{kept_passes, there_or}
 use Rattle.word_output.proofs.PlaceLemmas.{one_stripped, place_of_valid, stripped_spells, valid_of_place}
 use Rattle.word_output.proofs.StripLemmas.{strip-twice}
-use Rattle.word_output.proofs.TupleWords.{tuples_of, word_of_tuples}
+use Rattle.dfa_reading.proofs.TupleWords.{tuples_of, word_of_tuples}
 
 module _ (limit : ℕ) (systems : List SystemValue) (listed : Listed) (f : LetterFunctionValue) (lines : List StepLine) (steps : AreWordSteps limit systems listed f lines) where
   abbrev way : Direction

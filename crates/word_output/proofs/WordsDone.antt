@@ -1,5 +1,5 @@
 -- The three steps of a word, one after another.
-use Rattle.std.proofs.Common.{◌≡◌, ℕ, List, [], ◌∷◌, Result, Ok, Err, inl, inr, ◌⊎◌, ap, ◌∙◌, subst}
+use Rattle.std.proofs.Common.{◌≡◌, ℕ, List, [], ◌∷◌, Result, Ok, Err, inr, ◌⊎◌, ap, ◌∙◌, subst}
 use Rattle.digit_tuple.specs.StepResults.{IsDone, IsRefusedBy}
 use Rattle.digit_tuple.specs.Steps.{StepLog, with_line, with_lines}
 use Rattle.digit_tuple.specs.declared.step_fault.StepFault.{StepFault}
@@ -10,8 +10,8 @@ use Rattle.num_system.specs.Sealed.{SystemValue}
 use Rattle.num_system.specs.Tracks.{languages_of, systems_of, way_of}
 use Rattle.num_system.proofs.LineLemmas.{with_more}
 use Rattle.word_output.specs.LetterFunctions.{LetterFunctionValue}
-use Rattle.word_output.specs.LetterPaddings.{DoesLetterPad, IsLetterPadStep, LetterPadExceeds}
-use Rattle.word_output.specs.LetterReadings.{DoesLetterRead, IsLetterReadStep}
+use Rattle.word_output.specs.LetterPaddings.{IsLetterPadStep}
+use Rattle.word_output.specs.LetterReadings.{IsLetterReadStep}
 use Rattle.word_output.specs.ValidLetters.{DoesValidLetters, IsValidLettersStep, ValidLettersExceed}
 use Rattle.word_output.specs.WordReadings.{AreLetterStepsDone, DoesLetterSteps, IsPaddedWord, PassesWord}
 
@@ -19,24 +19,9 @@ module _ (old : StepLog) (systems : List SystemValue) (listed : Listed) where
   abbrev sizes : List ℕ
   sizes = sizes_of (systems_of systems)
 
-  -- the first step is refused
-  pub read_stops : (new : StepLog) (fault : StepFault) → DoesLetterRead old sizes listed (Err fault) new → (fault ≡ faults.Memory) ⊎ PassesWord old systems listed fault
-  read_stops new fault refused = inr (inl refused.by_limit)
-
   module _ (mid : StepLog) (read : LetterFunctionValue) (first : IsDone old (IsLetterReadStep old.limit sizes listed read) mid) where
     mid_limit : mid.limit ≡ old.limit
     mid_limit = ap (λ (log : StepLog). log.limit) first.new_is
-
-    -- the second is
-    pub pad_stops : (new : StepLog) (fault : StepFault) → DoesLetterPad mid (way_of systems) read (Err fault) new → (fault ≡ faults.Memory) ⊎ PassesWord old systems listed fault
-    pad_stops new fault refused = inr (inr (inl (record {
-      read = read;
-      first = first.line;
-      read_step = first.step;
-      refused =
-          subst (λ (log : StepLog). IsRefusedBy log ⊥ (LetterPadExceeds old.limit (way_of systems) read) fault) first.new_is
-          (subst (λ (limit : ℕ). IsRefusedBy mid ⊥ (LetterPadExceeds limit (way_of systems) read) fault) mid_limit refused.by_limit);
-    })))
 
     module _ (late : StepLog) (padded : LetterFunctionValue) (second : IsDone mid (IsLetterPadStep mid.limit (way_of systems) read padded) late) where
       late_limit : late.limit ≡ old.limit

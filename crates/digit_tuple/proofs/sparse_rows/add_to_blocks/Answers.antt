@@ -1,6 +1,5 @@
 use Rattle.std.proofs.Common.{◌≡◌, ◌∷◌, ◌++◌, [], length, sym, ap, ◌∙◌, subst, arith}
-use Rattle.digit_tuple.specs.Decisions.{IsSound, rows_in, sizes_in}
-use Rattle.digit_tuple.specs.declared.decisions.Decisions.{Decisions}
+use Rattle.digit_tuple.specs.Decisions.{IsSound, rows_in}
 use Rattle.digit_tuple.proofs.RowGrowthLemmas.{map-ahead_zero}
 use Rattle.digit_tuple.proofs.RowBlockLemmas.{open-grown, open-last, open-rows}
 use Rattle.digit_tuple.proofs.sparse_rows.add_to_blocks.Goals as goal

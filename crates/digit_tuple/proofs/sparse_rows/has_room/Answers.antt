@@ -1,4 +1,4 @@
-use Rattle.std.proofs.Common.{◌≡◌, ◌-◌, ◌<◌, length, take, subst, sym, arith}
+use Rattle.std.proofs.Common.{◌-◌, ◌<◌, length, take, subst, sym, arith}
 use Rattle.std.specs.List.{AllByRecursion}
 use Rattle.std.proofs.lemmas.Bool.Decides.{Decides-ltb}
 use Rattle.digit_tuple.specs.SparseRows.{IsFullOver}

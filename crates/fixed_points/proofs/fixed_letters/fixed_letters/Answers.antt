@@ -9,9 +9,9 @@ use Rattle.morph_words.specs.Rules.{IsMorphism, Rules}
 use Rattle.fixed_points.specs.LetterGraph.{IsLetterGraph, accepts_all}
 use Rattle.morph_words.specs.MorphismKinds.{HasFixedPoint}
 use Rattle.fixed_points.specs.Occurrences.{SoManyOccur}
-use Rattle.fixed_points.proofs.BaseLemmas.{one_fits}
 use Rattle.fixed_points.proofs.ReachedLemmas.{so_many_occur, some_occur}
 use Rattle.morph_words.proofs.RuleLemmas.{bits_back}
+use Rattle.base_k.proofs.BaseAlphabets.{one_fits}
 use Rattle.fixed_points.proofs.WordLemmas.{letter_reached}
 use Rattle.fixed_points.proofs.fixed_letters.fixed_letters.Goals as goal
 

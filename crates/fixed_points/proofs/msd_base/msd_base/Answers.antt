@@ -3,7 +3,7 @@ use Rattle.std.specs.Rc.{rc_value}
 use Rattle.numeration.specs.Systems.{System}
 use Rattle.num_system.specs.Sealed.{SystemValue, system_of}
 use Rattle.num_system.specs.Tracks.{systems_of}
-use Rattle.fixed_points.proofs.BaseLemmas.{three_fit}
+use Rattle.base_k.proofs.BaseAlphabets.{three_fit}
 use Rattle.fixed_points.proofs.msd_base.msd_base.Goals as goal
 
 pub seal_built_in-requires : goal.seal_built_in-requires

@@ -2,7 +2,7 @@ use Rattle.std.proofs.Common.{◌∙◌, refl, sym, ap, arith, ℕ, ◌<◌, Lis
 use Rattle.std.proofs.lemmas.List.{take_rest, map-append}
 use Rattle.macro_expand.specs.declared.fault.MacroFault.TheVariants as faults
 use Rattle.macro_expand.specs.Pieces.{pieces}
-use Rattle.macro_expand.specs.Expansion.{each, put, expand_piece, expand_text, expand_arguments, expand_call_within, filled_text}
+use Rattle.macro_expand.specs.Expansion.{each, expand_piece, expand_call_within}
 use Rattle.macro_expand.specs.Views.{call_view, pieces_view, expanded_view, given_view}
 use Rattle.macro_expand.proofs.EachSteps.{piece_put, limited_known}
 use Rattle.macro_expand.proofs.SourceSteps.{came_known, all_left, left_value, left_plain, left_refused, left_more}

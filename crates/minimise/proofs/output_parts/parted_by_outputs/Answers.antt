@@ -1,7 +1,5 @@
-use Rattle.std.proofs.Common.{List, ℕ, ◌≡◌, ◌≤◌, subst, arith}
+use Rattle.std.proofs.Common.{subst, arith}
 use Rattle.std.proofs.lemmas.Result.{IfOk-weaker}
-use Rattle.digit_tuple.specs.Deterministic.{states_of}
-use Rattle.minimise.specs.Classes.{class_of}
 use Rattle.minimise.specs.FirstPlaces.{AreFirstPlaces}
 use Rattle.minimise.proofs.HashLemmas.{AreCoarseClasses-places}
 use Rattle.minimise.proofs.OutputPartLemmas.{AreCoarseNumbers-parts, TellOutputs-parts}

@@ -1,7 +1,7 @@
 use Rattle.std.proofs.Common.{[], ◌∷◌}
+use Rattle.product_op.proofs.ResultLemmas.{IfOk-three}
 use Rattle.numeration.specs.Relations.{IsSum}
 use Rattle.number_order.proofs.KeptLemmas.{relation_kept}
-use Rattle.num_system.proofs.StepLemmas.{IfOk-three}
 use Rattle.num_system.proofs.seal.least_adder.Goals as goal
 
 pub returns-clause-adder : goal.returns-clause-adder

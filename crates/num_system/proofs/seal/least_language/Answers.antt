@@ -1,5 +1,5 @@
-use Rattle.num_system.proofs.StepLemmas.{IfOk-three}
 use Rattle.number_order.proofs.KeptLemmas.{language_kept}
+use Rattle.product_op.proofs.ResultLemmas.{IfOk-three}
 use Rattle.num_system.proofs.seal.least_language.Goals as goal
 
 pub returns : goal.returns

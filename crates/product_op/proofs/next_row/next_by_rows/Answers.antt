@@ -14,10 +14,6 @@ module _ (readers : List Reader) (place : ℕ) (r : Reader) (within : place < le
   is_reading : (letters : ℕ) → AreReadings letters (readings_in readers) → IsReading letters (reading_in r)
   is_reading letters are = subst (IsReading letters) (reading_at-reader readers place r within is) (are place no_reading (omega (arith, length-readings readers, within)))
 
-  -- there is a row for each reader
-  row_within : (key : List ℕ) (rows : List NextRow) → AreNextRows (automata_in (readings_in readers)) key rows → place < length rows
-  row_within key rows are = omega (arith, are.count, length-map (readings_in readers) (λ (x : Reading). x.automaton), length-readings readers, within)
-
   -- the row at a place is that of the reader's automaton
   row_is : (key : List ℕ) (rows : List NextRow) (row : NextRow) → AreNextRows (automata_in (readings_in readers)) key rows → row ≡ get_or rows place row → IsNextRow r.dfa.now (state_at key place) row
   row_is key rows row are here =

@@ -1,8 +1,9 @@
 use Rattle.std.proofs.Common.{refl, ap, map}
 use Rattle.std.proofs.lemmas.Result.{err_from_is_err_and}
 use Rattle.command_head.specs.HeadViews.{valued_view, combine_view}
-use Rattle.session_cli.proofs.CombineChains.{list_broken, list_planned, list_failed, own_head}
+use Rattle.session_cli.proofs.CombineChains.{list_broken, list_planned, list_failed}
 use Rattle.session_cli.proofs.StoreReads.{from_none, from_refused, from_read}
+use Rattle.session_cli.proofs.HeadSteps.{own_head}
 use Rattle.session_cli.proofs.combine.plan_combine.Goals as goal
 
 pub returns-in_err-head : goal.returns-in_err-head

@@ -1,15 +1,16 @@
 use Rattle.std.proofs.Common.{refl}
 use Rattle.std.proofs.lemmas.Result.{err_from_is_err_and}
 use Rattle.command_head.specs.HeadViews.{image_view}
-use Rattle.session_cli.proofs.ImageChains.{image_broken, image_planned, image_failed, own_image_head}
+use Rattle.session_cli.proofs.ImageChains.{image_broken, image_planned, image_failed}
 use Rattle.session_cli.proofs.StoreReads.{from_none, from_refused, from_read}
+use Rattle.session_cli.proofs.HeadSteps.{own_head}
 use Rattle.session_cli.proofs.image.plan_image.Goals as goal
 
 pub returns-in_err-head : goal.returns-in_err-head
 returns-in_err-head g c =
     let p = err_from_is_err_and c.from_residual.result c.from_residual.ensures.1 in
     let fault = c.in_err-head.field-0.0 in
-    rw (p.1, p.2) (from_none _ _ _ (own_image_head fault) (λ found ledger stores. image_broken c.args.options.limit ledger c.args.text.now fault c.in_err-head.ensures))
+    rw (p.1, p.2) (from_none _ _ _ (own_head fault) (λ found ledger stores. image_broken c.args.options.limit ledger c.args.text.now fault c.in_err-head.ensures))
 
 pub returns-in-Ok : goal.returns-in-Ok
 returns-in-Ok g c =

@@ -8,7 +8,8 @@ use Rattle.digit_tuple.specs.declared.decisions.Decisions.{Decisions}
 use Rattle.digit_tuple.specs.Decisions.{rows_in, sizes_in, joined, behind, LeadsAs, IsSound}
 use Rattle.digit_tuple.proofs.TruthLemmas.{never_true, ever_true}
 use Rattle.digit_tuple.proofs.DecisionReads.{IsRowOn-sound, digits_at, start_at, joined-next, behind-fits}
-use Rattle.digit_tuple.proofs.SameRows.{all-append, all-joined}
+use Rattle.digit_tuple.proofs.SameRows.{all-joined}
+use Rattle.digit_tuple.proofs.AllLemmas.{all_append}
 use Rattle.digit_tuple.proofs.decisions.Decisions.+is_within.Goals as goal
 
 pub start-start-requires : goal.start-start-requires
@@ -78,7 +79,7 @@ loop-count-preserved t c =
     subst (λ (d : Decisions). AllByRecursion P (map (behind (c.args.base + get_or ds k 0 * track.weight)) (get_or (rows_in d) (start + k) []))) c.deref.ensures
     (subst (λ n. AllByRecursion P (map (behind (c.args.base + n * track.weight)) (get_or (rows_in c.deref.result.now) (start + k) []))) c.from.ensures (c.is_within.ensures.0 yes)) in
     subst (AllByRecursion P) (sym (joined-next c.args.base track.weight ds (rows_in below) start k c.loop-count-test.true inside))
-    (all-append P (map (behind c.args.base) (joined track.weight (take k ds) (drop start (rows_in below)))) (map (behind (c.args.base + get_or ds k 0 * track.weight)) (get_or (rows_in below) (start + k) [])) c.loop-count.invariant those)
+    (all_append P (map (behind c.args.base) (joined track.weight (take k ds) (drop start (rows_in below)))) (map (behind (c.args.base + get_or ds k 0 * track.weight)) (get_or (rows_in below) (start + k) [])) c.loop-count.invariant those)
 
 pub returns-after-loop-count : goal.returns-after-loop-count
 returns-after-loop-count t c =

@@ -1,4 +1,4 @@
-use Rattle.std.proofs.Common.{◌<◌, ℕ, List, length, refl, sym, subst, arith}
+use Rattle.std.proofs.Common.{◌<◌, length, refl, sym, subst, arith}
 use Rattle.digit_tuple.specs.Keys.{edge_at, no_edge}
 use Rattle.minimise.specs.Partition.{IsSplit, IsUnion}
 use Rattle.minimise.proofs.PartedLemmas.{AreTakenOut-more, AreTakenOut-none, parted_before}

@@ -1,4 +1,4 @@
-use Rattle.std.proofs.Common.{List, ℕ, Bool, ◌∷◌, ◌++◌, [], set, true, sym, subst, arith}
+use Rattle.std.proofs.Common.{List, ℕ, set, true, sym, subst, arith}
 use Rattle.std.specs.List.{Contains}
 use Rattle.minimise.specs.Pending.{AreMarked}
 use Rattle.minimise.proofs.PendingLemmas.{AreMarked-push, AreMarked-same}

@@ -3,7 +3,7 @@ use Rattle.formula_build.specs.Libraries.{with_system}
 use Rattle.num_system.specs.Sealed.{SystemValue, system_of}
 use Rattle.definitions.specs.Named.{IsBuiltInSystem}
 use Rattle.session_cli.specs.SealedSystems.{AreBuiltIn}
-use Rattle.session_cli.proofs.SealedLemmas.{three_fit, sealed_built_in, built_in_push, built_in_found}
+use Rattle.session_cli.proofs.SealedLemmas.{system_fits, sealed_built_in, built_in_push, built_in_found}
 use Rattle.session_cli.proofs.sealed_systems.SealedSystems.sealed.Goals as goal
 
 pub returns-in-Some : goal.returns-in-Some
@@ -12,7 +12,7 @@ returns-in-Some c =
     (built_in_found c.self.inside.systems c.args.name.now c.in-Some.system.now.value c.self.invariant c.in-Some.ensures.found)
 
 pub seal_built_in-requires : goal.seal_built_in-requires
-seal_built_in-requires c = three_fit c.in-Some-system_named.system
+seal_built_in-requires c = system_fits c.in-Some-system_named.system
 
 pub invariant_of-self-in-Some-system_named : goal.invariant_of-self-in-Some-system_named
 invariant_of-self-in-Some-system_named c =

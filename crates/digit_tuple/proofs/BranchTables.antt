@@ -5,7 +5,7 @@ use Rattle.digit_tuple.specs.declared.edges.Edge.{Edge}
 use Rattle.digit_tuple.specs.Automaton.{Branching, IsBefore, IsBranchTable, Leads, accepting_of, branch_of, edges_of, letters_of, no_branch, states_of}
 use Rattle.digit_tuple.proofs.MemberLemmas.{AllPairs-head, AllPairs-tail, Contains-cases, Contains-head, Contains-none, Contains-tail}
 use Rattle.digit_tuple.proofs.TableLemmas.{IsRow-edges_of}
-use Rattle.numeration.proofs.RankLemmas.{same_tests}
+use Rattle.digit_tuple.proofs.TruthLemmas.{same_tests}
 
 -- no edge is before one that is before it
 before_once : (e f : Edge) → IsBefore e f → IsBefore f e → ⊥

@@ -1,4 +1,4 @@
--- Three tracks over a base have an alphabet.
+-- One track over a base has an alphabet, and so have three.
 use Rattle.std.proofs.Common.{ℕ, ◌*◌, ◌≤◌, [], ◌∷◌, arith}
 use Rattle.std.proofs.lemmas.Nat.{mul-le}
 use Rattle.digit_tuple.specs.Letters.{IsAlphabet}

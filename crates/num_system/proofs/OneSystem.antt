@@ -1,21 +1,22 @@
--- Canonical automata that hold of one relation are one, and so a system of numbers is sealed in one way.
+-- A system of numbers is sealed in one way, since canonical automata that hold of one relation are one.
 use Rattle.std.proofs.Common.{◌≡◌, ℕ, List, [], ◌∷◌, sym, ap, ◌∙◌, subst}
 use Rattle.digit_tuple.specs.Deterministic.{Automaton, accepts_of}
 use Rattle.digit_tuple.specs.Letters.{IsWord, product}
 use Rattle.digit_tuple.specs.declared.direction.Direction.{Direction}
+use Rattle.digit_tuple.proofs.TruthLemmas.{same_tests}
 use Rattle.minimise.specs.Canonical.{IsCanonical}
 use Rattle.minimise.proofs.CanonicalLemmas.{canonical_forms}
 use Rattle.numeration.specs.Systems.{System}
 use Rattle.numeration.specs.Spelling.{letters_in}
 use Rattle.numeration.specs.Relations.{HoldsOf, IsLanguageOf, IsAdderOf, IsEqualityOf, IsOrderOf, IsZeroOf, IsSum, IsEqual, IsLess, IsZero}
-use Rattle.numeration.proofs.RankLemmas.{same_tests}
 use Rattle.num_system.specs.Sealed.{SystemValue, system_of, IsSealed}
 use Rattle.num_system.specs.Successor.{IsSuccessorOf, IsNext}
 
 one_language : (way : Direction) (s : System) (c d : Automaton) → IsCanonical c → IsCanonical d → IsLanguageOf way s c → IsLanguageOf way s d → c ≡ d
 one_language way s c d first second one other = canonical_forms c d first second (one.sizes ∙ sym other.sizes) (λ word over. one.accepts word ∙ sym (other.accepts word))
 
-one_holding : (way : Direction) (ss : List System) (holds : List ℕ → Type 0) (c d : Automaton) → IsCanonical c → IsCanonical d → HoldsOf way ss holds c → HoldsOf way ss holds d → c ≡ d
+-- canonical automata that hold of one relation are one
+pub one_holding : (way : Direction) (ss : List System) (holds : List ℕ → Type 0) (c d : Automaton) → IsCanonical c → IsCanonical d → HoldsOf way ss holds c → HoldsOf way ss holds d → c ≡ d
 one_holding way ss holds c d first second one other =
     canonical_forms c d first second (one.sizes ∙ sym other.sizes)
     (λ word over.
